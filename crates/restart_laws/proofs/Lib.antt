@@ -4,6 +4,7 @@ pub mod GatewayServes
 pub mod LivesFronts
 pub mod LivesSays
 pub mod AgentAnswers
+pub mod AnyFirst
 pub mod LivesRefused
 pub mod LivesTake
 pub mod LivesServe

@@ -1,5 +1,5 @@
--- Of eight copies of a command of the life that goes on one that the network carries is enough: of a line's, where each life is set up, and
--- whatever steps were refused.
+-- Of eight copies of a command of the life that goes on one that the network carries is enough: of a line's whatever steps were refused, and
+-- whatever number the ids of a life begin with.
 use Rattle.std.proofs.Common.{◌≡◌, ◌≢◌, ℕ, suc, ◌+◌, ◌<◌, ◌≤◌, true, List, [], ◌∷◌, ◌++◌, length, Option, Some, inl, inr, refl, sym, ap, ◌∙◌, subst, arith, append_assoc}
 use Rattle.std.specs.Prelude.{◌⊎◌, All, Any, IfSome, slice_get}
 use Rattle.std.specs.Option.{unwrap_or}
@@ -36,14 +36,13 @@ use Rattle.outage_laws.proofs.OwnSendLaws.{own_eight}
 use Rattle.life_laws.specs.Lives.{Letter, LivesStep, LivesWorld, clock_of, gateway_of, lives_are_taken, lives_opening, number_of, plain_lives, stepping, to_life}
 use Rattle.life_laws.proofs.LifeSays.{IsLife}
 use Rattle.life_laws.proofs.LinkedLives.{lives_stand}
-use Rattle.life_laws.proofs.OwnEvents.{all_commands}
 use Rattle.restart_laws.specs.AfterRestart.{AgentHasRoomThen, LifeGoesToAgent, LivesAreFairFrom}
-use Rattle.restart_laws.specs.CarriedBack.{IsCarriedInLives, IsCopyOfLife, IsHandedThen}
+use Rattle.restart_laws.specs.CarriedBack.{IsCarriedInLives, IsCopyOfLife, IsHandedThen, IsSetUpButForFirst}
 use Rattle.restart_laws.proofs.GatewayTracks.{SaidGoes, said_goes}
 use Rattle.restart_laws.proofs.LivesFronts.{Follows, SameLife, front_follows, life_more, stays_sent}
 use Rattle.restart_laws.proofs.LivesInFlight.{comes_before}
 use Rattle.restart_laws.proofs.LivesLong.{is_on}
-use Rattle.restart_laws.proofs.LivesRefused.{EachSetUp, KeepsOn, front_set_up, last_set_up, lives_in_time, lives_keep_on, run_set_up}
+use Rattle.restart_laws.proofs.LivesRefused.{KeepsOn, its_setup, life_begins, lives_in_time, lives_keep_on, so_set_up}
 use Rattle.restart_laws.proofs.LivesSays.{IsPosted, Keeps, TellsOf, life_is, lives_keep}
 use Rattle.restart_laws.proofs.LivesServe.{own_reaches}
 use Rattle.restart_laws.proofs.LivesTake.{IsReplied, handed_to_life, replied}
@@ -65,7 +64,7 @@ no_other here number last few one less = absurd (omega (arith, few, one, less))
 two_waits : (start first wait other : ℕ) → start + (first + wait) ≡ start + (first + other) → wait ≢ other → ⊥
 two_waits start first wait other same apart = apart (omega (arith, same))
 
-module _ (setup : Setup) (steps : List LivesStep) (set_up : EachSetUp (plain_lives setup steps)) where
+module _ (setup : Setup) (steps : List LivesStep) (set_up : IsSetUpButForFirst setup) where
   abbrev w : LivesWorld
   w = plain_lives setup steps
 
@@ -78,15 +77,9 @@ module _ (setup : Setup) (steps : List LivesStep) (set_up : EachSetUp (plain_liv
     abbrev first : List LivesStep
     first = c.before ++ stepping (delivering number) ∷ []
 
-    first_set_up : EachSetUp (plain_lives setup first)
-    first_set_up = front_set_up setup first c.rest (subst (λ (s : List LivesStep). EachSetUp (plain_lives setup s)) c.order set_up)
-
-    before_keeps : KeepsOn setup (plain_lives setup c.before)
-    before_keeps = lives_keep_on setup c.before (front_set_up setup c.before (stepping (delivering number) ∷ []) first_set_up)
-
     reply : IsReplied setup (plain_lives setup c.before) (plain_lives setup first) c.copy.letter.life b.id (clock_of setup (plain_lives setup c.before))
     reply =
-        replied setup c.before number c.copy.letter b.id name b.text before_keeps (lives_keep_on setup first first_set_up) c.copy.found c.copy.sender c.copy.goes
+        replied setup c.before number c.copy.letter b.id name b.text (lives_keep_on setup c.before set_up) (lives_keep_on setup first set_up) c.copy.found c.copy.sender c.copy.goes
         (one_from_any (λ (one : List ℕ). one ≡ b.text) (texts_of c.copy.letter.post.packet.bytes) c.copy.inside) reads c.room
 
     its_life : reply.letter.life ≡ number_of w
@@ -123,10 +116,7 @@ module _ (setup : Setup) (steps : List LivesStep) (set_up : EachSetUp (plain_liv
     found = stays_sent (plain_lives setup first) v reply.number reply.letter (front_follows setup first back.between) reply.found
 
     v_keeps : KeepsOn setup v
-    v_keeps =
-        lives_keep_on setup some
-        (front_set_up setup some (stepping (delivering reply.number) ∷ [])
-        (front_set_up setup handed back.later (subst (λ (s : List LivesStep). EachSetUp (plain_lives setup s)) order set_up)))
+    v_keeps = lives_keep_on setup some set_up
 
     few : reply.letter.life ≤ number_of v
     few =
@@ -198,7 +188,7 @@ module _ (setup : Setup) (steps : List LivesStep) (set_up : EachSetUp (plain_liv
     command : IsCommand b
     command =
         one_to (λ (one : Begun). IsCommand one × (one ≡ b)) (IsCommand b) (λ one both. subst IsCommand both.1 both.0) (begun_in all_sent)
-        (one_of_each IsCommand (λ (one : Begun). one ≡ b) (begun_in all_sent) (all_commands w.life.setup w.life.took (last_set_up w set_up))
+        (one_of_each IsCommand (λ (one : Begun). one ≡ b) (begun_in all_sent) (life_begins w.life (its_setup setup w set_up keeps))
         (begun_of_all (λ (one : Begun). one ≡ b) line all_sent began))
 
     abbrev Ready : Sent → Type 0
@@ -325,9 +315,6 @@ module _ (setup : Setup) (steps : List LivesStep) (set_up : IsSetUp setup) (take
       (subst (λ (s : List LivesStep). clock_of setup (plain_lives setup before) ≤ clock_of setup (plain_lives setup s)) (sym order)
       (is_on setup before later (subst (λ (s : List LivesStep). lives_are_taken setup (lives_opening setup) s ≡ true) order taken)).clock))
 
-  all_set_up : EachSetUp whole
-  all_set_up = run_set_up setup steps set_up taken
-
   is : IsLife (clock_of setup whole) whole.life
   is = life_is setup whole (lives_stand setup steps set_up taken)
 
@@ -344,7 +331,7 @@ module _ (setup : Setup) (steps : List LivesStep) (set_up : IsSetUp setup) (take
       → ((number : ℕ) → IsCopyOfLife setup whole (number_of whole) b.text number → (Any (λ (n : ℕ). n ≡ number) lost → ⊥) → IsCarriedInLives setup steps b number) → HasResponse whole.life.took b.id
   own_answered b lost began by few carries =
       let it = one_from_any (λ (one : Begun). one ≡ b) (begun_in (of_line 0 (sent_of whole.life.setup whole.life.took))) began in
-      answered setup steps all_set_up 0 b lost it
+      answered setup steps (so_set_up setup set_up) 0 b lost it
       (λ wait one number letter found among says tells.
       own_reaches setup steps late 0 set_up taken fair roomy b wait it one number letter found (said_so one among) says tells)
       (own_eight whole.life.setup whole.life.took b began) by few carries

@@ -1,6 +1,6 @@
 -- Where copies of a text of a life's are among the packets, by its length, and which responses came to it; for worked examples, in which it
 -- computes.
-use Rattle.std.proofs.Common.{◌≡◌, ℕ, zero, suc, ◌+◌, Bool, true, false, ◌||◌, ◌&&◌, ◌==◌, if◌then◌else◌, List, [], ◌∷◌, ◌++◌, length, Option, Some, inl, inr, refl, sym, ap, ◌∙◌, subst, arith}
+use Rattle.std.proofs.Common.{◌≡◌, ℕ, zero, suc, ◌+◌, Bool, true, false, ◌||◌, ◌&&◌, ◌==◌, if◌then◌else◌, List, [], ◌∷◌, length, Option, Some, inl, inr, refl, sym, ap, ◌∙◌, subst, arith}
 use Rattle.std.specs.Prelude.{flat_map, slice_get}
 use Rattle.std.specs.Option.{unwrap_or}
 use Rattle.std.proofs.lemmas.Bool.{eq-eqb}
@@ -9,19 +9,16 @@ use Rattle.std.proofs.lemmas.Option.{none-some}
 use Rattle.transmission.specs.Texts.{texts_of}
 use Rattle.plain_machine.specs.declared.setup.Setup.{Setup}
 use Rattle.plain_machine.specs.Arriving.{TextArrival, arrivals_of}
-use Rattle.plain_machine.specs.Example.{two_lines}
-use Rattle.plain_machine.specs.Setup.{IsSetUp}
 use Rattle.machine_laws.specs.Saying.{Begun, OneOf}
-use Rattle.machine_laws.proofs.EachLemmas.{Each, all_from_each, one_before, one_behind, one_from_any}
+use Rattle.machine_laws.proofs.EachLemmas.{one_before, one_behind, one_from_any}
 use Rattle.agent_core.specs.declared.packet.End.{End}
 use Rattle.agent_core.specs.declared.packet.End.TheVariants.{AgentEnd as agent_end, GatewayEnd as gateway_end}
 use Rattle.agent_core.specs.World.{is_among}
 use Rattle.delivery_laws.specs.OwnChances.{IsResponse}
-use Rattle.delivery_laws.proofs.ExampleLemmas.{two_lines_set_up}
 use Rattle.outage_laws.specs.Alone.{HasResponse}
 use Rattle.life_laws.specs.Example.{lives}
-use Rattle.life_laws.specs.Lives.{Letter, Life, LivesStep, LivesWorld, lives_of}
-use Rattle.restart_laws.specs.CarriedBack.{AreSetUp, IsCarriedInLives, IsCopyOfLife, IsHandedThen}
+use Rattle.life_laws.specs.Lives.{Letter, LivesStep, LivesWorld}
+use Rattle.restart_laws.specs.CarriedBack.{IsCarriedInLives, IsCopyOfLife, IsHandedThen}
 use Rattle.restart_laws.specs.Example.{responding, responses_after}
 use Rattle.restart_laws.proofs.LivesFairExamples.{hand_over, handed_there}
 
@@ -118,10 +115,3 @@ id_there id (a ∷ arrivals) (inr there) =
 pub comes_among : (steps : List LivesStep) (id : ℕ) → HasResponse (lives steps).life.took id → OneOf (λ (n : ℕ). n ≡ id) (responses_after steps)
 comes_among steps id came =
     id_there id (arrivals_of (lives steps).life.took) (one_from_any (λ (a : TextArrival). IsResponse id a.outcome) (arrivals_of (lives steps).life.took) came)
-
--- Where the gateway didn't start again, that is set up
-
-pub one_set_up : (w : LivesWorld) → w.over ≡ [] → w.life.setup ≡ two_lines → AreSetUp w
-one_set_up w none same =
-    all_from_each (λ (life : Life). IsSetUp life.setup) (lives_of w)
-    (subst (λ (over : List Life). Each (λ (life : Life). IsSetUp life.setup) (over ++ w.life ∷ [])) (sym none) (subst IsSetUp (sym same) two_lines_set_up, tt))

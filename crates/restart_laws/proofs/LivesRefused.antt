@@ -1,7 +1,8 @@
--- What holds of a world of lives each of which is set up, whatever steps of it were refused: of which life each packet is, and where it comes
--- from; that no text of a gateway's has a K, so that the agent keeps no confirmation; that its answers are such; that all that the life which
--- goes on said is posted; and that its clock isn't behind the world's.
-use Rattle.std.proofs.Common.{◌≡◌, ℕ, ◌+◌, ◌-◌, ◌≤◌, Bool, true, false, if◌then◌else◌, List, [], ◌∷◌, ◌++◌, map, length, Option, Some, None, refl, sym, ap, ◌∙◌, subst, arith, append-nil, append_assoc}
+-- What holds of a world of lives of a gateway that is set up, whatever steps were refused, and whatever number the ids of a life begin with,
+-- since that comes round to one with which they may: of which life each packet is, and where it comes from; that no text of a gateway's has
+-- a K, so that the agent keeps no confirmation; that its answers are such; that all that the life which goes on said is posted; and that
+-- its clock isn't behind the world's.
+use Rattle.std.proofs.Common.{◌≡◌, ℕ, ◌+◌, ◌-◌, ◌≤◌, Bool, true, false, if◌then◌else◌, List, [], ◌∷◌, ◌++◌, map, length, Option, Some, None, refl, sym, ap, ◌∙◌, subst, arith}
 use Rattle.std.specs.Prelude.{All, IfSome, slice_get}
 use Rattle.transmission.specs.declared.output.OutDatagram.{OutDatagram}
 use Rattle.transmission.specs.Packing.{packed, same_address}
@@ -15,14 +16,17 @@ use Rattle.plain_machine.specs.Machine.{opening}
 use Rattle.plain_machine.specs.Message.{Sent}
 use Rattle.plain_machine.specs.Packing.{put_out}
 use Rattle.plain_machine.specs.Setup.{IsSetUp}
+use Rattle.machine_laws.specs.Saying.{OneOf, begun_in}
 use Rattle.machine_laws.proofs.CommandLaws.{IsOut}
-use Rattle.machine_laws.proofs.EachLemmas.{Each, all_from_each, each_at, each_back, each_both, each_from_all, each_front, each_mapped, each_unmapped, each_weaker, one_before, one_behind}
+use Rattle.machine_laws.proofs.EachLemmas.{Each, all_from_each, each_at, each_back, each_both, each_from_all, each_mapped, each_unmapped, each_weaker, one_before, one_behind}
 use Rattle.machine_laws.proofs.MessageLaws.{sent_can_join}
+use Rattle.machine_laws.proofs.TellsLemmas.{IsCommand}
 use Rattle.call_agent.specs.Agent.{AgentMachine}
 use Rattle.call_agent.specs.Hearing.{AgentEvent, agent_after, agent_effect, hears, issues}
 use Rattle.agent_core.specs.declared.packet.End.{End}
 use Rattle.agent_core.specs.declared.packet.End.TheVariants.{AgentEnd as agent_end, GatewayEnd as gateway_end}
 use Rattle.agent_core.specs.declared.packet.Packet.{Packet}
+use Rattle.agent_core.specs.declared.packet.Posted.{Posted}
 use Rattle.agent_core.specs.World.{agent_of, delivering, dialling, gateway_address, is_among, issuing, ticking}
 use Rattle.world_laws.proofs.AgentLaws.{AreKept}
 use Rattle.world_laws.proofs.LinkLaws.{arrives_with}
@@ -30,67 +34,52 @@ use Rattle.delivery_laws.proofs.PostedLemmas.{sent_more}
 use Rattle.delivery_laws.proofs.SenderLemmas.{Comes}
 use Rattle.delivery_laws.proofs.StepLemmas.{agent_more}
 use Rattle.delivery_laws.proofs.UnconfirmedLaws.{AllSilent, BareArrival, BareText, event_silent}
-use Rattle.life_laws.specs.Lives.{Letter, Life, LivesStep, LivesWorld, agent_side, agent_then, clock_of, gateway_of, handed, handed_from, lived, lives_after, lives_are_taken, lives_of, lives_opening, new_life, number_of, plain_lives, restarted, restarting, said_to, sent_by, stepping, to_agent_of, to_life}
+use Rattle.life_laws.specs.Lives.{Letter, Life, LivesStep, LivesWorld, agent_side, agent_then, clock_of, gateway_of, handed, handed_from, lived, lives_after, lives_opening, number_of, plain_lives, restarted, restarting, said_to, sent_by, stepping, to_agent_of, to_life}
 use Rattle.life_laws.proofs.HandedLaws.{life_clock, with_event}
-use Rattle.life_laws.proofs.LifeSays.{IsLife, IsSentBy, event_sends}
+use Rattle.life_laws.proofs.LifeSays.{IsOutput, IsSentBy, event_sends}
 use Rattle.life_laws.proofs.LifeTexts.{SaysSo, packet_texts}
-use Rattle.life_laws.proofs.LinkedLives.{lives_stand}
-use Rattle.life_laws.proofs.PairLemmas.{each_last}
+use Rattle.life_laws.proofs.OwnEvents.{all_commands}
+use Rattle.restart_laws.specs.CarriedBack.{IsSetUpButForFirst}
+use Rattle.restart_laws.specs.Rounded.{rounded, rounded_life}
 use Rattle.restart_laws.proofs.AgentAnswers.{event_keeps, hear_clock, issue_clock, tick_clock}
-use Rattle.restart_laws.proofs.LivesFronts.{life_more, lives_more, longer}
+use Rattle.restart_laws.proofs.AnyFirst.{outputs_rounded, sent_rounded}
+use Rattle.restart_laws.proofs.LivesFronts.{longer}
 use Rattle.restart_laws.proofs.LivesSays.{IsBy, IsPosted, LetterComes, TellsOf, agent_come, at_most, bare_so, by_number, each_posts, life_come, number_later, said_by}
 
--- Each life is set up
+-- A life is one of a gateway that is set up, whatever number its ids begin with
 
-abbrev pub IsLifeSetUp : Life → Type 0
-IsLifeSetUp life = IsSetUp life.setup
+pub so_set_up : (setup : Setup) → IsSetUp setup → IsSetUpButForFirst setup
+so_set_up setup set_up = record {
+  domain = set_up.domain;
+  agent = set_up.agent;
+  lines = set_up.lines;
+  address = set_up.address;
+  ports = set_up.ports;
+  first = omega arith;
+}
 
-abbrev pub EachSetUp : LivesWorld → Type 0
-EachSetUp w = Each IsLifeSetUp (lives_of w)
+pub rounded_set_up : (setup : Setup) → IsSetUpButForFirst setup → IsSetUp (rounded setup)
+rounded_set_up setup set_up = record {
+  domain = set_up.domain;
+  agent = set_up.agent;
+  lines = set_up.lines;
+  address = set_up.address;
+  ports = set_up.ports;
+  first = omega arith;
+}
 
--- so it is of a run
-pub run_set_up : (setup : Setup) (steps : List LivesStep) → IsSetUp setup → lives_are_taken setup (lives_opening setup) steps ≡ true → EachSetUp (plain_lives setup steps)
-run_set_up setup steps set_up taken =
-    each_weaker (IsLife (clock_of setup (plain_lives setup steps))) IsLifeSetUp (λ life is. is.set_up) (lives_of (plain_lives setup steps))
-    (lives_stand setup steps set_up taken).linked.each
+-- it sends what the one with that number sends that its own comes round to
 
--- and of each world that comes to such a one
+life_texts : (life : Life) (post : Posted) → IsSetUpButForFirst life.setup → IsSentBy post life → Each BareText (texts_of post.packet.bytes)
+life_texts life post set_up sent =
+    let is : IsSetUp (rounded life.setup) = rounded_set_up life.setup set_up in
+    each_weaker (SaysSo (rounded_life life)) BareText (λ text says. bare_so (rounded_life life) text is says) (texts_of post.packet.bytes)
+    (packet_texts (rounded_life life) post is (subst (OneOf (IsOutput life.start post)) (sym (outputs_rounded life.setup life.took)) sent))
 
-life_before : (w : LivesWorld) (event : GatewayEvent) → EachSetUp (to_life w event) → EachSetUp w
-life_before w event all = each_last IsLifeSetUp IsLifeSetUp w.over (with_event w.life event) w.life (λ life is. is) (λ is. is) all
-
-handed_before : (setup : Setup) (w : LivesWorld) (end : End) (number : ℕ) (packet : Packet) → EachSetUp (handed_from end setup number w packet) → EachSetUp w
-handed_before setup w agent_end number packet = by_test (same_address packet.to (gateway_address w.life.setup)) where
-  by_test : (b : Bool) → EachSetUp (if b then to_life w (datagram packet.sender packet.bytes) else w) → EachSetUp w
-  by_test true all = life_before w (datagram packet.sender packet.bytes) all
-  by_test false all = all
-handed_before setup w gateway_end number packet = by_test (is_among setup.agent.route packet.to) where
-  by_test : (b : Bool) → EachSetUp (if b then to_agent_of setup number w (hears (datagram packet.sender packet.bytes)) else w) → EachSetUp w
-  by_test true all = all
-  by_test false all = all
-
-step_before : (setup : Setup) (w : LivesWorld) (step : LivesStep) → EachSetUp (lived setup w step) → EachSetUp w
-unfolding lived
-step_before setup w (restarting first) all = each_front IsLifeSetUp (lives_of w) (new_life (record setup { first = first }) (clock_of setup w) ∷ []) all
-step_before setup w (stepping (issuing verb name rest)) all = all
-step_before setup w (stepping (dialling line act)) all = life_before w (phone line act) all
-step_before setup w (stepping (ticking moment)) all = life_before w (tick (moment - w.life.start)) all
-step_before setup w (stepping (delivering number)) all = by_letter (slice_get w.letters number) all where
-  by_letter : (found : Option Letter) → EachSetUp (handed found setup w) → EachSetUp w
-  by_letter None is = is
-  by_letter (Some letter) is = handed_before setup w letter.post.end letter.life letter.post.packet is
-
-steps_before : (setup : Setup) (w : LivesWorld) (steps : List LivesStep) → EachSetUp (lives_after setup w steps) → EachSetUp w
-unfolding lives_after
-steps_before setup w [] all = all
-steps_before setup w (step ∷ steps) all = step_before setup w step (steps_before setup (lived setup w step) steps all)
-
-pub front_set_up : (setup : Setup) (front more : List LivesStep) → EachSetUp (plain_lives setup (front ++ more)) → EachSetUp (plain_lives setup front)
-front_set_up setup front more all =
-    steps_before setup (plain_lives setup front) more (subst EachSetUp (lives_more setup (lives_opening setup) front more) all)
-
-pub last_set_up : (w : LivesWorld) → EachSetUp w → IsSetUp w.life.setup
-last_set_up w all = (each_back IsLifeSetUp w.over (w.life ∷ []) all).0
+pub life_begins : (life : Life) → IsSetUpButForFirst life.setup → Each IsCommand (begun_in (sent_of life.setup life.took))
+life_begins life set_up =
+    subst (λ (sent : List Sent). Each IsCommand (begun_in sent)) (sent_rounded life.setup life.took)
+    (all_commands (rounded life.setup) life.took (rounded_set_up life.setup set_up))
 
 -- What is kept
 
@@ -112,25 +101,24 @@ pub record KeepsOn (setup : Setup) (w : LivesWorld) : Type 0 where
 
 -- The life that goes on takes an event
 
-life_out : (life : Life) (event : GatewayEvent) → IsSetUp life.setup → All IsOut (effect life.setup (gateway_of life) event).sent
+life_out : (life : Life) (event : GatewayEvent) → IsSetUpButForFirst life.setup → All IsOut (effect life.setup (gateway_of life) event).sent
 life_out life event set_up =
     all_from_each IsOut (effect life.setup (gateway_of life) event).sent
     (each_back IsOut (sent_of life.setup life.took) (effect life.setup (gateway_of life) event).sent
-    (subst (Each IsOut) (sent_more life.setup (opening life.setup) life.took event)
-    (each_from_all IsOut (sent_of life.setup (life.took ++ event ∷ [])) (sent_can_join life.setup (life.took ++ event ∷ []) set_up))))
+    (subst (Each IsOut) (sent_rounded life.setup (life.took ++ event ∷ []) ∙ sent_more life.setup (opening life.setup) life.took event)
+    (each_from_all IsOut (sent_of (rounded life.setup) (life.took ++ event ∷ []))
+    (sent_can_join (rounded life.setup) (life.took ++ event ∷ []) (rounded_set_up life.setup set_up)))))
 
-life_bare : (number : ℕ) (life : Life) (event : GatewayEvent) → IsSetUp life.setup
+life_bare : (number : ℕ) (life : Life) (event : GatewayEvent) → IsSetUpButForFirst life.setup
     → Each BareLetter (map (sent_by number life) (put_out (effect life.setup (gateway_of life) event).sent))
 life_bare number life event set_up =
     let outs : List OutDatagram = put_out (effect life.setup (gateway_of life) event).sent in
     each_mapped BareLetter (sent_by number life) outs
     (each_weaker (λ (out : OutDatagram). IsSentBy (sent_by number life out).post (with_event life event)) (λ (out : OutDatagram). BareLetter (sent_by number life out))
-    (λ out sent.
-    each_weaker (SaysSo (with_event life event)) BareText (λ text says. bare_so (with_event life event) text set_up says) (texts_of out.bytes)
-    (packet_texts (with_event life event) (sent_by number life out).post set_up sent)) outs
+    (λ out sent. life_texts (with_event life event) (sent_by number life out).post set_up sent) outs
     (each_unmapped (λ (letter : Letter). IsSentBy letter.post (with_event life event)) (sent_by number life) outs (event_sends number life event)))
 
-life_on : (setup : Setup) (w : LivesWorld) (event : GatewayEvent) → IsSetUp w.life.setup → KeepsOn setup w → KeepsOn setup (to_life w event)
+life_on : (setup : Setup) (w : LivesWorld) (event : GatewayEvent) → IsSetUpButForFirst w.life.setup → KeepsOn setup w → KeepsOn setup (to_life w event)
 life_on setup w event set_up keeps = record {
   numbered = each_both (IsBy (number_of w)) w.letters new keeps.numbered (by_number (number_of w) (number_of w) (at_most (number_of w)) w.life (put_out sent));
   comes = each_both (LetterComes setup) w.letters new keeps.comes
@@ -178,7 +166,7 @@ agent_on setup number w event few bare keeps = record {
 
 -- A step
 
-handed_on : (setup : Setup) (w : LivesWorld) (letter : Letter) → IsSetUp w.life.setup → KeepsOn setup w → letter.life ≤ number_of w → BareLetter letter
+handed_on : (setup : Setup) (w : LivesWorld) (letter : Letter) → IsSetUpButForFirst w.life.setup → KeepsOn setup w → letter.life ≤ number_of w → BareLetter letter
     → KeepsOn setup (handed_from letter.post.end setup letter.life w letter.post.packet)
 handed_on setup w letter set_up keeps few bare = by_end letter.post.end bare where
   packet : Packet
@@ -211,19 +199,23 @@ restarted_on setup w first keeps = record {
   same = refl;
 }
 
-step_on : (setup : Setup) (w : LivesWorld) (step : LivesStep) → EachSetUp w → KeepsOn setup w → KeepsOn setup (lived setup w step)
+-- all lives have one setup, but for that number
+pub its_setup : (setup : Setup) (w : LivesWorld) → IsSetUpButForFirst setup → KeepsOn setup w → IsSetUpButForFirst w.life.setup
+its_setup setup w set_up keeps = subst IsSetUpButForFirst (sym keeps.same) set_up
+
+step_on : (setup : Setup) (w : LivesWorld) (step : LivesStep) → IsSetUpButForFirst setup → KeepsOn setup w → KeepsOn setup (lived setup w step)
 unfolding lived
-step_on setup w (restarting first) all keeps = restarted_on setup w first keeps
-step_on setup w (stepping (issuing verb name rest)) all keeps = agent_on setup (number_of w) w (issues verb name rest) (at_most (number_of w)) tt keeps
-step_on setup w (stepping (dialling line act)) all keeps = life_on setup w (phone line act) (last_set_up w all) keeps
-step_on setup w (stepping (ticking moment)) all keeps =
+step_on setup w (restarting first) set_up keeps = restarted_on setup w first keeps
+step_on setup w (stepping (issuing verb name rest)) set_up keeps = agent_on setup (number_of w) w (issues verb name rest) (at_most (number_of w)) tt keeps
+step_on setup w (stepping (dialling line act)) set_up keeps = life_on setup w (phone line act) (its_setup setup w set_up keeps) keeps
+step_on setup w (stepping (ticking moment)) set_up keeps =
     agent_on setup (number_of w) (to_life w (tick (moment - w.life.start))) (hears (tick moment)) (at_most (number_of w)) tt
-    (life_on setup w (tick (moment - w.life.start)) (last_set_up w all) keeps)
-step_on setup w (stepping (delivering number)) all keeps =
+    (life_on setup w (tick (moment - w.life.start)) (its_setup setup w set_up keeps) keeps)
+step_on setup w (stepping (delivering number)) set_up keeps =
     by_letter (slice_get w.letters number) (each_at (IsBy (number_of w)) w.letters number keeps.numbered) (each_at BareLetter w.letters number keeps.bare) where
       by_letter : (found : Option Letter) → IfSome found (IsBy (number_of w)) → IfSome found BareLetter → KeepsOn setup (handed found setup w)
       by_letter None few bare = keeps
-      by_letter (Some letter) few bare = handed_on setup w letter (last_set_up w all) keeps few bare
+      by_letter (Some letter) few bare = handed_on setup w letter (its_setup setup w set_up keeps) keeps few bare
 
 -- The clocks: a tick that is refused may be before the start of the life
 
@@ -290,26 +282,26 @@ step_time setup w (stepping (delivering number)) kept time = by_letter (slice_ge
 
 -- All steps
 
-steps_go : (setup : Setup) (before rest : List LivesStep) → EachSetUp (plain_lives setup (before ++ rest)) → Goes setup (plain_lives setup before) → Goes setup (plain_lives setup (before ++ rest))
-steps_go setup before [] all goes = subst (λ (s : List LivesStep). Goes setup (plain_lives setup s)) (sym (append-nil before)) goes
-steps_go setup before (step ∷ rest) all goes =
-    let order : (before ++ step ∷ []) ++ rest ≡ before ++ step ∷ rest = append_assoc before (step ∷ []) rest in
-    let here : EachSetUp (plain_lives setup before) = front_set_up setup before (step ∷ rest) all in
-    subst (λ (s : List LivesStep). Goes setup (plain_lives setup s)) order
-    (steps_go setup (before ++ step ∷ []) rest (subst (λ (s : List LivesStep). EachSetUp (plain_lives setup s)) (sym order) all)
-    (subst (Goes setup) (sym (life_more setup before step))
-    (record { keeps = step_on setup (plain_lives setup before) step here goes.keeps; time = step_time setup (plain_lives setup before) step goes.keeps.kept goes.time })))
+steps_go : (setup : Setup) (w : LivesWorld) (steps : List LivesStep) → IsSetUpButForFirst setup → Goes setup w → Goes setup (lives_after setup w steps)
+unfolding lives_after
+steps_go setup w [] set_up goes = goes
+steps_go setup w (step ∷ steps) set_up goes =
+    steps_go setup (lived setup w step) steps set_up
+    (record { keeps = step_on setup w step set_up goes.keeps; time = step_time setup w step goes.keeps.kept goes.time })
 
-opening_goes : (setup : Setup) → Goes setup (plain_lives setup [])
-unfolding lives_after sent_from agent_after machine_after
+opening_goes : (setup : Setup) → Goes setup (lives_opening setup)
+unfolding sent_from agent_after machine_after
 opening_goes setup = record {
   keeps = record { numbered = tt; comes = tt; bare = tt; silent = tt; kept = tt; posted = tt; same = refl };
   time = time_started 0;
 }
 
-pub lives_keep_on : (setup : Setup) (steps : List LivesStep) → EachSetUp (plain_lives setup steps) → KeepsOn setup (plain_lives setup steps)
-lives_keep_on setup steps all = (steps_go setup [] steps all (opening_goes setup)).keeps
+lives_go : (setup : Setup) (steps : List LivesStep) → IsSetUpButForFirst setup → Goes setup (plain_lives setup steps)
+lives_go setup steps set_up = steps_go setup (lives_opening setup) steps set_up (opening_goes setup)
 
-pub lives_in_time : (setup : Setup) (steps : List LivesStep) → EachSetUp (plain_lives setup steps) → clock_of setup (plain_lives setup steps)
+pub lives_keep_on : (setup : Setup) (steps : List LivesStep) → IsSetUpButForFirst setup → KeepsOn setup (plain_lives setup steps)
+lives_keep_on setup steps set_up = (lives_go setup steps set_up).keeps
+
+pub lives_in_time : (setup : Setup) (steps : List LivesStep) → IsSetUpButForFirst setup → clock_of setup (plain_lives setup steps)
     ≤ (plain_lives setup steps).life.start + (gateway_of (plain_lives setup steps).life).now
-lives_in_time setup steps all = (steps_go setup [] steps all (opening_goes setup)).time
+lives_in_time setup steps set_up = (lives_go setup steps set_up).time

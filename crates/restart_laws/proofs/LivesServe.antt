@@ -40,7 +40,7 @@ use Rattle.restart_laws.specs.AfterRestart.{AgentHasRoomNow, AgentHasRoomThen, I
 use Rattle.restart_laws.proofs.GatewayServes.{CameBack, IsChance, IsQuick, serves_by_wait}
 use Rattle.restart_laws.proofs.GatewayTracks.{SaidGoes, said_goes}
 use Rattle.restart_laws.proofs.LivesFronts.{Follows, SameLife, delivered_clock, front_follows, life_more, lives_front, stays_sent}
-use Rattle.restart_laws.proofs.LivesRefused.{lives_keep_on, run_set_up}
+use Rattle.restart_laws.proofs.LivesRefused.{lives_keep_on, so_set_up}
 use Rattle.restart_laws.proofs.LivesSays.{IsPosted, Keeps, TellsOf, life_is, lives_keep, one_address}
 use Rattle.life_laws.specs.Apart.{firsts_of_lives}
 use Rattle.restart_laws.proofs.LivesTaken.{IsYoungFirst, firsts_stay, young_first}
@@ -130,8 +130,8 @@ module _ (setup : Setup) (steps : List LivesStep) (since within : ℕ) (set_up :
 
     pub reply : IsReplied setup (plain_lives setup there.before) (plain_lives setup first) letter.life id (clock_of setup (plain_lives setup there.before))
     reply =
-        replied setup there.before number letter id name text (lives_keep_on setup there.before (run_set_up setup there.before set_up before_taken))
-        (lives_keep_on setup first (run_set_up setup first set_up first_taken)) there.sent sender goes inside reads room
+        replied setup there.before number letter id name text (lives_keep_on setup there.before (so_set_up setup set_up)) (lives_keep_on setup first (so_set_up setup set_up))
+        there.sent sender goes inside reads room
 
     pub follows : Follows (plain_lives setup first) w
     follows = subst (λ (s : List LivesStep). Follows (plain_lives setup first) (plain_lives setup s)) (sym there.order) (front_follows setup first there.later)

@@ -20,7 +20,7 @@ use Rattle.restart_laws.specs.CarriedBack.{IsCarriedInLives, IsCopyOfLife, IsHan
 use Rattle.restart_laws.specs.Roomless.{anew, announced_anew, roomless_anew, roomless_for_good, untaken_for_good}
 use Rattle.restart_laws.proofs.Computing.{on_examples}
 use Rattle.restart_laws.proofs.LivesCarried.{carried_back}
-use Rattle.restart_laws.proofs.LivesRefused.{run_set_up}
+use Rattle.restart_laws.proofs.LivesRefused.{so_set_up}
 use Rattle.restart_laws.proofs.LivesServe.{found_in}
 use Rattle.restart_laws.proofs.RoomlessAnew.{Runs, e_4001, runs, silent, told_again}
 use Rattle.restart_laws.proofs.RoomlessStarts.{anew_at, below_length, letter_at, letters_at, not_taken, others_0, snoc_is}
@@ -290,4 +290,4 @@ reads = refl
 
 pub not_carried : (number : ℕ) → IsCarriedInLives two_lines roomless_for_good announced_anew number → ⊥
 not_carried number carried =
-    none_came (carried_back two_lines roomless_for_good (run_set_up two_lines roomless_for_good two_lines_set_up run) announced_anew number (codes "*@rgw.example.net") reads carried)
+    none_came (carried_back two_lines roomless_for_good (so_set_up two_lines two_lines_set_up) announced_anew number (codes "*@rgw.example.net") reads carried)

@@ -1,18 +1,18 @@
 -- What the network has to carry of a command of the life that goes on, a notification or an announcement, for it to be answered (RFC 3435,
 -- 3.5).
-use Rattle.std.specs.Prelude.{◌≡◌, ℕ, ◌≤◌, true, List, [], ◌∷◌, ◌++◌, length, All, Any, Some, slice_get}
+use Rattle.std.specs.Prelude.{◌≡◌, ℕ, ◌≤◌, true, List, [], ◌∷◌, ◌++◌, length, Any, Some, slice_get}
 use Rattle.transmission.specs.Texts.{texts_of}
 use Rattle.plain_machine.specs.declared.setup.Setup.{Setup}
 use Rattle.plain_machine.specs.Setup.{IsSetUp}
 use Rattle.machine_laws.specs.Saying.{Begun, IsAnswerTo}
 use Rattle.agent_core.specs.declared.packet.End.TheVariants.{AgentEnd as agent_end, GatewayEnd as gateway_end}
 use Rattle.agent_core.specs.World.{delivering, is_among}
-use Rattle.life_laws.specs.Lives.{Letter, Life, LivesStep, LivesWorld, lives_of, number_of, plain_lives, stepping}
+use Rattle.life_laws.specs.Lives.{Letter, LivesStep, LivesWorld, number_of, plain_lives, stepping}
 use Rattle.restart_laws.specs.AfterRestart.{AgentHasRoomNow}
 
--- each life is set up, those that are over too, as where no step is refused
-abbrev pub AreSetUp : LivesWorld → Type 0
-AreSetUp w = All (λ (life : Life). IsSetUp life.setup) (lives_of w)
+-- the gateway is set up, whatever number its ids begin with: each life has one of its own
+abbrev pub IsSetUpButForFirst : Setup → Type 0
+IsSetUpButForFirst setup = IsSetUp (record setup { first = 0 })
 
 -- the packet with this number is one of this life's, has this text, and goes to the agent
 pub record IsCopyOfLife (setup : Setup) (w : LivesWorld) (life : ℕ) (text : List ℕ) (number : ℕ) : Type 0 where

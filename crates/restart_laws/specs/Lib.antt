@@ -4,6 +4,7 @@ pub mod InFlightExample
 pub mod Roomless
 pub mod CarriedBack
 pub mod CarriedExample
+pub mod Rounded
 pub mod ToldExample
 pub mod ToldPhoneExample
 pub mod ToldKeepingExample

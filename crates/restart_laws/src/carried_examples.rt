@@ -15,7 +15,7 @@ ghost use Rattle.outage_laws.specs.Premises.{never_begun};
 ghost use Rattle.life_laws.specs.Example.{firsts_after, lives};
 ghost use Rattle.life_laws.specs.Lives.{clock_of, lives_are_taken, lives_opening, number_of, plain_lives, stepping};
 ghost use Rattle.restart_laws.specs.AfterRestart.{AgentHasRoomNow, IsRunOfLives, LifeGoesToAgent};
-ghost use Rattle.restart_laws.specs.CarriedBack.{AreSetUp, IsAnswerToLife, IsCarriedInLives, IsCopyOfLife, IsHandedThen};
+ghost use Rattle.restart_laws.specs.CarriedBack.{IsAnswerToLife, IsCarriedInLives, IsCopyOfLife, IsHandedThen, IsSetUpButForFirst};
 ghost use Rattle.restart_laws.specs.CarriedExample.{all_lost_anew, elsewhere_anew, notified_anew, parted_anew, parted_on, saved_anew};
 ghost use Rattle.restart_laws.specs.CarriedExample.{announced_just_now, its_announcement, its_parted_announcement, own_all_lost_anew};
 ghost use Rattle.restart_laws.specs.CarriedExample.{own_parted_on, own_saved_anew};
@@ -28,7 +28,7 @@ ghost use Rattle.restart_laws.specs.InFlightExample.{responses_with};
 /// All that the law asks for holds at once, and it is taken, and a response comes.
 pub fn each_copy_of_a_new_life_but_seven_is_carried()
     ensures run { IsRunOfLives two_lines saved_anew }
-    ensures set_up { AreSetUp (lives saved_anew) }
+    ensures set_up { IsSetUpButForFirst two_lines }
     ensures begun { HasBegun (lives saved_anew).life.setup (lives saved_anew).life.took 1 lifted_anew }
     ensures goes { LifeGoesToAgent two_lines (lives saved_anew) lifted_anew.text }
     ensures late { (lives saved_anew).life.start + lifted_anew.moment + last_chance ≤ clock_of two_lines (lives saved_anew) }
@@ -43,7 +43,7 @@ pub fn each_copy_of_a_new_life_but_seven_is_carried()
 /// goes elsewhere; before all eight are sent; and where more than seven copies are lost, or one that isn't lost isn't carried.
 pub fn else_no_copy_of_a_new_life_is_carried()
     ensures not_set_up { ¬ IsSetUp dotted }
-    ensures none_set_up { ¬ AreSetUp (plain_lives dotted parted_on) }
+    ensures whatever_first { ¬ IsSetUpButForFirst dotted }
     ensures steps { lives_are_taken dotted (lives_opening dotted) parted_on ≡ true }
     ensures begun { HasBegun (life_with dotted parted_on).setup (life_with dotted parted_on).took 1 parted_anew }
     ensures goes { LifeGoesToAgent dotted (plain_lives dotted parted_on) parted_anew.text }
@@ -158,7 +158,7 @@ pub fn else_the_answer_to_its_announcement_is_lost()
 /// the same, and isn't taken.
 pub fn else_it_is_answered_and_not_taken()
     ensures refused { lives_are_taken two_lines (lives_opening two_lines) answered_all_the_same ≡ false }
-    ensures set_up { AreSetUp (lives answered_all_the_same) }
+    ensures set_up { IsSetUp two_lines }
     ensures begun { HasBegun (lives answered_all_the_same).life.setup (lives answered_all_the_same).life.took 1 lifted }
     ensures goes { LifeGoesToAgent two_lines (lives answered_all_the_same) lifted.text }
     ensures late { (lives answered_all_the_same).life.start + lifted.moment + last_chance
@@ -168,7 +168,6 @@ pub fn else_it_is_answered_and_not_taken()
     ensures came { responses_after answered_all_the_same ≡ 1 ∷ 10000000 ∷ [] }
     ensures not_taken { firsts_after answered_all_the_same ≡ (0, 1) ∷ [] }
     ensures own_refused { lives_are_taken two_lines (lives_opening two_lines) own_answered_all_the_same ≡ false }
-    ensures own_set_up { AreSetUp (lives own_answered_all_the_same) }
     ensures own_begun { HasBegun (lives own_answered_all_the_same).life.setup (lives own_answered_all_the_same).life.took 0 announcement }
     ensures own_late { (lives own_answered_all_the_same).life.start + announcement.moment + last_chance
         ≤ clock_of two_lines (lives own_answered_all_the_same) }
@@ -182,7 +181,7 @@ pub fn else_it_is_answered_and_not_taken()
 /// response comes.
 pub fn else_its_announcement_is_sent_away()
     ensures refused { lives_are_taken two_lines (lives_opening two_lines) sent_away ≡ false }
-    ensures set_up { AreSetUp (lives sent_away) }
+    ensures set_up { IsSetUp two_lines }
     ensures begun { HasBegun (lives sent_away).life.setup (lives sent_away).life.took 0 announced_away }
     ensures late { (lives sent_away).life.start + announced_away.moment + last_chance ≤ clock_of two_lines (lives sent_away) }
     ensures one_lost { (number : ℕ) → IsCopyOfLife two_lines (lives sent_away) 0 announced_away.text number →

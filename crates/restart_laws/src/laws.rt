@@ -27,7 +27,7 @@ ghost use Rattle.life_laws.specs.Lives.{Brought, LivesStep, clock_of, gateway_of
 ghost use Rattle.life_laws.specs.Apart.{LieApart, firsts_of_lives};
 ghost use Rattle.restart_laws.specs.AfterRestart.{AgentHasRoomThen, IsRunOfLives, LifeGoesToAgent, LineReachesTheAgentSince};
 ghost use Rattle.restart_laws.specs.AfterRestart.{IsToldByLife, LivesAreFairFrom, began_then, firsts_at};
-ghost use Rattle.restart_laws.specs.CarriedBack.{AreSetUp, IsCarriedInLives, IsCopyOfLife};
+ghost use Rattle.restart_laws.specs.CarriedBack.{IsCarriedInLives, IsCopyOfLife, IsSetUpButForFirst};
 
 /// However often the gateway started before, and whatever its lives had sent, that of the life that goes on serves by then: behind the
 /// moment at which the network came back, or behind its start, where that was later, the time between the last send whose answer comes in
@@ -190,7 +190,8 @@ pub fn a_new_life_takes_a_command_again()
 /// A command of the life that goes on of which at most seven copies are lost, each with its answer, is taken, and a response comes to it,
 /// whatever earlier lives had sent: a notification or an announcement of a line, where it goes to the agent, and an announcement of the
 /// gateway itself; the agent has room when a copy comes. Taken is a first of the agent's with its id. A response comes to what a line sends
-/// whatever steps are refused, where each life is set up (RFC 3435, 2.3.4, 2.3.12 and 3.5.3).
+/// whatever steps are refused, and whatever number the ids of a life begin with, where the gateway is set up but for that (RFC 3435, 2.3.4,
+/// 2.3.12 and 3.5.3).
 pub fn one_copy_of_eight_of_a_new_life_is_enough()
     ensures line { (setup : Setup) (steps : List LivesStep) (line : ℕ) (b : Begun) (lost : List ℕ) → IsRunOfLives setup steps →
         let w = plain_lives setup steps in HasBegun w.life.setup w.life.took line b → LifeGoesToAgent setup w b.text →
@@ -204,8 +205,8 @@ pub fn one_copy_of_eight_of_a_new_life_is_enough()
         ((number : ℕ) → IsCopyOfLife setup w (number_of w) b.text number → ¬ Any (λ (n : ℕ). n ≡ number) lost →
         IsCarriedInLives setup steps b number) →
         Any (λ (one : Brought). one.reached.asked.id ≡ b.id) (firsts_of_lives w) × HasResponse w.life.took b.id }
-    ensures line_answered { (setup : Setup) (steps : List LivesStep) (line : ℕ) (b : Begun) (lost : List ℕ) →
-        let w = plain_lives setup steps in AreSetUp w → HasBegun w.life.setup w.life.took line b → LifeGoesToAgent setup w b.text →
+    ensures line_answered { (setup : Setup) (steps : List LivesStep) (line : ℕ) (b : Begun) (lost : List ℕ) → IsSetUpButForFirst setup →
+        let w = plain_lives setup steps in HasBegun w.life.setup w.life.took line b → LifeGoesToAgent setup w b.text →
         w.life.start + b.moment + last_chance ≤ clock_of setup w → length lost ≤ most_repeats →
         ((number : ℕ) → IsCopyOfLife setup w (number_of w) b.text number → ¬ Any (λ (n : ℕ). n ≡ number) lost →
         IsCarriedInLives setup steps b number) → HasResponse w.life.took b.id }

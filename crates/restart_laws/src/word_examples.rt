@@ -4,11 +4,12 @@
 ghost use Rattle.std.specs.Prelude.{[], ◌∷◌, ◌++◌};
 ghost use Rattle.plain_machine.specs.Example.{two_lines};
 ghost use Rattle.plain_machine.specs.Setup.{IsSetUp, firsts};
+ghost use Rattle.delivery_laws.specs.Example.{dotted};
 ghost use Rattle.outage_laws.specs.Premises.{reported_elsewhere};
 ghost use Rattle.life_laws.specs.Example.{lives};
 ghost use Rattle.life_laws.specs.Lives.{restarting};
 ghost use Rattle.restart_laws.specs.AfterRestart.{LifeGoesToAgent, LivesAreFairFrom};
-ghost use Rattle.restart_laws.specs.CarriedBack.{AreSetUp};
+ghost use Rattle.restart_laws.specs.CarriedBack.{IsSetUpButForFirst};
 ghost use Rattle.restart_laws.specs.Example.{answered_anew, lifted_elsewhere};
 
 /// A packet that is handed over 1 ms too late isn't handed over in time. What an earlier life sent elsewhere is no matter to the life that
@@ -20,9 +21,9 @@ pub fn a_packet_that_is_late_is_not_in_time()
     ensures earlier_life { LifeGoesToAgent two_lines (lives (lifted_elsewhere ++ restarting 20 ∷ [])) reported_elsewhere.text }
 {}
 
-/// Each life is set up, those that are over too: of one that is over ids don't begin with a number with which they may.
-pub fn a_life_that_is_over_was_set_up_too()
-    ensures all { AreSetUp (lives (restarting 19 ∷ restarting 20 ∷ [])) }
-    ensures not_all { ¬ AreSetUp (lives (restarting firsts ∷ restarting 20 ∷ [])) }
-    ensures the_last { IsSetUp (lives (restarting firsts ∷ restarting 20 ∷ [])).life.setup }
+/// A gateway is set up but for the number with which ids begin, where that is one with which they may not; but not without a domain.
+pub fn ids_may_begin_with_any_number()
+    ensures any { IsSetUpButForFirst (record two_lines { first = firsts }) }
+    ensures not_set_up { ¬ IsSetUp (record two_lines { first = firsts }) }
+    ensures no_domain { ¬ IsSetUpButForFirst dotted }
 {}

@@ -5,18 +5,18 @@ use Rattle.plain_machine.specs.Example.{two_lines}
 use Rattle.plain_machine.specs.Lists.{sent_of}
 use Rattle.machine_laws.specs.Belonging.{of_line}
 use Rattle.machine_laws.specs.Saying.{Begun, OneOf, begun_in}
-use Rattle.machine_laws.proofs.EachLemmas.{all_from_each, any_from_one}
+use Rattle.machine_laws.proofs.EachLemmas.{any_from_one}
 use Rattle.agent_core.specs.World.{delivering, ticking}
 use Rattle.delivery_laws.proofs.ExampleLemmas.{two_lines_set_up}
 use Rattle.life_laws.specs.Example.{lives}
-use Rattle.life_laws.specs.Lives.{lives_are_taken, lives_of, lives_opening, stepping}
-use Rattle.restart_laws.specs.CarriedBack.{AreSetUp, IsAnswerToLife, IsCarriedInLives, IsHandedThen}
+use Rattle.life_laws.specs.Lives.{lives_are_taken, lives_opening, stepping}
+use Rattle.restart_laws.specs.CarriedBack.{IsAnswerToLife, IsCarriedInLives, IsHandedThen}
 use Rattle.restart_laws.specs.CarriedExample.{last_copy_anew, saved_anew}
 use Rattle.restart_laws.specs.Example.{lifted_anew}
 use Rattle.restart_laws.proofs.Computing.{on_examples}
 use Rattle.restart_laws.proofs.LivesFairExamples.{life_goes}
 use Rattle.restart_laws.proofs.LivesPlaces.{copies}
-use Rattle.restart_laws.proofs.LivesRefused.{IsLifeSetUp, run_set_up}
+use Rattle.restart_laws.proofs.LivesRefused.{so_set_up}
 use Rattle.restart_laws.proofs.LivesServe.{found_in}
 use Rattle.restart_laws.proofs.carried_examples.each_copy_of_a_new_life_but_seven_is_carried.Goals as goal
 
@@ -70,14 +70,11 @@ taken_so : lives_are_taken two_lines (lives_opening two_lines) saved_anew ≡ tr
 unfolding on_examples
 taken_so = refl
 
-all_set_up : AreSetUp (lives saved_anew)
-all_set_up = all_from_each IsLifeSetUp (lives_of (lives saved_anew)) (run_set_up two_lines saved_anew two_lines_set_up taken_so)
-
 pub returns : goal.returns
 unfolding on_examples
 returns c = record {
   run = (two_lines_set_up, taken_so);
-  set_up = all_set_up;
+  set_up = so_set_up two_lines two_lines_set_up;
   begun = any_from_one (λ (one : Begun). one ≡ lifted_anew) (begun_in (of_line 1 (sent_of (lives saved_anew).life.setup (lives saved_anew).life.took))) (inl refl);
   goes = life_goes two_lines (lives saved_anew) lifted_anew.text refl;
   late = leb-true _ _ refl;

@@ -6,19 +6,20 @@ use Rattle.machine_laws.specs.Belonging.{of_line}
 use Rattle.machine_laws.specs.Saying.{Begun, begun_in}
 use Rattle.machine_laws.proofs.EachLemmas.{any_from_one}
 use Rattle.delivery_laws.specs.Example.{lifted}
+use Rattle.delivery_laws.proofs.ExampleLemmas.{two_lines_set_up}
 use Rattle.outage_laws.specs.Example.{announcement}
 use Rattle.life_laws.specs.Example.{lives}
 use Rattle.restart_laws.specs.CarriedExample.{answered_all_the_same, own_answered_all_the_same}
 use Rattle.restart_laws.proofs.Computing.{on_examples}
 use Rattle.restart_laws.proofs.LivesFairExamples.{life_goes}
-use Rattle.restart_laws.proofs.LivesPlaces.{copies, one_set_up}
+use Rattle.restart_laws.proofs.LivesPlaces.{copies}
 use Rattle.restart_laws.proofs.carried_examples.else_it_is_answered_and_not_taken.Goals as goal
 
 pub returns : goal.returns
 unfolding on_examples
 returns c = record {
   refused = refl;
-  set_up = one_set_up (lives answered_all_the_same) refl refl;
+  set_up = two_lines_set_up;
   begun = any_from_one (λ (one : Begun). one ≡ lifted)
       (begun_in (of_line 1 (sent_of (lives answered_all_the_same).life.setup (lives answered_all_the_same).life.took))) (inl refl);
   goes = life_goes two_lines (lives answered_all_the_same) lifted.text refl;
@@ -27,7 +28,6 @@ returns c = record {
   came = refl;
   not_taken = refl;
   own_refused = refl;
-  own_set_up = one_set_up (lives own_answered_all_the_same) refl refl;
   own_begun = any_from_one (λ (one : Begun). one ≡ announcement)
       (begun_in (of_line 0 (sent_of (lives own_answered_all_the_same).life.setup (lives own_answered_all_the_same).life.took))) (inl refl);
   own_late = leb-true _ _ refl;

@@ -1,23 +1,20 @@
-use Rattle.std.proofs.Common.{◌≡◌, ℕ, false, [], ◌∷◌, inl, inr, refl, ap, arith}
+use Rattle.std.proofs.Common.{◌≡◌, ℕ, [], ◌∷◌, inl, inr, refl, ap, arith}
 use Rattle.std.proofs.lemmas.Bool.{leb-true, ltb-true}
-use Rattle.endpoint_names.specs.Table.{is_domain}
 use Rattle.plain_machine.specs.Example.{two_lines}
 use Rattle.plain_machine.specs.Lists.{sent_of}
 use Rattle.machine_laws.specs.Belonging.{of_line}
 use Rattle.machine_laws.specs.Saying.{Begun, OneOf, begun_in}
-use Rattle.machine_laws.proofs.EachLemmas.{any_from_one, each_from_all, one_from_any}
+use Rattle.machine_laws.proofs.EachLemmas.{any_from_one, one_from_any}
 use Rattle.delivery_laws.specs.Example.{dotted}
 use Rattle.delivery_laws.proofs.ExampleLemmas.{no_domain, two_lines_set_up}
 use Rattle.outage_laws.specs.Premises.{never_begun}
 use Rattle.life_laws.specs.Example.{lives}
-use Rattle.life_laws.specs.Lives.{lives_of, plain_lives}
-use Rattle.restart_laws.specs.CarriedBack.{AreSetUp}
+use Rattle.life_laws.specs.Lives.{plain_lives}
 use Rattle.restart_laws.specs.CarriedExample.{all_lost_anew, elsewhere_anew, notified_anew, parted_anew, parted_on}
 use Rattle.restart_laws.specs.Example.{life_with, lifted_anew, reported_astray}
 use Rattle.restart_laws.proofs.Computing.{on_examples}
 use Rattle.restart_laws.proofs.LivesFairExamples.{life_goes, lives_astray}
 use Rattle.restart_laws.proofs.LivesPlaces.{copies, never_carried}
-use Rattle.restart_laws.proofs.LivesRefused.{IsLifeSetUp, last_set_up}
 use Rattle.restart_laws.proofs.carried_examples.else_no_copy_of_a_new_life_is_carried.Goals as goal
 
 not_begun_so : OneOf (λ (one : Begun). one ≡ never_begun) (begun_in (of_line 1 (sent_of (lives all_lost_anew).life.setup (lives all_lost_anew).life.took))) → ⊥
@@ -25,20 +22,11 @@ unfolding on_examples
 not_begun_so (inl is) = (let same : ◌≡◌ {A = ℕ} 10000020 10000007 = ap (λ (b : Begun). b.id) is in absurd (omega (arith, same)))
 not_begun_so (inr none) = absurd none
 
-no_domain_there : is_domain (plain_lives dotted parted_on).life.setup.names.domain ≡ false
-unfolding on_examples
-no_domain_there = refl
-
-none_so : AreSetUp (plain_lives dotted parted_on) → ⊥
-none_so all =
-    no_domain (plain_lives dotted parted_on).life.setup no_domain_there
-    (last_set_up (plain_lives dotted parted_on) (each_from_all IsLifeSetUp (lives_of (plain_lives dotted parted_on)) all))
-
 pub returns : goal.returns
 unfolding on_examples
 returns c = record {
   not_set_up = no_domain dotted refl;
-  none_set_up = none_so;
+  whatever_first = no_domain (record dotted { first = 0 }) refl;
   steps = refl;
   begun = any_from_one (λ (one : Begun). one ≡ parted_anew)
       (begun_in (of_line 1 (sent_of (life_with dotted parted_on).setup (life_with dotted parted_on).took))) (inl refl);

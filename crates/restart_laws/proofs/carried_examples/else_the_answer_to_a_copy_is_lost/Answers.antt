@@ -18,7 +18,7 @@ use Rattle.restart_laws.proofs.Computing.{on_examples}
 use Rattle.restart_laws.proofs.LivesCarried.{carried_back}
 use Rattle.restart_laws.proofs.LivesFairExamples.{life_goes}
 use Rattle.restart_laws.proofs.LivesPlaces.{comes_among, copies, never_handed}
-use Rattle.restart_laws.proofs.LivesRefused.{run_set_up}
+use Rattle.restart_laws.proofs.LivesRefused.{so_set_up}
 use Rattle.restart_laws.proofs.carried_examples.else_the_answer_to_a_copy_is_lost.Goals as goal
 
 abbrev lost : List ℕ
@@ -54,7 +54,7 @@ taken_so = refl
 not_carried_so : IsCarriedInLives two_lines unanswered_copy lifted_anew 10 → ⊥
 not_carried_so carried =
     not_it (comes_among unanswered_copy lifted_anew.id
-    (carried_back two_lines unanswered_copy (run_set_up two_lines unanswered_copy two_lines_set_up taken_so) lifted_anew 10 (codes "aaln/1@rgw.example.net") reads carried))
+    (carried_back two_lines unanswered_copy (so_set_up two_lines two_lines_set_up) lifted_anew 10 (codes "aaln/1@rgw.example.net") reads carried))
 
 pub returns : goal.returns
 unfolding on_examples

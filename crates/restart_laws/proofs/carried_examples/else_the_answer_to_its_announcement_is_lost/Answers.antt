@@ -17,7 +17,7 @@ use Rattle.restart_laws.specs.Example.{responses_after}
 use Rattle.restart_laws.proofs.Computing.{on_examples}
 use Rattle.restart_laws.proofs.LivesCarried.{carried_back}
 use Rattle.restart_laws.proofs.LivesPlaces.{comes_among, copies, never_handed}
-use Rattle.restart_laws.proofs.LivesRefused.{run_set_up}
+use Rattle.restart_laws.proofs.LivesRefused.{so_set_up}
 use Rattle.restart_laws.proofs.carried_examples.else_the_answer_to_its_announcement_is_lost.Goals as goal
 
 abbrev lost : List ℕ
@@ -52,7 +52,7 @@ taken_so = refl
 not_carried_so : IsCarriedInLives two_lines own_unanswered_copy its_announcement 8 → ⊥
 not_carried_so carried =
     not_it (comes_among own_unanswered_copy its_announcement.id
-    (carried_back two_lines own_unanswered_copy (run_set_up two_lines own_unanswered_copy two_lines_set_up taken_so) its_announcement 8 (codes "*@rgw.example.net") reads carried))
+    (carried_back two_lines own_unanswered_copy (so_set_up two_lines two_lines_set_up) its_announcement 8 (codes "*@rgw.example.net") reads carried))
 
 pub returns : goal.returns
 unfolding on_examples

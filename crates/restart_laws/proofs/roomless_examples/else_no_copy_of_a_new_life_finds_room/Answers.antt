@@ -12,7 +12,7 @@ use Rattle.restart_laws.specs.CarriedBack.{IsCopyOfLife, IsHandedThen}
 use Rattle.restart_laws.specs.Roomless.{starting}
 use Rattle.restart_laws.proofs.Computing.{on_examples}
 use Rattle.restart_laws.proofs.LivesCarried.{carried_back}
-use Rattle.restart_laws.proofs.LivesRefused.{run_set_up}
+use Rattle.restart_laws.proofs.LivesRefused.{so_set_up}
 use Rattle.restart_laws.proofs.LivesTake.{sent_past}
 use Rattle.restart_laws.proofs.RoomlessOnce.{begun, clock, fair, goes_there, life, none_came, run}
 use Rattle.restart_laws.proofs.roomless_examples.else_no_copy_of_a_new_life_finds_room.Goals as goal
@@ -62,7 +62,7 @@ returns-clause-at_once c = fair
 
 pub returns-clause-not_carried : goal.returns-clause-not_carried
 returns-clause-not_carried c =
-    λ number carried. none_came (carried_back two_lines (starting roomless) (run_set_up two_lines (starting roomless) two_lines_set_up run) (key_begun 1 next_key_number) number (codes "aaln/1@rgw.example.net") reads carried)
+    λ number carried. none_came (carried_back two_lines (starting roomless) (so_set_up two_lines two_lines_set_up) (key_begun 1 next_key_number) number (codes "aaln/1@rgw.example.net") reads carried)
 
 pub returns-clause-none_came : goal.returns-clause-none_came
 returns-clause-none_came c = none_came
