@@ -6,6 +6,7 @@ pub mod LivesSays
 pub mod AgentAnswers
 pub mod AnyFirst
 pub mod LivesRefused
+mod RoundedLives
 pub mod LivesTake
 pub mod LivesServe
 pub mod LivesTaken

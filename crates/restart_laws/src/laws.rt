@@ -1,5 +1,5 @@
 //! Laws of a network that was down and came back where the gateway started again.
-ghost use Rattle.std.specs.Prelude.{◌≡◌, ◌⊎◌, ◌<◌, ◌≤◌, ◌+◌, ◌*◌, ◌++◌, ◌∷◌, ℕ, List, [], All, Any, Some, length, false, true};
+ghost use Rattle.std.specs.Prelude.{◌≡◌, ◌⊎◌, ◌<◌, ◌≤◌, ◌+◌, ◌*◌, ◌++◌, ◌∷◌, ℕ, List, [], All, Any, None, Some, length, map, false, true};
 ghost use Rattle.history.specs.Arrival.{Arrival};
 ghost use Rattle.history.specs.Firsts.{young_of};
 ghost use Rattle.history.specs.Memory.{memory_time};
@@ -10,6 +10,7 @@ ghost use Rattle.plain_machine.specs.declared.endpoint.Endpoint.{Endpoint};
 ghost use Rattle.plain_machine.specs.Event.{GatewayEvent};
 ghost use Rattle.plain_machine.specs.Lists.{plain, sent_from};
 ghost use Rattle.plain_machine.specs.Machine.{endpoint_at, serves};
+ghost use Rattle.plain_machine.specs.Setup.{IsSetUp};
 ghost use Rattle.agent_core.specs.World.{oldest_packet};
 ghost use Rattle.machine_laws.specs.Belonging.{of_line};
 ghost use Rattle.machine_laws.specs.Saying.{Begun};
@@ -23,11 +24,13 @@ ghost use Rattle.delivery_laws.specs.Rounds.{IsAnsweredWithin, IsAskedWithin, of
 ghost use Rattle.outage_laws.specs.AfterOutage.{gap_of, longest_pause};
 ghost use Rattle.outage_laws.specs.Alone.{HasBegun, HasResponse};
 ghost use Rattle.outage_laws.specs.ToldSince.{KeepsAllSince};
-ghost use Rattle.life_laws.specs.Lives.{Brought, LivesStep, clock_of, gateway_of, lives_of, number_of, plain_lives, restarting};
+ghost use Rattle.life_laws.specs.Lives.{Brought, LivesStep, LivesWorld, clock_of, gateway_of, lived_refusal, lives_of, number_of};
+ghost use Rattle.life_laws.specs.Lives.{plain_lives, restarting};
 ghost use Rattle.life_laws.specs.Apart.{LieApart, firsts_of_lives};
 ghost use Rattle.restart_laws.specs.AfterRestart.{AgentHasRoomThen, IsRunOfLives, LifeGoesToAgent, LineReachesTheAgentSince};
 ghost use Rattle.restart_laws.specs.AfterRestart.{IsToldByLife, LivesAreFairFrom, began_then, firsts_at};
 ghost use Rattle.restart_laws.specs.CarriedBack.{IsCarriedInLives, IsCopyOfLife, IsSetUpButForFirst};
+ghost use Rattle.restart_laws.specs.Rounded.{rounded, rounded_step, rounded_world};
 
 /// However often the gateway started before, and whatever its lives had sent, that of the life that goes on serves by then: behind the
 /// moment at which the network came back, or behind its start, where that was later, the time between the last send whose answer comes in
@@ -185,6 +188,16 @@ pub fn a_new_life_takes_a_command_again()
         length (young_of later (firsts_at w.life)) < length (young_of now (firsts_at w.life)) }
     ensures room { (setup : Setup) (steps : List LivesStep) (now later : ℕ) → let w = plain_lives setup steps in
         All (λ (first : Arrival). first.moment ≤ now) (firsts_at w.life) → now + memory_time ≤ later → HasRoom later (firsts_at w.life) }
+{}
+
+/// A number with which ids begin goes round: a world is the same where each is the remainder of its division by `firsts`, but for that
+/// number itself, and no start is refused for it there. So what a law says of a run of lives is so whatever these numbers are (RFC 3435,
+/// 3.2.1.2; this gateway's profile).
+pub fn a_number_with_which_ids_begin_goes_round()
+    ensures same { (setup : Setup) (steps : List LivesStep) →
+        plain_lives (rounded setup) (map rounded_step steps) ≡ rounded_world (plain_lives setup steps) }
+    ensures set_up { (setup : Setup) → IsSetUpButForFirst setup → IsSetUp (rounded setup) }
+    ensures start { (setup : Setup) (w : LivesWorld) (first : ℕ) → lived_refusal setup w (rounded_step (restarting first)) ≡ None }
 {}
 
 /// A command of the life that goes on of which at most seven copies are lost, each with its answer, is taken, and a response comes to it,
