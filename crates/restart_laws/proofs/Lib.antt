@@ -21,6 +21,7 @@ pub mod LivesLong
 pub mod LivesSlow
 pub mod LivesTold
 pub mod LivesCarried
+mod LivesOfLife
 pub mod LivesFairExamples
 mod LivesApart
 mod LivesAstray

@@ -75,17 +75,17 @@ module _ (setup : Setup) (steps : List LivesStep) (set_up : IsSetUpButForFirst s
 
   module _ (b : Begun) (number : ℕ) (name : List ℕ) (reads : is_command_as b.id name (read_text b.text) ≡ true) (c : IsCarriedInLives setup steps b number) where
     abbrev first : List LivesStep
-    first = c.before ++ stepping (delivering number) ∷ []
+    first = c.heard.before ++ stepping (delivering number) ∷ []
 
-    reply : IsReplied setup (plain_lives setup c.before) (plain_lives setup first) c.copy.letter.life b.id (clock_of setup (plain_lives setup c.before))
+    reply : IsReplied setup (plain_lives setup c.heard.before) (plain_lives setup first) c.heard.copy.letter.life b.id (clock_of setup (plain_lives setup c.heard.before))
     reply =
-        replied setup c.before number c.copy.letter b.id name b.text (lives_keep_on setup c.before set_up) (lives_keep_on setup first set_up) c.copy.found c.copy.sender c.copy.goes
-        (one_from_any (λ (one : List ℕ). one ≡ b.text) (texts_of c.copy.letter.post.packet.bytes) c.copy.inside) reads c.room
+        replied setup c.heard.before number c.heard.copy.letter b.id name b.text (lives_keep_on setup c.heard.before set_up) (lives_keep_on setup first set_up) c.heard.copy.found c.heard.copy.sender c.heard.copy.goes
+        (one_from_any (λ (one : List ℕ). one ≡ b.text) (texts_of c.heard.copy.letter.post.packet.bytes) c.heard.copy.inside) reads c.heard.room
 
     its_life : reply.letter.life ≡ number_of w
-    its_life = reply.replies.0 ∙ c.copy.of
+    its_life = reply.replies.0 ∙ c.heard.copy.of
 
-    back : IsHandedThen c.rest reply.number
+    back : IsHandedThen c.heard.rest reply.number
     back =
         c.back reply.number (record {
           behind = reply.behind;
@@ -109,7 +109,7 @@ module _ (setup : Setup) (steps : List LivesStep) (set_up : IsSetUpButForFirst s
 
     order : steps ≡ handed ++ back.later
     order =
-        c.order ∙ ap (λ (x : List LivesStep). first ++ x) back.order ∙ sym (append_assoc first (back.between ++ stepping (delivering reply.number) ∷ []) back.later)
+        c.heard.order ∙ ap (λ (x : List LivesStep). first ++ x) back.order ∙ sym (append_assoc first (back.between ++ stepping (delivering reply.number) ∷ []) back.later)
         ∙ ap (λ (x : List LivesStep). x ++ back.later) (sym (append_assoc first back.between (stepping (delivering reply.number) ∷ [])))
 
     found : slice_get v.letters reply.number ≡ Some reply.letter

@@ -1,7 +1,7 @@
 -- Where copies of a text of a life's are among the packets, by its length, and which responses came to it; for worked examples, in which it
 -- computes.
-use Rattle.std.proofs.Common.{◌≡◌, ℕ, zero, suc, ◌+◌, Bool, true, false, ◌||◌, ◌&&◌, ◌==◌, if◌then◌else◌, List, [], ◌∷◌, length, Option, Some, inl, inr, refl, sym, ap, ◌∙◌, subst, arith}
-use Rattle.std.specs.Prelude.{flat_map, slice_get}
+use Rattle.std.proofs.Common.{◌≡◌, ℕ, zero, suc, ◌+◌, Bool, true, false, ◌||◌, ◌&&◌, ◌==◌, if◌then◌else◌, List, [], ◌∷◌, length, Option, Some, None, inl, inr, refl, sym, ap, ◌∙◌, subst, arith}
+use Rattle.std.specs.Prelude.{flat_map, option_map, slice_get}
 use Rattle.std.specs.Option.{unwrap_or}
 use Rattle.std.proofs.lemmas.Bool.{eq-eqb}
 use Rattle.std.proofs.lemmas.Bool.Decides.{Decides-eqb}
@@ -10,7 +10,7 @@ use Rattle.transmission.specs.Texts.{texts_of}
 use Rattle.plain_machine.specs.declared.setup.Setup.{Setup}
 use Rattle.plain_machine.specs.Arriving.{TextArrival, arrivals_of}
 use Rattle.machine_laws.specs.Saying.{Begun, OneOf}
-use Rattle.machine_laws.proofs.EachLemmas.{one_before, one_behind, one_from_any}
+use Rattle.machine_laws.proofs.EachLemmas.{any_from_one, one_before, one_behind, one_from_any}
 use Rattle.agent_core.specs.declared.packet.End.{End}
 use Rattle.agent_core.specs.declared.packet.End.TheVariants.{AgentEnd as agent_end, GatewayEnd as gateway_end}
 use Rattle.agent_core.specs.World.{is_among}
@@ -18,7 +18,7 @@ use Rattle.delivery_laws.specs.OwnChances.{IsResponse}
 use Rattle.outage_laws.specs.Alone.{HasResponse}
 use Rattle.life_laws.specs.Example.{lives}
 use Rattle.life_laws.specs.Lives.{Letter, LivesStep, LivesWorld}
-use Rattle.restart_laws.specs.CarriedBack.{IsCarriedInLives, IsCopyOfLife, IsHandedThen}
+use Rattle.restart_laws.specs.CarriedBack.{IsCarriedInLives, IsCopyOfLife, IsHandedThen, IsHeardInLives}
 use Rattle.restart_laws.specs.Example.{responding, responses_after}
 use Rattle.restart_laws.proofs.LivesFairExamples.{hand_over, handed_there}
 
@@ -92,10 +92,44 @@ copies setup w life text number copy =
       from_first : (n : ℕ) → 0 + n ≡ n
       from_first n = omega arith
 
--- what isn't handed over isn't carried
+-- the packet with this number, by whose it is, whether it goes to the agent, and its texts
+
+abbrev pub Seen : Type 0
+Seen = ℕ × Bool × Bool × List (List ℕ)
+
+abbrev pub seen : Setup → Letter → Seen
+seen setup letter = (letter.life, is_gateway letter.post.end, is_among setup.agent.route letter.post.packet.to, texts_of letter.post.packet.bytes)
+
+is_that_end : (end : End) → is_gateway end ≡ true → end ≡ gateway_end
+is_that_end agent_end is = (let clash : false ≡ true = is in cc)
+is_that_end gateway_end is = refl
+
+copy_found : (setup : Setup) (w : LivesWorld) (life : ℕ) (text : List ℕ) (number : ℕ) (found : Option Letter) → slice_get w.letters number ≡ found
+    → option_map (seen setup) found ≡ Some (life, true, true, text ∷ []) → IsCopyOfLife setup w life text number
+copy_found setup w life text number None there is = absurd cc
+copy_found setup w life text number (Some letter) there is =
+    let same : seen setup letter ≡ (life, true, true, text ∷ []) = ap (λ (o : Option Seen). unwrap_or o (seen setup letter)) is in
+    record {
+      letter = letter;
+      found = there;
+      of = ap (λ (one : Seen). one.0) same;
+      sender = is_that_end letter.post.end (ap (λ (one : Seen). one.1) same);
+      goes = ap (λ (one : Seen). one.2) same;
+      inside = any_from_one (λ (one : List ℕ). one ≡ text) (texts_of letter.post.packet.bytes)
+          (subst (OneOf (λ (one : List ℕ). one ≡ text)) (sym (ap (λ (one : Seen). one.3) same)) (inl refl));
+    }
+
+pub copy_seen : (setup : Setup) (w : LivesWorld) (life : ℕ) (text : List ℕ) (number : ℕ)
+    → option_map (seen setup) (slice_get w.letters number) ≡ Some (life, true, true, text ∷ []) → IsCopyOfLife setup w life text number
+copy_seen setup w life text number is = copy_found setup w life text number (slice_get w.letters number) refl is
+
+-- what isn't handed over isn't heard, and so isn't carried
+pub never_heard_of : (setup : Setup) (steps : List LivesStep) (b : Begun) (number : ℕ) → hand_over number steps ≡ false → IsHeardInLives setup steps b number → ⊥
+never_heard_of setup steps b number none h =
+    absurd (let clash : false ≡ true = sym none ∙ ap (hand_over number) h.order ∙ handed_there number h.before h.rest in cc)
+
 pub never_carried : (setup : Setup) (steps : List LivesStep) (b : Begun) (number : ℕ) → hand_over number steps ≡ false → IsCarriedInLives setup steps b number → ⊥
-never_carried setup steps b number none c =
-    absurd (let clash : false ≡ true = sym none ∙ ap (hand_over number) c.order ∙ handed_there number c.before c.rest in cc)
+never_carried setup steps b number none c = never_heard_of setup steps b number none c.heard
 
 pub never_handed : (rest : List LivesStep) (number : ℕ) → hand_over number rest ≡ false → IsHandedThen rest number → ⊥
 never_handed rest number none h =

@@ -40,14 +40,18 @@ pub record IsHandedThen (rest : List LivesStep) (number : ℕ) : Type 0 where
   pub later : List LivesStep
   pub order : rest ≡ (between ++ stepping (delivering number) ∷ []) ++ later
 
--- The network carries the copy with this number: these steps hand it to the agent, which has room, and hand the answers that the agent
--- sends then over. Else it is lost: the copy is, or its answer.
-pub record IsCarriedInLives (setup : Setup) (steps : List LivesStep) (b : Begun) (number : ℕ) : Type 0 where
+-- these steps hand the copy with this number to the agent, which has room
+pub record IsHeardInLives (setup : Setup) (steps : List LivesStep) (b : Begun) (number : ℕ) : Type 0 where
   pub before : List LivesStep
   pub rest : List LivesStep
   pub order : steps ≡ (before ++ stepping (delivering number) ∷ []) ++ rest
   pub copy : IsCopyOfLife setup (plain_lives setup before) (number_of (plain_lives setup steps)) b.text number
   pub room : AgentHasRoomNow setup (plain_lives setup (before ++ stepping (delivering number) ∷ []))
+
+-- The network carries it: these steps hand it over so, and hand the answers that the agent sends then over. Else it is lost: the copy is,
+-- or its answer.
+pub record IsCarriedInLives (setup : Setup) (steps : List LivesStep) (b : Begun) (number : ℕ) : Type 0 where
+  pub heard : IsHeardInLives setup steps b number
   pub back : (reply : ℕ)
-      → IsAnswerToLife (plain_lives setup before) (plain_lives setup (before ++ stepping (delivering number) ∷ []))
-      (number_of (plain_lives setup steps)) b.id reply → IsHandedThen rest reply
+      → IsAnswerToLife (plain_lives setup heard.before) (plain_lives setup (heard.before ++ stepping (delivering number) ∷ []))
+      (number_of (plain_lives setup steps)) b.id reply → IsHandedThen heard.rest reply

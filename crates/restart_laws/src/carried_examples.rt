@@ -12,10 +12,12 @@ ghost use Rattle.delivery_laws.specs.Example.{dotted, lifted};
 ghost use Rattle.outage_laws.specs.Alone.{HasBegun};
 ghost use Rattle.outage_laws.specs.Example.{announcement};
 ghost use Rattle.outage_laws.specs.Premises.{never_begun};
+ghost use Rattle.life_laws.specs.Apart.{LieApart};
 ghost use Rattle.life_laws.specs.Example.{firsts_after, lives};
-ghost use Rattle.life_laws.specs.Lives.{clock_of, lives_are_taken, lives_opening, number_of, plain_lives, stepping};
+ghost use Rattle.life_laws.specs.Lives.{clock_of, lives_are_taken, lives_of, lives_opening, number_of, plain_lives, stepping};
 ghost use Rattle.restart_laws.specs.AfterRestart.{AgentHasRoomNow, IsRunOfLives, LifeGoesToAgent};
-ghost use Rattle.restart_laws.specs.CarriedBack.{IsAnswerToLife, IsCarriedInLives, IsCopyOfLife, IsHandedThen, IsSetUpButForFirst};
+ghost use Rattle.restart_laws.specs.CarriedBack.{IsAnswerToLife, IsCarriedInLives, IsCopyOfLife, IsHandedThen, IsHeardInLives};
+ghost use Rattle.restart_laws.specs.CarriedBack.{IsSetUpButForFirst};
 ghost use Rattle.restart_laws.specs.CarriedExample.{all_lost_anew, elsewhere_anew, notified_anew, parted_anew, parted_on, saved_anew};
 ghost use Rattle.restart_laws.specs.CarriedExample.{announced_just_now, its_announcement, its_parted_announcement, own_all_lost_anew};
 ghost use Rattle.restart_laws.specs.CarriedExample.{own_parted_on, own_saved_anew};
@@ -30,11 +32,13 @@ pub fn each_copy_of_a_new_life_but_seven_is_carried()
     ensures run { IsRunOfLives two_lines saved_anew }
     ensures set_up { IsSetUpButForFirst two_lines }
     ensures begun { HasBegun (lives saved_anew).life.setup (lives saved_anew).life.took 1 lifted_anew }
+    ensures apart { LieApart (lives_of (lives saved_anew)) }
     ensures goes { LifeGoesToAgent two_lines (lives saved_anew) lifted_anew.text }
     ensures late { (lives saved_anew).life.start + lifted_anew.moment + last_chance ≤ clock_of two_lines (lives saved_anew) }
     ensures seven { length {A = ℕ} (3 ∷ 4 ∷ 5 ∷ 6 ∷ 7 ∷ 8 ∷ 9 ∷ []) ≡ most_repeats }
     ensures carried { (number : ℕ) → IsCopyOfLife two_lines (lives saved_anew) (number_of (lives saved_anew)) lifted_anew.text number →
         ¬ Any (λ (n : ℕ). n ≡ number) (3 ∷ 4 ∷ 5 ∷ 6 ∷ 7 ∷ 8 ∷ 9 ∷ []) → IsCarriedInLives two_lines saved_anew lifted_anew number }
+    ensures heard { IsHeardInLives two_lines saved_anew lifted_anew 10 }
     ensures taken { firsts_after saved_anew ≡ (1, 21) ∷ (1, 10000020) ∷ [] }
     ensures answered { responses_after saved_anew ≡ 21 ∷ 10000020 ∷ [] }
 {}

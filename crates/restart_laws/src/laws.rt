@@ -28,8 +28,8 @@ ghost use Rattle.life_laws.specs.Lives.{Brought, LivesStep, LivesWorld, clock_of
 ghost use Rattle.life_laws.specs.Lives.{plain_lives, restarting};
 ghost use Rattle.life_laws.specs.Apart.{LieApart, firsts_of_lives};
 ghost use Rattle.restart_laws.specs.AfterRestart.{AgentHasRoomThen, IsRunOfLives, LifeGoesToAgent, LineReachesTheAgentSince};
-ghost use Rattle.restart_laws.specs.AfterRestart.{IsToldByLife, LivesAreFairFrom, began_then, firsts_at};
-ghost use Rattle.restart_laws.specs.CarriedBack.{IsCarriedInLives, IsCopyOfLife, IsSetUpButForFirst};
+ghost use Rattle.restart_laws.specs.AfterRestart.{IsToldByLife, LivesAreFairFrom, TookOfLife, began_then, firsts_at};
+ghost use Rattle.restart_laws.specs.CarriedBack.{IsCarriedInLives, IsCopyOfLife, IsHeardInLives, IsSetUpButForFirst};
 ghost use Rattle.restart_laws.specs.Rounded.{rounded, rounded_step, rounded_world};
 
 /// However often the gateway started before, and whatever its lives had sent, that of the life that goes on serves by then: behind the
@@ -202,9 +202,9 @@ pub fn a_number_with_which_ids_begin_goes_round()
 
 /// A command of the life that goes on of which at most seven copies are lost, each with its answer, is taken, and a response comes to it,
 /// whatever earlier lives had sent: a notification or an announcement of a line, where it goes to the agent, and an announcement of the
-/// gateway itself; the agent has room when a copy comes. Taken is a first of the agent's with its id. A response comes to what a line sends
-/// whatever steps are refused, and whatever number the ids of a life begin with, where the gateway is set up but for that (RFC 3435, 2.3.4,
-/// 2.3.12 and 3.5.3).
+/// gateway itself; the agent has room when a copy comes. Taken is a first of the agent's with its id; where lives' ids lie apart, and a copy
+/// is handed to the agent, it is of this life. A response comes to what a line sends whatever steps are refused, and whatever number the ids
+/// of a life begin with, where the gateway is set up but for that (RFC 3435, 2.3.4, 2.3.12 and 3.5.3).
 pub fn one_copy_of_eight_of_a_new_life_is_enough()
     ensures line { (setup : Setup) (steps : List LivesStep) (line : ℕ) (b : Begun) (lost : List ℕ) → IsRunOfLives setup steps →
         let w = plain_lives setup steps in HasBegun w.life.setup w.life.took line b → LifeGoesToAgent setup w b.text →
@@ -218,6 +218,9 @@ pub fn one_copy_of_eight_of_a_new_life_is_enough()
         ((number : ℕ) → IsCopyOfLife setup w (number_of w) b.text number → ¬ Any (λ (n : ℕ). n ≡ number) lost →
         IsCarriedInLives setup steps b number) →
         Any (λ (one : Brought). one.reached.asked.id ≡ b.id) (firsts_of_lives w) × HasResponse w.life.took b.id }
+    ensures of_this_life { (setup : Setup) (steps : List LivesStep) (line : ℕ) (b : Begun) (number : ℕ) → IsRunOfLives setup steps →
+        let w = plain_lives setup steps in HasBegun w.life.setup w.life.took line b → LieApart (lives_of w) →
+        IsHeardInLives setup steps b number → TookOfLife w b }
     ensures line_answered { (setup : Setup) (steps : List LivesStep) (line : ℕ) (b : Begun) (lost : List ℕ) → IsSetUpButForFirst setup →
         let w = plain_lives setup steps in HasBegun w.life.setup w.life.took line b → LifeGoesToAgent setup w b.text →
         w.life.start + b.moment + last_chance ≤ clock_of setup w → length lost ≤ most_repeats →

@@ -1,4 +1,4 @@
-use Rattle.std.proofs.Common.{◌≡◌, ℕ, ◌<◌, ◌≤◌, true, List, [], ◌∷◌, ◌++◌, length, inl, inr, refl, sym, ap, subst, arith}
+use Rattle.std.proofs.Common.{codes, ◌≡◌, ℕ, ◌<◌, ◌≤◌, true, List, [], ◌∷◌, ◌++◌, length, inl, inr, refl, sym, ap, subst, arith}
 use Rattle.std.specs.Prelude.{Any}
 use Rattle.std.proofs.lemmas.Bool.{leb-true, ltb-true}
 use Rattle.plain_machine.specs.Example.{two_lines}
@@ -12,9 +12,9 @@ use Rattle.life_laws.specs.Example.{lives}
 use Rattle.life_laws.specs.Lives.{lives_are_taken, lives_opening, stepping}
 use Rattle.restart_laws.specs.CarriedBack.{IsAnswerToLife, IsCarriedInLives, IsHandedThen}
 use Rattle.restart_laws.specs.CarriedExample.{last_copy_anew, saved_anew}
-use Rattle.restart_laws.specs.Example.{lifted_anew}
+use Rattle.restart_laws.specs.Example.{announced_alike, lifted_anew}
 use Rattle.restart_laws.proofs.Computing.{on_examples}
-use Rattle.restart_laws.proofs.LivesFairExamples.{life_goes}
+use Rattle.restart_laws.proofs.LivesFairExamples.{life_goes, two_apart}
 use Rattle.restart_laws.proofs.LivesPlaces.{copies}
 use Rattle.restart_laws.proofs.LivesRefused.{so_set_up}
 use Rattle.restart_laws.proofs.LivesServe.{found_in}
@@ -40,11 +40,13 @@ handed_back number is =
 carried_last : IsCarriedInLives two_lines saved_anew lifted_anew 10
 unfolding on_examples
 carried_last = record {
-  before = last_copy_anew;
-  rest = stepping (ticking 21002) ∷ stepping (delivering 11) ∷ [];
-  order = refl;
-  copy = record { letter = _; found = refl; of = refl; sender = refl; goes = refl; inside = any_from_one (λ (one : List ℕ). one ≡ lifted_anew.text) (lifted_anew.text ∷ []) (inl refl) };
-  room = ltb-true _ _ refl;
+  heard = record {
+    before = last_copy_anew;
+    rest = stepping (ticking 21002) ∷ stepping (delivering 11) ∷ [];
+    order = refl;
+    copy = record { letter = _; found = refl; of = refl; sender = refl; goes = refl; inside = any_from_one (λ (one : List ℕ). one ≡ lifted_anew.text) (lifted_anew.text ∷ []) (inl refl) };
+    room = ltb-true _ _ refl;
+  };
   back = λ number answer. handed_back number (number_is number answer refl refl);
 }
 
@@ -76,10 +78,13 @@ returns c = record {
   run = (two_lines_set_up, taken_so);
   set_up = so_set_up two_lines two_lines_set_up;
   begun = any_from_one (λ (one : Begun). one ≡ lifted_anew) (begun_in (of_line 1 (sent_of (lives saved_anew).life.setup (lives saved_anew).life.took))) (inl refl);
+  apart = two_apart (lives saved_anew) (lives (stepping (ticking 1) ∷ [])).life announced_alike (record { id = 21; moment = 2; text = codes "RSIP 21 *@rgw.example.net MGCP 1.0\r\nRM: restart\r\n" })
+      (record { id = 10000020; moment = 2; text = lifted_anew.text }) refl refl refl (λ same. absurd cc) (λ same. absurd cc);
   goes = life_goes two_lines (lives saved_anew) lifted_anew.text refl;
   late = leb-true _ _ refl;
   seven = refl;
   carried = λ number copy left. by_place number (copies two_lines (lives saved_anew) 1 lifted_anew.text number copy) left;
+  heard = carried_last.heard;
   taken = refl;
   answered = refl;
 }

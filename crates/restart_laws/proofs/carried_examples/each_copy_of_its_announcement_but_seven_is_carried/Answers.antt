@@ -37,11 +37,13 @@ handed_back number is =
 carried_last : IsCarriedInLives two_lines own_saved_anew its_announcement 8
 unfolding on_examples
 carried_last = record {
-  before = own_last_copy_anew;
-  rest = stepping (delivering 9) ∷ [];
-  order = refl;
-  copy = record { letter = _; found = refl; of = refl; sender = refl; goes = refl; inside = any_from_one (λ (one : List ℕ). one ≡ its_announcement.text) (its_announcement.text ∷ []) (inl refl) };
-  room = ltb-true _ _ refl;
+  heard = record {
+    before = own_last_copy_anew;
+    rest = stepping (delivering 9) ∷ [];
+    order = refl;
+    copy = record { letter = _; found = refl; of = refl; sender = refl; goes = refl; inside = any_from_one (λ (one : List ℕ). one ≡ its_announcement.text) (its_announcement.text ∷ []) (inl refl) };
+    room = ltb-true _ _ refl;
+  };
   back = λ number answer. handed_back number (number_is number answer refl refl);
 }
 

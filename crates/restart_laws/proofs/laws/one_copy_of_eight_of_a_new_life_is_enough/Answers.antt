@@ -8,6 +8,7 @@ use Rattle.outage_laws.specs.Alone.{HasResponse}
 use Rattle.restart_laws.specs.AfterRestart.{IsRunOfLives}
 use Rattle.restart_laws.proofs.LivesCame.{came_taken}
 use Rattle.restart_laws.proofs.LivesCarried.{line_answered, own_answered}
+use Rattle.restart_laws.proofs.LivesOfLife.{heard_is_taken}
 use Rattle.restart_laws.proofs.LivesRefused.{so_set_up}
 use Rattle.restart_laws.proofs.laws.one_copy_of_eight_of_a_new_life_is_enough.Goals as goal
 
@@ -28,3 +29,6 @@ returns-clause-own c = λ setup steps b lost run began by few carries. taken_too
 
 pub returns-clause-line_answered : goal.returns-clause-line_answered
 returns-clause-line_answered c = λ setup steps line b lost set_up began goes by few carries. line_answered setup steps set_up line b lost began goes by few carries
+
+pub returns-clause-of_this_life : goal.returns-clause-of_this_life
+returns-clause-of_this_life c = λ setup steps line b number run began apart heard. heard_is_taken setup steps line b number run.0 run.1 began apart heard
