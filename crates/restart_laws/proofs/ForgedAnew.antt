@@ -1,12 +1,13 @@
 -- A gateway that isn't set up well, whose first life told the agent a notification that has the id of one of the next life's; for a worked
 -- example.
-use Rattle.std.proofs.Common.{◌≡◌, ◌+◌, ◌≤◌, true, List, [], ◌∷◌, ◌++◌, codes, drop, length, inl, refl, sym, ap, ◌∙◌}
+use Rattle.std.proofs.Common.{◌≡◌, ◌+◌, ◌≤◌, true, List, [], ◌∷◌, ◌++◌, drop, length, inl, refl, sym, ap, ◌∙◌}
 use Rattle.std.proofs.lemmas.Bool.{leb-true}
 use Rattle.plain_machine.specs.Event.{GatewayEvent, tick}
 use Rattle.machine_laws.specs.Saying.{Begun, OneOf}
 use Rattle.outage_laws.specs.MorePremises.{forging}
 use Rattle.life_laws.specs.Lives.{number_of, plain_lives}
 use Rattle.restart_laws.specs.AfterRestart.{began_then}
+use Rattle.restart_laws.specs.CarriedExample.{forged_notification}
 use Rattle.restart_laws.specs.ToldPhoneExample.{IsToldAnew, asked_by_forger, forged_anew, forger_firsts, forger_took, forger_took_between, lifted_by_forger}
 use Rattle.restart_laws.proofs.Computing.{on_examples}
 use Rattle.restart_laws.proofs.LivesApart.{life_parted}
@@ -18,7 +19,7 @@ one_more_life : number_of (plain_lives forging asked_by_forger) ≡ 1
 unfolding on_examples
 one_more_life = refl
 
-no_more_then : number_of (plain_lives forging lifted_by_forger) ≡ 1
+pub no_more_then : number_of (plain_lives forging lifted_by_forger) ≡ 1
 unfolding on_examples
 no_more_then = refl
 
@@ -48,15 +49,12 @@ split =
 
 -- What it began then, which isn't taken
 
-abbrev its_notification : Begun
-its_notification = record { id = 10000000; moment = 1; text = codes "NTFY 10000000 aaln/1@rgw.example.net MGCP 1.0\r\nX: C2\r\nO: L/hd\r\n" }
-
-began_so : OneOf (λ (one : Begun). one ≡ its_notification)
+began_so : OneOf (λ (one : Begun). one ≡ forged_notification)
     (began_then (plain_lives forging forged_anew) 1 (forger_took asked_by_forger) (forger_took_between asked_by_forger lifted_by_forger ++ tick 2 ∷ []))
 unfolding on_examples
 began_so = inl refl
 
-since_so : 1 ≤ (plain_lives forging forged_anew).life.start + its_notification.moment
+since_so : 1 ≤ (plain_lives forging forged_anew).life.start + forged_notification.moment
 unfolding on_examples
 since_so = leb-true 1 ((plain_lives forging forged_anew).life.start + 1) refl
 
@@ -69,6 +67,6 @@ others_so = refl
 
 pub not_told : IsToldAnew forging forged_anew 1 (forger_took asked_by_forger) (forger_took_between asked_by_forger lifted_by_forger) (tick 2 ∷ []) → ⊥
 not_told =
-    untold_by_one (plain_lives forging forged_anew) 1 its_notification
+    untold_by_one (plain_lives forging forged_anew) 1 forged_notification
     (began_then (plain_lives forging forged_anew) 1 (forger_took asked_by_forger) (forger_took_between asked_by_forger lifted_by_forger ++ tick 2 ∷ [])) _ 1
     ((0, 10000000) ∷ (1, 1) ∷ []) began_so since_so no_more_life firsts_then others_so

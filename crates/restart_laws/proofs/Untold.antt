@@ -38,7 +38,7 @@ none_is life id (key ∷ keys) others (inl both) =
 none_is life id (key ∷ keys) others (inr one) =
     none_is life id keys (and_parts (not ((key.0 == life) && (key.1 == id))) (are_others life id keys) others).1 one
 
-untaken : (w : LivesWorld) (b : Begun) (number : ℕ) (keys : List (ℕ × ℕ)) → number_of w ≡ number → map brought_key (firsts_of_lives w) ≡ keys → are_others number b.id keys ≡ true
+pub untaken : (w : LivesWorld) (b : Begun) (number : ℕ) (keys : List (ℕ × ℕ)) → number_of w ≡ number → map brought_key (firsts_of_lives w) ≡ keys → are_others number b.id keys ≡ true
     → TookOfLife w b → ⊥
 untaken w b number keys this same others any =
     none_is (number_of w) b.id keys (subst (λ (n : ℕ). are_others n b.id keys ≡ true) (sym this) others)

@@ -1,14 +1,16 @@
 -- The worlds of the worked examples of the copies of what a new life sends: line 1 of a gateway that started again is lifted.
 use Rattle.std.specs.Prelude.{codes, List, [], ◌∷◌, ◌++◌}
+use Rattle.mg_line.specs.declared.phone.Act.TheVariants.{OffHook}
 use Rattle.machine_laws.specs.Saying.{Begun}
-use Rattle.agent_core.specs.World.{delivering, ticking}
-use Rattle.world_laws.specs.Example.{seconds}
+use Rattle.agent_core.specs.World.{delivering, dialling, ticking}
+use Rattle.world_laws.specs.Example.{announced, seconds}
 use Rattle.delivery_laws.specs.Example.{elsewhere, notified, own_responded, up_to}
 use Rattle.outage_laws.specs.Example.{all_lost, last_copy, saved}
 use Rattle.outage_laws.specs.Premises.{all_elsewhere, announced_anew, answered_untaken, own_all_lost, own_answered_untaken, twenty_behind}
-use Rattle.life_laws.specs.Lives.{LivesStep}
+use Rattle.life_laws.specs.Lives.{LivesStep, restarting}
 use Rattle.life_laws.specs.Example.{in_one_life}
-use Rattle.restart_laws.specs.Example.{behind_a_start}
+use Rattle.restart_laws.specs.Example.{behind_a_start, lifted_anew}
+use Rattle.restart_laws.specs.ToldPhoneExample.{asked_by_forger}
 
 -- its notification has been sent eight times, packets 3 to 10; the last copy is handed over, and its answer, packet 11
 abbrev pub last_copy_anew : List LivesStep
@@ -84,3 +86,28 @@ sent_away = in_one_life (own_responded (codes "521 1") elsewhere ++ delivering 1
 
 abbrev pub announced_away : Begun
 announced_away = record announced_anew { moment = 1 }
+
+-- Where a copy is handed to the agent, which has room, and isn't taken as one of that life
+
+-- the gateway started again with the same number: its announcement, packet 2, has the id of its first life's
+abbrev pub alike_yet : List LivesStep
+alike_yet = in_one_life announced ++ restarting 0 ∷ in_one_life (ticking 2 ∷ [])
+
+-- or so it does a minute later, and the clock is put back
+abbrev pub put_back_yet : List LivesStep
+put_back_yet = in_one_life (announced ++ ticking 60001 ∷ []) ++ restarting 0 ∷ in_one_life (ticking 60002 ∷ ticking 3 ∷ [])
+
+-- it is handed over
+abbrev pub copy_handed : List LivesStep → List LivesStep
+copy_handed before = before ++ in_one_life (delivering 2 ∷ [])
+
+-- a command with an id that none has
+abbrev pub never_lifted : Begun
+never_lifted = record lifted_anew { id = 7 }
+
+-- where the first life of a gateway that isn't set up well told a notification, line 1 is lifted, and its own, packet 7, has that id
+abbrev pub lifted_yet : List LivesStep
+lifted_yet = asked_by_forger ++ in_one_life (dialling 1 OffHook ∷ [])
+
+abbrev pub forged_notification : Begun
+forged_notification = record { id = 10000000; moment = 1; text = codes "NTFY 10000000 aaln/1@rgw.example.net MGCP 1.0\r\nX: C2\r\nO: L/hd\r\n" }

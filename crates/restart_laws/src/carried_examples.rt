@@ -11,11 +11,12 @@ ghost use Rattle.delivery_laws.specs.Chances.{last_chance};
 ghost use Rattle.delivery_laws.specs.Example.{dotted, lifted};
 ghost use Rattle.outage_laws.specs.Alone.{HasBegun};
 ghost use Rattle.outage_laws.specs.Example.{announcement};
+ghost use Rattle.outage_laws.specs.MorePremises.{forging};
 ghost use Rattle.outage_laws.specs.Premises.{never_begun};
 ghost use Rattle.life_laws.specs.Apart.{LieApart};
 ghost use Rattle.life_laws.specs.Example.{firsts_after, lives};
 ghost use Rattle.life_laws.specs.Lives.{clock_of, lives_are_taken, lives_of, lives_opening, number_of, plain_lives, stepping};
-ghost use Rattle.restart_laws.specs.AfterRestart.{AgentHasRoomNow, IsRunOfLives, LifeGoesToAgent};
+ghost use Rattle.restart_laws.specs.AfterRestart.{AgentHasRoomNow, IsRunOfLives, LifeGoesToAgent, TookOfLife};
 ghost use Rattle.restart_laws.specs.CarriedBack.{IsAnswerToLife, IsCarriedInLives, IsCopyOfLife, IsHandedThen, IsHeardInLives};
 ghost use Rattle.restart_laws.specs.CarriedBack.{IsSetUpButForFirst};
 ghost use Rattle.restart_laws.specs.CarriedExample.{all_lost_anew, elsewhere_anew, notified_anew, parted_anew, parted_on, saved_anew};
@@ -23,8 +24,10 @@ ghost use Rattle.restart_laws.specs.CarriedExample.{announced_just_now, its_anno
 ghost use Rattle.restart_laws.specs.CarriedExample.{own_parted_on, own_saved_anew};
 ghost use Rattle.restart_laws.specs.CarriedExample.{announced_away, answered_all_the_same, own_answered_all_the_same, sent_away};
 ghost use Rattle.restart_laws.specs.CarriedExample.{last_copy_anew, own_last_copy_anew, own_unanswered_copy, unanswered_copy};
-ghost use Rattle.restart_laws.specs.Example.{life_with, lifted_anew, reported_astray, responses_after};
+ghost use Rattle.restart_laws.specs.CarriedExample.{alike_yet, copy_handed, forged_notification, never_lifted, put_back_yet};
+ghost use Rattle.restart_laws.specs.Example.{announced_alike, life_with, lifted_anew, reported_astray, responses_after};
 ghost use Rattle.restart_laws.specs.InFlightExample.{responses_with};
+ghost use Rattle.restart_laws.specs.ToldPhoneExample.{forger_firsts, lifted_by_forger};
 
 /// Seven copies of a notification of a new life are lost, packets 3 to 9, and each that isn't is carried: the last one is, and its answer.
 /// All that the law asks for holds at once, and it is taken, and a response comes.
@@ -192,4 +195,48 @@ pub fn else_its_announcement_is_sent_away()
         Any (λ (n : ℕ). n ≡ number) (0 ∷ []) }
     ensures not_taken { firsts_after sent_away ≡ [] }
     ensures none_came { responses_after sent_away ≡ 1 ∷ [] }
+{}
+
+/// A copy that is handed to the agent may be taken for an earlier life's, whose id it has: where that began less than a minute before, or a
+/// step is refused, by which the clock is put back. And a copy that isn't handed over isn't taken.
+pub fn else_a_copy_is_taken_for_an_earlier_one()
+    ensures run { IsRunOfLives two_lines (copy_handed alike_yet) }
+    ensures begun { HasBegun (lives (copy_handed alike_yet)).life.setup (lives (copy_handed alike_yet)).life.took 0 announced_alike }
+    ensures not_apart { ¬ LieApart (lives_of (lives (copy_handed alike_yet))) }
+    ensures heard { IsHeardInLives two_lines (copy_handed alike_yet) announced_alike 2 }
+    ensures none_of_it { firsts_after (copy_handed alike_yet) ≡ (0, 1) ∷ [] }
+    ensures set_up { IsSetUp two_lines }
+    ensures refused { lives_are_taken two_lines (lives_opening two_lines) (copy_handed put_back_yet) ≡ false }
+    ensures begun_then { HasBegun (lives (copy_handed put_back_yet)).life.setup (lives (copy_handed put_back_yet)).life.took 0
+        announced_alike }
+    ensures apart_then { LieApart (lives_of (lives (copy_handed put_back_yet))) }
+    ensures heard_then { IsHeardInLives two_lines (copy_handed put_back_yet) announced_alike 2 }
+    ensures none_of_it_then { firsts_after (copy_handed put_back_yet) ≡ (0, 1) ∷ [] }
+    ensures run_lost { IsRunOfLives two_lines all_lost_anew }
+    ensures begun_lost { HasBegun (lives all_lost_anew).life.setup (lives all_lost_anew).life.took 1 lifted_anew }
+    ensures apart_lost { LieApart (lives_of (lives all_lost_anew)) }
+    ensures not_heard { ¬ IsHeardInLives two_lines all_lost_anew lifted_anew 3 }
+    ensures none_lost { firsts_after all_lost_anew ≡ (1, 21) ∷ [] }
+{}
+
+/// And what never began isn't taken, though a copy of its text is handed over.
+pub fn else_a_copy_is_of_nothing_begun()
+    ensures run { IsRunOfLives two_lines saved_anew }
+    ensures apart { LieApart (lives_of (lives saved_anew)) }
+    ensures not_begun { ¬ HasBegun (lives saved_anew).life.setup (lives saved_anew).life.took 1 never_lifted }
+    ensures heard { IsHeardInLives two_lines saved_anew never_lifted 10 }
+    ensures none_with_its_id { firsts_after saved_anew ≡ (1, 21) ∷ (1, 10000020) ∷ [] }
+{}
+
+/// And where the gateway isn't set up well what its first life answered may have a notification in it, for which a copy of the next life's is
+/// taken, though their ids lie apart.
+pub fn else_a_copy_is_taken_for_a_forged_one()
+    ensures not_set_up { ¬ IsSetUp forging }
+    ensures steps { lives_are_taken forging (lives_opening forging) lifted_by_forger ≡ true }
+    ensures begun { HasBegun (plain_lives forging lifted_by_forger).life.setup (plain_lives forging lifted_by_forger).life.took 1
+        forged_notification }
+    ensures apart { LieApart (lives_of (plain_lives forging lifted_by_forger)) }
+    ensures heard { IsHeardInLives forging lifted_by_forger forged_notification 7 }
+    ensures of_the_first { forger_firsts lifted_by_forger ≡ (0, 10000000) ∷ (1, 1) ∷ [] }
+    ensures not_taken { ¬ TookOfLife (plain_lives forging lifted_by_forger) forged_notification }
 {}
