@@ -56,6 +56,7 @@ pub fn else_no_copy_of_a_new_life_is_carried()
     ensures goes { LifeGoesToAgent dotted (plain_lives dotted parted_on) parted_anew.text }
     ensures late { (life_with dotted parted_on).start + parted_anew.moment + last_chance ≤ clock_of dotted (plain_lives dotted parted_on) }
     ensures no_copy { (number : ℕ) → ¬ IsCopyOfLife dotted (plain_lives dotted parted_on) 1 parted_anew.text number }
+    ensures none_parted { responses_with dotted parted_on ≡ 21 ∷ [] }
     ensures run_there { IsRunOfLives two_lines elsewhere_anew }
     ensures begun_there { HasBegun (lives elsewhere_anew).life.setup (lives elsewhere_anew).life.took 1 reported_astray }
     ensures goes_not { ¬ LifeGoesToAgent two_lines (lives elsewhere_anew) reported_astray.text }

@@ -33,6 +33,7 @@ returns c = record {
   goes = life_goes dotted (plain_lives dotted parted_on) parted_anew.text refl;
   late = leb-true _ _ refl;
   no_copy = λ number copy. absurd (copies dotted (plain_lives dotted parted_on) 1 parted_anew.text number copy);
+  none_parted = refl;
   run_there = (two_lines_set_up, refl);
   begun_there = any_from_one (λ (one : Begun). one ≡ reported_astray)
       (begun_in (of_line 1 (sent_of (lives elsewhere_anew).life.setup (lives elsewhere_anew).life.took))) (inl refl);
