@@ -7,7 +7,7 @@ use Rattle.plain_machine.specs.Arriving.{arrivals_of}
 use Rattle.machine_laws.specs.Saying.{Begun}
 use Rattle.agent_core.specs.World.{delivering, dialling, ticking}
 use Rattle.world_laws.specs.Example.{announced}
-use Rattle.delivery_laws.specs.Example.{notified}
+use Rattle.delivery_laws.specs.Example.{notified, up_to}
 use Rattle.outage_laws.specs.Example.{answered_late, lost_at_first}
 use Rattle.outage_laws.specs.Premises.{answer_on_its_way, notified_four_times, on_its_way, own_all_lost, own_answered_late}
 use Rattle.outage_laws.specs.Premises.{own_lost_at_first, own_on_its_way, own_put_back, put_back}
@@ -54,6 +54,14 @@ notified_before =
     in_one_life (notified ++ delivering 2 ∷ delivering 3 ∷ ticking 60001 ∷ []) ++ restarting 0
     ∷ in_one_life (ticking 60002 ∷ delivering 4 ∷ delivering 5 ∷ dialling 1 OffHook ∷ ticking 64001 ∷ ticking 3 ∷ delivering 6
     ∷ delivering 7 ∷ delivering 8 ∷ delivering 9 ∷ ticking 68001 ∷ [])
+
+-- Where lives' ids don't lie apart: the gateway starts again with the same number. Four copies of its notification, packets 6 to 9, come at
+-- 4,002, and are taken for repeats of its first life's; the answers take 4,000 ms.
+abbrev pub notified_alike : List LivesStep
+notified_alike =
+    in_one_life (notified ++ delivering 2 ∷ delivering 3 ∷ []) ++ restarting 0
+    ∷ in_one_life (ticking 2 ∷ delivering 4 ∷ delivering 5 ∷ dialling 1 OffHook ∷ up_to 4 ++ ticking 4002 ∷ delivering 6
+    ∷ delivering 7 ∷ delivering 8 ∷ delivering 9 ∷ ticking 5001 ∷ ticking 6001 ∷ ticking 7001 ∷ ticking 8001 ∷ [])
 
 -- Where there was no time yet
 

@@ -17,7 +17,7 @@ ghost use Rattle.life_laws.specs.Example.{firsts_after, lives};
 ghost use Rattle.restart_laws.specs.AfterRestart.{AgentHasRoomThen, IsRunOfLives, LifeGoesToAgent, LivesAreFairFrom};
 ghost use Rattle.restart_laws.specs.Example.{answered_anew, life_took, life_with, never_heard, responses_after};
 ghost use Rattle.restart_laws.specs.InFlightExample.{announced_before, announced_now, answered_before, answered_now};
-ghost use Rattle.restart_laws.specs.InFlightExample.{endless_announcement, firsts_with, lifted_now, notified_before};
+ghost use Rattle.restart_laws.specs.InFlightExample.{endless_announcement, firsts_with, lifted_now, notified_alike, notified_before};
 ghost use Rattle.restart_laws.specs.InFlightExample.{own_answered_before, own_lost_for_good, own_unheard_yet, own_untaken_yet};
 ghost use Rattle.restart_laws.specs.InFlightExample.{responses_with, too_long, unheard_yet, untaken_yet};
 
@@ -149,4 +149,20 @@ pub fn else_what_a_new_life_sends_had_no_time()
     ensures too_late { (lives own_lost_for_good).life.start + announcement.moment + last_chance < 19502 }
     ensures none_left { firsts_after own_lost_for_good ≡ [] }
     ensures none_left_came { responses_after own_lost_for_good ≡ [] }
+{}
+
+/// Nor is it taken as one of its life where an earlier life's command of the line has its id, for which it is taken.
+pub fn else_what_a_new_life_tells_is_a_repeat()
+    ensures run { IsRunOfLives two_lines notified_alike }
+    ensures fair { LivesAreFairFrom two_lines notified_alike 2 4000 }
+    ensures room { AgentHasRoomThen two_lines notified_alike 2 }
+    ensures start { (lives notified_alike).life.start ≡ 1 }
+    ensures begun { HasBegun (lives notified_alike).life.setup (life_took notified_alike) 1 lifted }
+    ensures goes { LifeGoesToAgent two_lines (lives notified_alike) lifted.text }
+    ensures in_flight { 2 ≤ 1 + lifted.moment + last_chance }
+    ensures not_apart { ¬ LieApart (lives_of (lives notified_alike)) }
+    ensures late { 1 + lifted.moment + 4000 ≤ clock_of two_lines (lives notified_alike) }
+    ensures late_since { 2 + longest_pause + 4000 ≤ clock_of two_lines (lives notified_alike) + 1 }
+    ensures none_of_this_life { firsts_after notified_alike ≡ (0, 1) ∷ (0, 10000000) ∷ [] }
+    ensures none_came { responses_after notified_alike ≡ 1 ∷ [] }
 {}
