@@ -10,12 +10,13 @@ ghost use Rattle.delivery_laws.specs.Example.{endless, lifted};
 ghost use Rattle.outage_laws.specs.AfterOutage.{longest_pause};
 ghost use Rattle.outage_laws.specs.Alone.{HasBegun};
 ghost use Rattle.outage_laws.specs.Example.{announcement};
-ghost use Rattle.outage_laws.specs.Premises.{announced_anew, lifted_late, never_begun, wordy, wordy_notification};
+ghost use Rattle.outage_laws.specs.Premises.{announced_anew, lifted_late, never_begun, reported_elsewhere, wordy, wordy_notification};
 ghost use Rattle.life_laws.specs.Apart.{LieApart};
 ghost use Rattle.life_laws.specs.Lives.{clock_of, lives_are_taken, lives_of, lives_opening, plain_lives};
 ghost use Rattle.life_laws.specs.Example.{firsts_after, lives};
 ghost use Rattle.restart_laws.specs.AfterRestart.{AgentHasRoomThen, IsRunOfLives, LifeGoesToAgent, LivesAreFairFrom};
-ghost use Rattle.restart_laws.specs.Example.{answered_anew, life_took, life_with, never_heard, responses_after};
+ghost use Rattle.restart_laws.specs.Example.{answered_anew, life_took, life_with, lifted_elsewhere, lost_for_good, never_heard};
+ghost use Rattle.restart_laws.specs.Example.{responses_after};
 ghost use Rattle.restart_laws.specs.InFlightExample.{announced_before, announced_now, answered_before, answered_now};
 ghost use Rattle.restart_laws.specs.InFlightExample.{endless_announcement, firsts_with, lifted_now, notified_alike, notified_before};
 ghost use Rattle.restart_laws.specs.InFlightExample.{own_answered_before, own_lost_for_good, own_unheard_yet, own_untaken_yet};
@@ -165,4 +166,18 @@ pub fn else_what_a_new_life_tells_is_a_repeat()
     ensures late_since { 2 + longest_pause + 4000 ≤ clock_of two_lines (lives notified_alike) + 1 }
     ensures none_of_this_life { firsts_after notified_alike ≡ (0, 1) ∷ (0, 10000000) ∷ [] }
     ensures none_came { responses_after notified_alike ≡ 1 ∷ [] }
+{}
+
+/// And no response comes where it goes elsewhere, or where the last of its sends was before; nor is one there 2 ms sooner than the law says
+/// that it is taken.
+pub fn else_no_response_comes_either()
+    ensures room_elsewhere { AgentHasRoomThen two_lines lifted_elsewhere 0 }
+    ensures begun_elsewhere { HasBegun (lives lifted_elsewhere).life.setup (life_took lifted_elsewhere) 1 reported_elsewhere }
+    ensures none_elsewhere { responses_after lifted_elsewhere ≡ 1 ∷ [] }
+    ensures room_for_good { AgentHasRoomThen two_lines lost_for_good 19502 }
+    ensures begun_for_good { HasBegun (lives lost_for_good).life.setup (life_took lost_for_good) 1 lifted }
+    ensures goes_for_good { LifeGoesToAgent two_lines (lives lost_for_good) lifted.text }
+    ensures none_for_good { responses_after lost_for_good ≡ 1 ∷ [] }
+    ensures none_yet { responses_after untaken_yet ≡ 1 ∷ [] }
+    ensures own_none_yet { responses_after own_untaken_yet ≡ [] }
 {}
