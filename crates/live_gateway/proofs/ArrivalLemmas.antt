@@ -25,13 +25,13 @@ more_strangers a b was = ap (λ (n : ℕ). let x : MessageTally = record was { s
 
 -- nothing came
 pub found_none : (was is : MessageTally) → is ≡ was → CountsFound was None is
-found_none was is same = record { strangers = 0; tally = same ∙ no_strangers was; }
+found_none was is same = record { strangers = 0; tally = same ∙ no_strangers was }
 
 -- a stranger's did
 pub strange_found : (was : Journal) (time : ℕ) (source : SocketAddrV4) (is : Journal) → TurnsAway was time source is → CountsFound was.tally.value None is.tally.value
 strange_found was time source is turned = by_port (nat_lt 0 source.port) refl where
   by_port : (b : Bool) → nat_lt 0 source.port ≡ b → CountsFound was.tally.value None is.tally.value
-  by_port true port = record { strangers = 1; tally = (turned.port port).tally; }
+  by_port true port = record { strangers = 1; tally = (turned.port port).tally }
   by_port false none = found_none was.tally.value is.tally.value (ap (λ (journal : Journal). journal.tally.value) (turned.portless none))
 
 -- what is counted behind what counted no datagram but strangers'
