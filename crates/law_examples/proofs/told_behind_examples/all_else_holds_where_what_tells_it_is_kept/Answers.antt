@@ -10,7 +10,7 @@ use Rattle.delivery_laws.specs.OnceExample.{five, hung_up, six}
 use Rattle.delivery_laws.proofs.ExampleLemmas.{to_agent, took_split, two_lines_set_up}
 use Rattle.delivery_laws.proofs.FrontLemmas.{agent_has_room, asked_within}
 use Rattle.told_laws.specs.Stretch.{IsOnItsWay}
-use Rattle.outage_laws.specs.SinceThenExample.{ToldFrom, done_between, taken_between}
+use Rattle.outage_laws.specs.SinceThenExample.{done_between, taken_between}
 use Rattle.law_examples.specs.ToldBehindExample.{kept_in_step, put_back_in_step, rested_in_step}
 use Rattle.law_examples.proofs.Computing.{on_examples}
 use Rattle.outage_laws.proofs.FairFromExamples.{room_from}
