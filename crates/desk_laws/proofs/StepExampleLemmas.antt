@@ -1,7 +1,8 @@
 -- Desks of a gateway and an exchange of which so much is known.
-use Rattle.std.proofs.Common.{◌≡◌, ℕ, ◌<◌, ◌≤◌, Bool, true, false, if◌then◌else◌, List, [], ◌∷◌, Option, Some, None, refl, sym, ap, subst, ◌∙◌, arith}
-use Rattle.std.specs.Prelude.{◌-◌, ◌^◌, nat_le, slice_get}
+use Rattle.std.proofs.Common.{◌≡◌, ℕ, ◌<◌, ◌≤◌, Bool, true, false, if◌then◌else◌, List, [], ◌∷◌, Option, Some, None, inl, inr, refl, sym, ap, subst, ◌∙◌, arith}
+use Rattle.std.specs.Prelude.{◌⊎◌, ◌-◌, ◌^◌, nat_le, slice_get}
 use Rattle.std.proofs.lemmas.Bool.{leb-true}
+use Rattle.std.proofs.lemmas.Option.{none-some}
 use Rattle.call_routing.specs.declared.fate.PutOff.{PutOff}
 use Rattle.live_agent.specs.declared.care.Duty.{Duty}
 use Rattle.live_agent.specs.declared.care.Care.{Care}
@@ -9,12 +10,13 @@ use Rattle.live_agent.specs.declared.gateway.Gateway.{Gateway}
 use Rattle.live_agent.specs.declared.gateway.Wake.{Wake}
 use Rattle.live_agent.specs.declared.office.Office.{Office}
 use Rattle.live_agent.specs.AgentClock.{tick_to}
-use Rattle.live_agent.specs.Duties.{again_at}
-use Rattle.live_agent.specs.Orders.{again_of, flight_of}
+use Rattle.live_agent.specs.Duties.{again_at, landed, woken}
+use Rattle.live_agent.specs.Orders.{again_of, cared, flight_of}
 use Rattle.live_agent.specs.Wakes.{first_woken}
-use Rattle.desk_laws.specs.Desk.{Desk, DeskTurn, after_turn, after_turns, answered_for, answers, desk_of, happens, held_by, opening_desk, taken_at, ticks, wakes_next, woken_by}
+use Rattle.desk_laws.specs.Desk.{Desk, DeskTurn, after_turn, after_turns, answered, answered_for, answers, behind, desk_of, happens, held_by, opening_desk, taken_at, ticks, wakes_next, woken_by}
 use Rattle.desk_laws.specs.StepExample.{AreSo}
 use Rattle.desk_laws.proofs.AnswerLemmas.{desk_at}
+use Rattle.desk_laws.proofs.CareLemmas.{Was, after_care}
 use Rattle.desk_laws.proofs.DeskLaws.{ordered_wakes}
 use Rattle.desk_laws.proofs.WakeLemmas.{AllBy, InOrder}
 
@@ -79,6 +81,58 @@ not_back was is back leads_to =
     (let on : was.now ≤ (after_turns was leads_to.0).now = all_now was leads_to.0 in
     let there : (after_turns was leads_to.0).now ≡ is.now = ap (λ (desk : Desk). desk.now) leads_to.1 in
     omega (arith, on, there, back))
+
+-- No line comes
+
+none_behind : (change : Care → Care) (cares : List Care) (of line : ℕ) → slice_get cares line ≡ None → slice_get (cared change cares of) line ≡ None
+none_behind change cares of line none = by_found (slice_get (cared change cares of) line) refl where
+  by_case : (care : Care) → Was change cares of line care ⊎ (slice_get cares line ≡ Some care) → slice_get (cared change cares of) line ≡ None
+  by_case care (inl was) = absurd (none-some was.before (sym (ap (λ (n : ℕ). slice_get cares n) (sym was.same) ∙ none) ∙ was.there))
+  by_case care (inr there) = absurd (none-some care (sym none ∙ there))
+
+  by_found : (found : Option Care) → slice_get (cared change cares of) line ≡ found → slice_get (cared change cares of) line ≡ None
+  by_found None at = at
+  by_found (Some care) at = by_case care (after_care change cares of line care at)
+
+held_none : (desk : Desk) (of : ℕ) (cares : List Care) (again : Option ℕ) (is_refused : Bool) (line : ℕ) → slice_get cares line ≡ None
+    → slice_get (held_by desk of cares again is_refused).cares line ≡ None
+held_none desk of cares None is_refused line none = none
+held_none desk of cares (Some moment) true line none = none_behind (woken moment) cares of line none
+held_none desk of cares (Some moment) false line none = none
+
+answered_none : (flight : Option Duty) (desk : Desk) (of code : ℕ) (off : Option PutOff) (is_refused : Bool) (line : ℕ)
+    → slice_get desk.cares line ≡ None → slice_get (answered_for flight desk of code off is_refused).cares line ≡ None
+answered_none None desk of code off is_refused line none = none
+answered_none (Some duty) desk of code off is_refused line none =
+    held_none desk of (taken_at desk of duty code off) (again_of (slice_get (taken_at desk of duty code off) of)) is_refused line
+    (none_behind (answered duty desk.now code off) (cared landed desk.cares of) of line (none_behind landed desk.cares of line none))
+
+woken_none : (first : Option Wake) (desk : Desk) (line : ℕ) → slice_get desk.cares line ≡ None → slice_get (woken_by first desk).cares line ≡ None
+woken_none None desk line none = none
+woken_none (Some wake) desk line none = none_behind (woken wake.moment) desk.cares wake.line line none
+
+ticked_none : (desk : Desk) (moment : ℕ) (b : Bool) (line : ℕ) → slice_get desk.cares line ≡ None
+    → slice_get (if b then record desk { now = tick_to desk.now moment } else desk).cares line ≡ None
+ticked_none desk moment true line none = none
+ticked_none desk moment false line none = none
+
+turn_none : (desk : Desk) (turn : DeskTurn) (line : ℕ) → slice_get desk.cares line ≡ None → slice_get (after_turn desk turn).cares line ≡ None
+turn_none desk (happens of one) line none = none_behind (behind one) desk.cares of line none
+turn_none desk (answers of code off is_refused) line none =
+    answered_none (flight_of (slice_get desk.cares of)) desk of code off is_refused line none
+turn_none desk wakes_next line none = woken_none (first_woken desk.now desk.wakes) desk line none
+turn_none desk (ticks moment) line none = ticked_none desk moment (nat_le desk.now (tick_to desk.now moment)) line none
+
+all_none : (desk : Desk) (turns : List DeskTurn) (line : ℕ) → slice_get desk.cares line ≡ None → slice_get (after_turns desk turns).cares line ≡ None
+unfolding after_turns
+all_none desk [] line none = none
+all_none desk (turn ∷ turns) line none = all_none (after_turn desk turn) turns line (turn_none desk turn line none)
+
+pub no_line_comes : (was is : Desk) (line : ℕ) (care : Care) → slice_get was.cares line ≡ None → slice_get is.cares line ≡ Some care
+    → ((more : List DeskTurn) × (after_turns was more ≡ is)) → ⊥
+no_line_comes was is line care none there leads_to =
+    none-some care
+    (sym (all_none was leads_to.0 line none) ∙ ap (λ (desk : Desk). slice_get desk.cares line) leads_to.1 ∙ there)
 
 -- Where no turns lead from the start
 

@@ -6,6 +6,7 @@ ghost use Rattle.std.specs.Prelude.{◌≡◌, [], ◌∷◌, ℕ, Bool, List, t
 ghost use Rattle.std.specs.Global.{Box};
 ghost use Rattle.call_routing.specs.declared.command.Outcome.{Outcome};
 ghost use Rattle.call_routing.specs.declared.told.Told.{Told};
+ghost use Rattle.live_agent.specs.declared.care.Care.{Care};
 ghost use Rattle.live_agent.specs.declared.care.Duty.TheVariants.{Audit};
 ghost use Rattle.live_agent.specs.declared.gateway.Gateway.{Gateway};
 ghost use Rattle.live_agent.specs.declared.office.Office.{Office};
@@ -71,6 +72,20 @@ pub fn calls_run_one_after_another()
     ensures goes_back { (gateway : Gateway) → Ticks true 100 (record gateway { ticked = 500 }) (record gateway { ticked = 100 }) }
     ensures else_a_clock_goes_back { (gateway : Gateway) (office : Office) → ¬ ((more : List DeskTurn)
         × (after_turns (desk_of (record gateway { ticked = 500 }) office) more ≡ desk_of (record gateway { ticked = 100 }) office)) }
+{}
+
+/// No turns bring a line: so none lead to what is no call's work, as that there is one line more, whatever becomes of the gateway, and of
+/// the exchange; nor does one turn of both.
+pub fn else_a_line_comes()
+    ensures turns { (gateway after : Gateway) (was is : Office) (care : Care) → was.cares.items ≡ care ∷ [] →
+        is.cares.items ≡ care ∷ new_care ∷ [] → ¬ ((more : List DeskTurn) × (after_turns (desk_of gateway was) more ≡ desk_of after is)) }
+    ensures answered { (gateway after : Gateway) (was is : Office) (care : Care) → was.cares.items ≡ care ∷ [] →
+        is.cares.items ≡ care ∷ new_care ∷ [] → ¬ ((more : List DeskTurn) × (after_turns (desk_of gateway was) more
+        ≡ record { now = gateway.ticked; cares = is.cares.items; wakes = after.wakes.items })) }
+    ensures of_both { (line code : ℕ) (gateway after : Gateway) (was is : Office) (care : Care) → was.cares.items ≡ care ∷ [] →
+        is.cares.items ≡ care ∷ new_care ∷ [] → ¬ ((outcome : Outcome) × ((hook : Told) × ((is_refused : Bool)
+        × (attended_one (attended_of gateway was) (hears_answer line code outcome hook is_refused)
+        ≡ attended_with is.exchange (record { now = gateway.ticked; cares = is.cares.items; wakes = after.wakes.items }))))) }
 {}
 
 /// Where nothing is in flight to a line an answer, whatever it is, would have what was put off of it sent again a second time, out of the
