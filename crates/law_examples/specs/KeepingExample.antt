@@ -6,6 +6,8 @@ use Rattle.event_values.specs.declared.observed.Observed.TheVariants.{Happened}
 use Rattle.mg_packages.specs.declared.event.LineEvent.TheVariants as events
 use Rattle.mg_line.specs.declared.phone.Act.TheVariants.{Flash, Key, OffHook}
 use Rattle.mg_line.specs.declared.phone.Key.TheVariants.{Five}
+use Rattle.plain_machine.specs.Event.{GatewayEvent, phone}
+use Rattle.plain_machine.specs.Example.{response, rqnt}
 use Rattle.agent_core.specs.World.{WorldStep, delivering, dialling, issuing, ticking}
 use Rattle.world_laws.specs.Example.{announced}
 use Rattle.outage_laws.specs.LinePremises.{seconds_from}
@@ -61,3 +63,10 @@ flash_told = pressed_behind_the_flash ++ delivering 6 ∷ delivering 7 ∷ ticki
 -- a flash
 abbrev pub flash : Observed
 flash = Happened events.Flash
+
+-- Keys are collected, and behind one timer T is to run, until another comes: the line is lifted, which is answered, and key 5 is pressed
+
+abbrev pub dials_by_timer : List GatewayEvent
+dials_by_timer =
+    rqnt 7 (codes "aaln/1") (codes "X: A1\r\nR: L/hd(N),D/[0-9T](D)\r\nD: (xx)\r\nQ: loop\r\n") ∷ phone 1 OffHook ∷ response 200 10000000
+    ∷ phone 1 (Key Five) ∷ []

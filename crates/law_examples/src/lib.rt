@@ -10,6 +10,7 @@ pub mod fewer_examples;
 pub mod fewer_room_examples;
 pub mod keeping_examples;
 pub mod keeping_laws;
+pub mod premise_examples;
 pub mod response_examples;
 pub mod roomless_examples;
 pub mod sent_examples;
