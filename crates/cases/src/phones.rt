@@ -7,7 +7,7 @@
 //!   gw2 are at 127.0.0.2:2428.
 //! - `print ..` a line that it says at its end; `print status 1` its exit status.
 use crate::stories::{Clocks, Machine, Place, Program, Story, Transcript, told};
-use live_agent::{Played, play_phones};
+use live_checks::{Played, play_phones};
 use mg_bytes::{OutOfMemory, Text};
 use phone_scripts::{
     Failure, Player, Reader, Script, ScriptFault, Wanted, failure_text, fault_line,

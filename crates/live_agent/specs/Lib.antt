@@ -12,7 +12,6 @@ pub mod Boards
 pub mod Typed
 pub mod Example
 pub mod Clock
-pub mod Report
 pub mod Wiring
 pub mod Announcing
 pub mod Meaning

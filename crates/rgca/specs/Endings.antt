@@ -12,10 +12,10 @@ use Rattle.rgca.specs.declared.phone_words.PhoneWordFault.{PhoneWordFault}
 use Rattle.rgca.specs.declared.phone_words.PhoneWordFault.TheVariants as phone_faults
 use Rattle.rgca.specs.declared.load_words.LoadWordFault.{LoadWordFault}
 use Rattle.rgca.specs.declared.load_words.LoadWordFault.TheVariants as number_faults
-use Rattle.live_agent.specs.declared.check_fault.CheckFault.{CheckFault}
-use Rattle.live_agent.specs.declared.check_fault.CheckFault.TheVariants as check_faults
-use Rattle.live_agent.specs.declared.phones.Played.{Played as Play}
-use Rattle.live_agent.specs.declared.phones.Played.TheVariants as plays
+use Rattle.live_checks.specs.declared.check_fault.CheckFault.{CheckFault}
+use Rattle.live_checks.specs.declared.check_fault.CheckFault.TheVariants as check_faults
+use Rattle.live_checks.specs.declared.phones.Played.{Played as Play}
+use Rattle.live_checks.specs.declared.phones.Played.TheVariants as plays
 use Rattle.live_agent.specs.declared.loading.LoadEnding.{LoadEnding}
 use Rattle.live_agent.specs.declared.loading.LoadEnding.TheVariants as loads
 use Rattle.load_bench.specs.declared.settings.LoadFault.{LoadFault}

@@ -2,7 +2,7 @@
 use Rattle.std.specs.Prelude.{◌≡◌, ℕ, Bool, true, false, codes, List, Option, None, Some}
 use Rattle.std.specs.Net.Grammar.{IsSocketV4Text}
 use Rattle.std.specs.declared.net.socket_addr.SocketAddrV4.{SocketAddrV4}
-use Rattle.live_agent.specs.declared.telephone.Telephone.{Telephone}
+use Rattle.live_checks.specs.declared.telephone.Telephone.{Telephone}
 
 -- the address that a text behind a word says; none where nothing stands there
 abbrev pub IsBehind : Option (List ℕ) → Option SocketAddrV4 → Type 0

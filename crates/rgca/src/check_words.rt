@@ -9,7 +9,7 @@ use crate::help::CHECK_USAGE;
 use crate::words::{WordFault, address_behind};
 use clap::{ArgMatches, Command};
 use command_words::{Kind, matches_in};
-use live_agent::{CheckSettings, Telephone, is_check};
+use live_checks::{CheckSettings, Telephone, is_check};
 use live_ends::{AddressWord, CommonEnding, Outlet, boxed};
 use std::alloc::Global;
 use std::io::Write;

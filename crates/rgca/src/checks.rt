@@ -4,7 +4,7 @@ ghost use Rattle.rgca.specs.Names.{name_of, Says};
 
 use crate::check_words::{CheckWords, read_check_words};
 use crate::ending::{Ending, Named, Said, check_words_ending, unchecked_ending};
-use live_agent::{Checked, check_gateway, check_list, fault_text};
+use live_checks::{Checked, check_gateway, check_list, fault_text};
 use live_ends::{CommonEnding, Outlet, Outlets};
 use mg_bytes::OutOfMemory;
 use std::alloc::Global;

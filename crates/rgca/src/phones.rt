@@ -6,7 +6,7 @@ ghost use Rattle.rgca.specs.Names.{Says};
 use crate::ending::{Ending, Named, Said, phone_words_said};
 use crate::phone_files::read_script;
 use crate::phone_words::{PhoneSettings, read_phone_words};
-use live_agent::{Played, play_phones};
+use live_checks::{Played, play_phones};
 use live_ends::{AddressWord, CommonEnding, Live, SocketWanted};
 use mg_bytes::Text;
 use phone_scripts::{Failure, Player, Script, failure_text};

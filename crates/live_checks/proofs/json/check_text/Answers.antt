@@ -1,7 +1,7 @@
 use Rattle.std.proofs.Common.{subst, string_bytes}
 use Rattle.std.proofs.lemmas.Result.{IfOk-weaker}
 use Rattle.serde_json.specs.Written.{IsInOrder}
-use Rattle.live_agent.proofs.json.check_text.Goals as goal
+use Rattle.live_checks.proofs.json.check_text.Goals as goal
 
 -- the lines and the messages are those that were made of what was said and of what came
 pub returns : goal.returns

@@ -3,7 +3,7 @@ ghost use Rattle.std.specs.Prelude.{◌≡◌, fold, IfOk, OnOk, string_bytes};
 ghost use Rattle.serde_json.specs.Data.{Data, string, put as with_member};
 ghost use Rattle.serde_json.specs.View.{view, members_view};
 ghost use Rattle.serde_json.specs.Written.{IsInOrder};
-ghost use Rattle.live_agent.specs.Report.{with_text, with_count, check_data, tally_data, fault_data};
+ghost use Rattle.live_checks.specs.Report.{with_text, with_count, check_data, tally_data, fault_data};
 
 use gateway_checks::{Check, Tally, Verdict, word_of};
 use mg_bytes::OutOfMemory;

@@ -2,7 +2,6 @@
 use crate::check_fault::CheckFault;
 use crate::ends::Ends;
 use crate::json::{check_text, tally_text};
-use crate::serving::MICROSECONDS;
 use crate::telephone::Telephone;
 use gateway_checks::{
     Check, IN_USE, Names, Places, Player, SERVES, Tally, UNKNOWN, Verdict, all_checks, check_named,
@@ -14,6 +13,9 @@ use std::alloc::Global;
 use std::io::Write;
 use std::net::{Net, SocketAddrV4};
 use std::rt::Clock;
+
+// So many microseconds are a ms.
+const MICROSECONDS: u64 = 1000;
 
 // A check has so many ids.
 const IDS: u32 = 10;

@@ -1,7 +1,7 @@
 use Rattle.std.proofs.Common.{subst, string_bytes}
 use Rattle.std.proofs.lemmas.Result.{IfOk-weaker}
 use Rattle.serde_json.specs.Written.{IsInOrder}
-use Rattle.live_agent.proofs.json.tally_text.Goals as goal
+use Rattle.live_checks.proofs.json.fault_text.Goals as goal
 
 pub returns : goal.returns
 returns c =

@@ -1,7 +1,7 @@
 use Rattle.std.proofs.Common.{◌≡◌, drop, fold}
 use Rattle.serde_json.specs.View.{members_view}
-use Rattle.live_agent.specs.Report.{with_text}
-use Rattle.live_agent.proofs.json.put_texts.Given as goal
+use Rattle.live_checks.specs.Report.{with_text}
+use Rattle.live_checks.proofs.json.put_texts.Given as goal
 
 abbrev pub invariant-loop-name : goal.invariant-loop-name
 invariant-loop-name l =
