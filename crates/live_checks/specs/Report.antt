@@ -1,13 +1,29 @@
 -- The report of checks, as JSON: an object for each check, and one for how many came to what, or for why nothing can be checked.
-use Rattle.std.specs.Prelude.{ℕ, codes, List, Option}
+use Rattle.std.specs.Prelude.{ℕ, codes, List, map, Option}
 use Rattle.std.specs.Borrow.{Bor}
-use Rattle.serde_json.specs.Data.{Data, number, unsigned, string, object, Members, no_members, put}
+use Rattle.std.specs.Str.Lines.{lines}
+use Rattle.std.specs.Str.Lossy.{utf8_lossy}
+use Rattle.piggyback.specs.Parts.{parts_of}
+use Rattle.serde_json.specs.Data.{Data, number, unsigned, string, array, object, Members, no_members, put}
+use Rattle.serde_json.specs.View.{items_of}
 use Rattle.gateway_checks.specs.declared.check.Check.{Check}
 use Rattle.gateway_checks.specs.declared.judging.Verdict.{Verdict}
 use Rattle.gateway_checks.specs.declared.report.Tally.{Tally}
 use Rattle.gateway_checks.specs.Reporting.{word_of}
 
--- what came of a check: its name, the sections of its rule, the rule, the verdict's word, what was due, what came, and what was said
+-- a text, as the list of its lines
+abbrev pub lines_data : List ℕ → Data
+lines_data text = array (items_of (map string (lines text)))
+
+-- so a message; of its bytes what is no UTF-8 is replaced
+abbrev pub message_data : List ℕ → Data
+message_data message = lines_data (utf8_lossy message)
+
+-- the messages of a datagram that came
+abbrev pub messages_of : List ℕ → List Data
+messages_of datagram = map message_data (parts_of datagram)
+
+-- what came of a check: its name, the sections of its rule, the rule, the verdict's word, what was due, what was said, and what came
 abbrev pub check_data : Check → Option Verdict → List ℕ → Data → Data → Data
 check_data check verdict due said came =
     object (put (codes "said") said (put (codes "received") came (put (codes "expected") (string due)

@@ -1,9 +1,11 @@
 //! The report as JSON: an object a line, one for each check, and one for how many came to what.
-ghost use Rattle.std.specs.Prelude.{◌≡◌, fold, IfOk, OnOk, string_bytes};
-ghost use Rattle.serde_json.specs.Data.{Data, string, put as with_member};
-ghost use Rattle.serde_json.specs.View.{view, members_view};
+ghost use Rattle.std.specs.Prelude.{◌≡◌, [], ◌∷◌, ◌++◌, fold, map, IfOk, OnOk, string_bytes};
+ghost use Rattle.std.specs.List.{flat_map};
+ghost use Rattle.std.specs.Str.Lines.{lines};
+ghost use Rattle.serde_json.specs.Data.{string, array, put as with_member};
+ghost use Rattle.serde_json.specs.View.{view, members_view, items_of};
 ghost use Rattle.serde_json.specs.Written.{IsInOrder};
-ghost use Rattle.live_checks.specs.Report.{with_text, with_count, check_data, tally_data, fault_data};
+ghost use Rattle.live_checks.specs.Report.{lines_data, message_data, messages_of, with_text, with_count, check_data, tally_data, fault_data};
 
 use gateway_checks::{Check, Tally, Verdict, word_of};
 use mg_bytes::OutOfMemory;
@@ -11,36 +13,75 @@ use piggyback::parts;
 use serde_json::{Map, Value, put};
 use std::alloc::Global;
 
-// The lines of a text, without their ends; what is no UTF-8 is replaced.
-fn lines_value(alloc: Global, text: &[u8]) -> Result<Value, OutOfMemory> {
-    let text = String::from_utf8_lossy(alloc, text)?;
-    said_value(alloc, text.as_str())
+fn text_value(alloc: Global, text: &str) -> Result<Value, OutOfMemory>
+    ensures { IfOk result (λ value. view value ≡ string text.now) }
+{
+    let text = String::from_str(alloc, text)?;
+    Ok(Value::from(text))
+}
+
+// Puts a value behind the others.
+fn put_item(list: &mut Vec<Value>, value: Value) -> Result<(), OutOfMemory>
+    ensures { OnOk result (map view list.new.items ≡ map view list.old.items ++ view value ∷ []) }
+{
+    list.push(value)?;
+    Ok(())
+}
+
+// The lines of a text, each as a value.
+fn lines_in(alloc: Global, text: &str) -> Result<Vec<Value>, OutOfMemory>
+    ensures { IfOk result (λ list. map view list.items ≡ map string (lines text.now)) }
+{
+    let mut list = Vec::new(alloc);
+    for line in text.lines() {
+        put_item(&mut list, text_value(alloc, line)?)?;
+    }
+    Ok(list)
 }
 
 // What was said, a line a text.
-fn said_value(alloc: Global, said: &str) -> Result<Value, OutOfMemory> {
-    let mut lines = Vec::new(alloc);
-    for line in said.lines() {
-        lines.push(Value::String(String::from_str(alloc, line)?))?;
-    }
-    Ok(Value::Array(lines))
+fn said_value(alloc: Global, said: &str) -> Result<Value, OutOfMemory>
+    ensures { IfOk result (λ value. view value ≡ lines_data said.now) }
+{
+    let lines = lines_in(alloc, said)?;
+    Ok(Value::from(lines))
+}
+
+// The lines of a message; what is no UTF-8 is replaced.
+fn message_value(alloc: Global, message: &[u8]) -> Result<Value, OutOfMemory>
+    ensures { IfOk result (λ value. view value ≡ message_data message.now) }
+{
+    let text = String::from_utf8_lossy(alloc, message)?;
+    said_value(alloc, text.as_str())
 }
 
 // Puts the messages of a datagram, each as the list of its lines.
-fn put_messages(alloc: Global, out: &mut Vec<Value>, datagram: &[u8]) -> Result<(), OutOfMemory> {
+fn put_messages(alloc: Global, out: &mut Vec<Value>, datagram: &[u8]) -> Result<(), OutOfMemory>
+    ensures { OnOk result (map view out.new.items ≡ map view out.old.items ++ messages_of datagram.now) }
+{
     for text in parts(datagram) {
-        out.push(lines_value(alloc, text)?)?;
+        put_item(out, message_value(alloc, text)?)?;
     }
     Ok(())
 }
 
-// The messages of these datagrams.
-fn came_value(alloc: Global, came: &[Vec<u8>]) -> Result<Value, OutOfMemory> {
+// The messages of these datagrams, each as a value.
+fn messages_in(alloc: Global, came: &[Vec<u8>]) -> Result<Vec<Value>, OutOfMemory>
+    ensures { IfOk result (λ list. map view list.items ≡ flat_map (λ datagram. messages_of datagram.items) came.now) }
+{
     let mut messages = Vec::new(alloc);
     for datagram in came {
         put_messages(alloc, &mut messages, datagram.as_slice())?;
     }
-    Ok(Value::Array(messages))
+    Ok(messages)
+}
+
+// The messages of these datagrams.
+fn came_value(alloc: Global, came: &[Vec<u8>]) -> Result<Value, OutOfMemory>
+    ensures { IfOk result (λ value. view value ≡ array (items_of (flat_map (λ datagram. messages_of datagram.items) came.now))) }
+{
+    let messages = messages_in(alloc, came)?;
+    Ok(Value::from(messages))
 }
 
 // Puts a member that is a text.
@@ -52,8 +93,7 @@ fn put_text(
 ) -> Result<(), OutOfMemory>
     ensures { OnOk result (members_view map.new.entries ≡ with_member name.now (string text.now) (members_view map.old.entries)) }
 {
-    let text = String::from_str(alloc, text)?;
-    put(map, alloc, name, Value::from(text))
+    put(map, alloc, name, text_value(alloc, text)?)
 }
 
 // Puts members that are texts.
@@ -119,8 +159,8 @@ pub(crate) fn check_text(
     due: &str,
     came: &[Vec<u8>],
 ) -> Result<String, OutOfMemory>
-    ensures { IfOk result (λ text. (lines messages : Data)
-        × IsInOrder (string_bytes text) (check_data check.now verdict due.now lines messages)) }
+    ensures { IfOk result (λ text. IsInOrder (string_bytes text) (check_data check.now verdict due.now (lines_data said.now)
+        (array (items_of (flat_map (λ datagram. messages_of datagram.items) came.now))))) }
 {
     let said = said_value(alloc, said)?;
     let came = came_value(alloc, came)?;

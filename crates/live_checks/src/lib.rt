@@ -11,6 +11,7 @@ mod checking;
 mod ends;
 mod json;
 mod phones;
+pub mod report_examples;
 mod telephone;
 
 pub use crate::check_fault::CheckFault;
