@@ -4,3 +4,4 @@ pub mod TurnLemmas
 pub mod WaitingLemmas
 pub mod AnnounceLemmas
 pub mod StepExampleLemmas
+pub mod DueLemmas

@@ -17,3 +17,4 @@ pub mod Announcing
 pub mod Meaning
 pub mod Steps
 pub mod Ending
+pub mod Dues

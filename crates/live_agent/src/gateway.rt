@@ -7,6 +7,7 @@ ghost use Rattle.outbound.specs.Flight.{sent_first};
 ghost use Rattle.call_agent.specs.AgentStands.{AgentStands, AgentTook, AgentStays};
 ghost use Rattle.live_agent.specs.AgentClock.{first_id, tick_to};
 ghost use Rattle.live_agent.specs.Announcing.{is_new, last_new};
+ghost use Rattle.live_agent.specs.Dues.{FallsDueAt};
 ghost use Rattle.live_agent.specs.Wakes.{first_moment, first_woken, behind_woken};
 
 use crate::flight::Flight;
@@ -18,6 +19,7 @@ use mgcp_text::TransactionId;
 use plain_machine::{Event, Outputs, Refusal};
 use std::alloc::{AllocError, Global};
 use std::net::SocketAddrV4;
+use turns::earlier;
 
 // The clock of an agent goes on by no more than this at once, in ms.
 const LONGEST_TICK: u64 = 1000;
@@ -104,6 +106,16 @@ fn is_new(announced: Option<(u32, u64)>, id: u32, now: u64) -> bool
     match announced {
         None => true,
         Some((last, first)) => last != id || now.saturating_sub(first) >= REPEAT_TIME,
+    }
+}
+
+// When the first of these commands is sent again, in ms.
+fn first_moment(wakes: &[Wake]) -> Option<u64>
+    ensures { result ≡ first_moment wakes.now }
+{
+    match wakes.first() {
+        Some(wake) => Some(wake.moment),
+        None => None,
     }
 }
 
@@ -208,14 +220,11 @@ impl Gateway {
         }
     }
 
-    /// When a command is sent again next that was put off, in ms.
-    pub(crate) fn next_wake(&self) -> Option<u64>
-        ensures { result ≡ first_moment self.now.wakes.items }
+    /// When something falls due next at its agent, or a command is sent again that was put off, in ms.
+    pub(crate) fn next_due(&self) -> Option<u64>
+        ensures { FallsDueAt self.now result }
     {
-        match self.wakes.first() {
-            Some(wake) => Some(wake.moment),
-            None => None,
-        }
+        earlier(self.agent.next_due(), first_moment(self.wakes.as_slice()))
     }
 
     /// The next line to which a command is sent again by now. It isn't put off any more.

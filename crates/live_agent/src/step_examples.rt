@@ -1,13 +1,17 @@
 //! Worked examples of what a step of a board does, as theorems.
 #![tactic(auto, unfolding(crate::proofs::Computing::on_examples))]
 
-ghost use Rattle.std.specs.Prelude.{◌≡◌, [], ◌∷◌, ℕ, Bool, true, false, Option, Some, None};
+ghost use Rattle.std.specs.Prelude.{◌≡◌, [], ◌∷◌, ℕ, Bool, true, false, List, Option, Some, None};
 ghost use Rattle.std.specs.Global.{Box};
 ghost use Rattle.call_routing.specs.Exchange.{ExchangeState, opening, sent_to, told, answered};
 ghost use Rattle.live_agent.specs.declared.gateway.Gateway.{Gateway};
 ghost use Rattle.live_agent.specs.declared.office.Office.{Office};
 ghost use Rattle.live_agent.specs.declared.care.Duty.TheVariants.{Audit};
+ghost use Rattle.outbound.specs.Flight.{InFlight};
+ghost use Rattle.call_agent.specs.AgentStands.{AgentStands};
+ghost use Rattle.call_agent.specs.Hearing.{AgentEvent, plain_agent};
 ghost use Rattle.live_agent.specs.Boards.{Answers};
+ghost use Rattle.live_agent.specs.Dues.{FallsDue, FallsDueAt};
 ghost use Rattle.live_agent.specs.Duties.{announced, begun, lost, new_care, outlived, owed, told_care, told_of};
 ghost use Rattle.live_agent.specs.Showing.{shown_in};
 ghost use Rattle.live_agent.specs.Steps.{Announces, AnnouncesTo, Begins, Forgets, Hears, IssuesAt, OfOffice, Ticks, ToldOf, Wakens, settled_in};
@@ -78,4 +82,22 @@ pub fn what_an_answer_does_has_examples()
     ensures outlived { (gateway after : Gateway) (was is : Office) → gateway.ticked ≡ 500 →
         was.cares.items ≡ outlived (begun new_care) ∷ [] → gateway.wakes.items ≡ [] → is.exchange ≡ was.exchange →
         is.cares.items ≡ lost (outlived (begun new_care)) ∷ [] → after.wakes.items ≡ [] → Answers 0 400 [] gateway was after is }
+{}
+
+/// When something falls due next.
+pub fn what_falls_due_next_has_examples()
+    ensures no_gateway { FallsDue [] None }
+    // At the gateway at which that is earliest; and of a gateway when the first command is sent again that was put off, or what its agent
+    // does next, whichever is earlier.
+    ensures earliest { (one two three : Gateway) → FallsDueAt one (Some 700) → FallsDueAt two (Some 300) → FallsDueAt three None →
+        FallsDue (one ∷ two ∷ three ∷ []) (Some 300) }
+    ensures put_off { (gateway : Gateway) → gateway.wakes.items ≡ wake_at 700 0 ∷ wake_at 900 1 ∷ [] →
+        ((events : List AgentEvent) → AgentStands gateway.agent.value events →
+        (plain_agent gateway.agent.value.setup events).flights ≡ []) → FallsDueAt gateway (Some 700) }
+    ensures in_flight { (gateway : Gateway) (flight : InFlight) → gateway.wakes.items ≡ [] →
+        ((events : List AgentEvent) → AgentStands gateway.agent.value events →
+        (plain_agent gateway.agent.value.setup events).flights ≡ flight ∷ []) → FallsDueAt gateway (Some flight.due) }
+    ensures sooner { (gateway : Gateway) (flight : InFlight) → flight.due ≡ 600 → gateway.wakes.items ≡ wake_at 700 0 ∷ [] →
+        ((events : List AgentEvent) → AgentStands gateway.agent.value events →
+        (plain_agent gateway.agent.value.setup events).flights ≡ flight ∷ []) → FallsDueAt gateway (Some 600) }
 {}

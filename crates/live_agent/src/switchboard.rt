@@ -5,6 +5,7 @@ ghost use Rattle.call_agent.specs.Hearing.{hears};
 ghost use Rattle.call_agent.specs.AgentStands.{AgentTook};
 ghost use Rattle.live_agent.specs.AgentClock.{tick_to};
 ghost use Rattle.live_agent.specs.Boards.{is_at, settling_in, SettlesIn, taking_in, woken_at, WakesIn, Answers};
+ghost use Rattle.live_agent.specs.Dues.{FallsDue};
 ghost use Rattle.live_agent.specs.Meaning.{has_domain, meant};
 ghost use Rattle.live_agent.specs.Steps.{is_meant, line_behind, exchange_if, cares_if, settled_in, Announces, AnnouncesTo, AtPlace, Begins, Forgets, HearsSome, Issues, IssuesAt, OfOffice, Ticks, ToldAt, Wakens};
 ghost use Rattle.live_agent.specs.Waiting.{Settles};
@@ -349,11 +350,12 @@ impl Switchboard {
     }
 
     /// The moment at which something falls due next at an agent, or a command is sent again that was put off, in ms.
-    pub fn next_due(&self) -> Option<u64> {
+    pub fn next_due(&self) -> Option<u64>
+        ensures { FallsDue self.now.gateways.items result }
+    {
         let mut least = None;
         for gateway in self.gateways.iter() {
-            least = earlier(least, gateway.agent.next_due());
-            least = earlier(least, gateway.next_wake());
+            least = earlier(least, gateway.next_due());
         }
         least
     }

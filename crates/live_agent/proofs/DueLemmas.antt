@@ -1,0 +1,32 @@
+-- What falls due next, gateway by gateway.
+use Rattle.std.proofs.Common.{◌≡◌, ℕ, ◌+◌, ◌<◌, ◌≤◌, List, length, get_or, drop, Option, refl, sym, ap, subst, ◌∙◌}
+use Rattle.std.proofs.lemmas.List.{drop_more, at_drop_all}
+use Rattle.turns.specs.Clock.{earlier}
+use Rattle.live_agent.specs.declared.gateway.Gateway.{Gateway}
+use Rattle.live_agent.specs.declared.gateway.Wake.{Wake}
+use Rattle.live_agent.specs.Dues.{FallsDueAt, FallsDueFrom}
+use Rattle.live_agent.specs.Wakes.{first_moment}
+
+-- of what an agent does next, and of what is sent again that was put off, the earlier one
+pub earlier_so : (own flies wake due : Option ℕ) (wakes : List Wake) → due ≡ earlier own wake → own ≡ flies → wake ≡ first_moment wakes
+    → due ≡ earlier flies (first_moment wakes)
+earlier_so own flies wake due wakes due_is own_is wake_is =
+    due_is ∙ ap (λ (first : Option ℕ). earlier first wake) own_is ∙ ap (λ (other : Option ℕ). earlier flies other) wake_is
+
+-- one more of them is asked
+pub asks_one : (gateways : List Gateway) (place : ℕ) (gateway : Gateway) (least own next due : Option ℕ) → place < length gateways
+    → gateway ≡ get_or gateways place gateway → FallsDueAt gateway own → next ≡ earlier least own
+    → FallsDueFrom next (drop (place + 1) gateways) due → FallsDueFrom least (drop place gateways) due
+asks_one gateways place gateway least own next due within item own_is next_is falls =
+    subst (λ (left : List Gateway). FallsDueFrom least left due) (sym (drop_more gateways place gateway within)) (
+      own,
+      subst (λ (one : Gateway). FallsDueAt one own) item own_is,
+      subst (λ (from : Option ℕ). FallsDueFrom from (drop (place + 1) gateways) due) next_is falls,
+    )
+
+-- all were
+pub asked_all : (gateways : List Gateway) (place : ℕ) (least : Option ℕ) → length gateways ≤ place
+    → FallsDueFrom least (drop place gateways) least
+asked_all gateways place least past =
+    subst (λ (left : List Gateway). FallsDueFrom least left least)
+    (sym (at_drop_all (λ (left : List Gateway). left) gateways place past)) refl

@@ -1,0 +1,9 @@
+use Rattle.std.proofs.Common.{◌≡◌, rules}
+use Rattle.live_agent.specs.Wakes.{first_moment}
+use Rattle.live_agent.proofs.DueLemmas.{earlier_so}
+use Rattle.live_agent.proofs.gateway.Gateway.next_due.Goals as goal
+
+pub returns : goal.returns
+returns c = λ events stands.
+    let wake : c.first_moment.result ≡ first_moment c.args.self.now.wakes.items = search rules in
+    earlier_so _ _ _ _ c.args.self.now.wakes.items c.earlier.ensures (c.next_due.ensures events stands) wake
