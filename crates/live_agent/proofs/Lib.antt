@@ -1,5 +1,6 @@
 pub mod Computing
 pub mod FlightLemmas
+pub mod EndedLemmas
 pub mod TurnLemmas
 pub mod WaitingLemmas
 pub mod AnnounceLemmas

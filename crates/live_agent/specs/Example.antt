@@ -12,6 +12,7 @@ use Rattle.call_routing.specs.declared.command.Command.TheVariants.{Create}
 use Rattle.call_routing.specs.Line.{new_line, sent}
 use Rattle.call_routing.specs.Exchange.{ExchangeState}
 use Rattle.live_agent.specs.declared.care.Care.{Care}
+use Rattle.live_agent.specs.declared.flight.Flight.{Flight}
 use Rattle.live_agent.specs.declared.gateway.Wake.{Wake}
 use Rattle.live_agent.specs.Duties.{new_care, begun, landed}
 
@@ -49,6 +50,13 @@ creating = record {
 -- a command that was issued at moment 0
 abbrev pub issued : InFlight
 issued = sent_first 7 (One (agent_at 1)) (codes "AUEP 7 aaln/1 MGCP 1.0\r\n") 0
+
+-- one under an id that the exchange sent to a line
+abbrev pub flying : ℕ → ℕ → Flight
+flying id line = record {
+  pending = sent_first id (One (agent_at 1)) (codes "AUEP 7 aaln/1 MGCP 1.0\r\n") 0;
+  line = Some line;
+}
 
 -- a line whose deletion was put off at 500, for the first time: it is sent again at 1,500, or at once
 abbrev pub deleted_now : Care

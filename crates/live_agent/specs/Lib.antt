@@ -18,3 +18,4 @@ pub mod Meaning
 pub mod Steps
 pub mod Ending
 pub mod Dues
+pub mod Ended

@@ -94,7 +94,7 @@ impl Flight {
     /// Whether it is over at a moment (in ms): answered by a response with this id and return code; without a response, given up.
     pub(crate) fn is_over(&mut self, response: &Option<(TransactionId, u16)>, moment: u64) -> bool
         ensures over { (result, self.new.pending) ≡ over_by response.now self.old.pending moment }
-        ensures line { self.new.line ≡ self.old.line }
+        ensures rest { self.new ≡ record self.old { pending = self.new.pending } }
     {
         match response {
             None => is_given_up(&mut self.pending, moment),

@@ -1,5 +1,5 @@
 //! A gateway that a call agent works with.
-ghost use Rattle.std.specs.Prelude.{◌≡◌, ◌≤◌, [], ◌∷◌, ◌++◌, None, IfOk, OnOk, OnErr};
+ghost use Rattle.std.specs.Prelude.{◌≡◌, ◌≤◌, [], ◌∷◌, ◌++◌, None, IfOk, OnOk, OnErr, length, remove, slice_get};
 ghost use Rattle.endpoint_names.specs.declared.route.Route.TheVariants as routes;
 ghost use Rattle.plain_machine.specs.Event.{tick};
 ghost use Rattle.call_agent.specs.Hearing.{hears, issues};
@@ -8,6 +8,7 @@ ghost use Rattle.call_agent.specs.AgentStands.{AgentStands, AgentTook, AgentStay
 ghost use Rattle.live_agent.specs.AgentClock.{first_id, tick_to};
 ghost use Rattle.live_agent.specs.Announcing.{is_new, last_new};
 ghost use Rattle.live_agent.specs.Dues.{FallsDueAt};
+ghost use Rattle.live_agent.specs.Ended.{asked_in, first_ended, is_ended_in, still_flying};
 ghost use Rattle.live_agent.specs.Wakes.{first_moment, first_woken, behind_woken};
 
 use crate::flight::Flight;
@@ -117,6 +118,51 @@ fn first_moment(wakes: &[Wake]) -> Option<u64>
         Some(wake) => Some(wake.moment),
         None => None,
     }
+}
+
+// Whether the command at a place is over at a moment, in ms: answered by a response with this id and return code; without a response,
+// given up.
+fn is_ended_at(
+    flights: &mut Vec<Flight>,
+    place: usize,
+    response: &Option<(TransactionId, u16)>,
+    moment: u64,
+) -> bool
+    ensures over { result ≡ is_ended_in response.now moment (slice_get flights.old.items place) }
+    ensures flights { flights.new.items ≡ asked_in response.now moment flights.old.items place (slice_get flights.old.items place) }
+{
+    match flights.get_mut(place) {
+        Some(flight) => flight.is_over(response, moment),
+        None => false,
+    }
+}
+
+// The command at a place isn't among these any more, if it was.
+fn taken_at(flights: &mut Vec<Flight>, place: usize) -> Option<Flight>
+    ensures taken { result ≡ slice_get flights.old.items place }
+    ensures left { flights.new.items ≡ remove flights.old.items place }
+{
+    if place >= flights.len() {
+        return None;
+    }
+    Some(flights.remove(place))
+}
+
+// The first of these commands that is over at a moment, in ms. It isn't among them any more.
+fn first_ended(
+    flights: &mut Vec<Flight>,
+    response: &Option<(TransactionId, u16)>,
+    moment: u64,
+) -> Option<Flight>
+    ensures ended { result ≡ first_ended response.now moment flights.old.items }
+    ensures left { flights.new.items ≡ still_flying response.now moment flights.old.items }
+{
+    for place in 0..flights.len() {
+        if is_ended_at(flights, place, response, moment) {
+            return taken_at(flights, place);
+        }
+    }
+    None
 }
 
 impl Gateway {
@@ -243,18 +289,13 @@ impl Gateway {
 
     /// The command that a response with this id and return code answers; without a response, the next one that is given up by now. It
     /// isn't in flight any more.
-    pub(crate) fn ended(&mut self, response: Option<(TransactionId, u16)>) -> Option<Flight> {
+    pub(crate) fn ended(&mut self, response: Option<(TransactionId, u16)>) -> Option<Flight>
+        ensures ended { result ≡ first_ended response self.old.ticked self.old.flights.items }
+        ensures left { self.new.flights.items ≡ still_flying response self.old.ticked self.old.flights.items }
+        ensures rest { self.new ≡ record self.old { flights = self.new.flights } }
+    {
         let now = self.ticked;
-        for place in 0..self.flights.len() {
-            let is_over = match self.flights.get_mut(place) {
-                Some(flight) => flight.is_over(&response, now),
-                None => false,
-            };
-            if is_over && place < self.flights.len() {
-                return Some(self.flights.remove(place));
-            }
-        }
-        None
+        first_ended(&mut self.flights, &response, now)
     }
 
     /// Something is announced under this id: whether that is new.

@@ -11,6 +11,7 @@ mod care;
 pub mod examples;
 mod flight;
 mod gateway;
+pub mod hearing_examples;
 mod hooks;
 mod loading;
 mod office;
