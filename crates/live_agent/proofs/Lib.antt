@@ -1,6 +1,7 @@
 pub mod Computing
 pub mod FlightLemmas
 pub mod EndedLemmas
+pub mod IssueLemmas
 pub mod TurnLemmas
 pub mod WaitingLemmas
 pub mod AnnounceLemmas

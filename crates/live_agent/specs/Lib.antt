@@ -18,4 +18,5 @@ pub mod Meaning
 pub mod Steps
 pub mod Ending
 pub mod Dues
+pub mod Issuing
 pub mod Ended

@@ -1,5 +1,5 @@
 -- What a step of a board does to the exchange, and to what is kept of its lines beside that; and to what its gateways send again.
-use Rattle.std.specs.Prelude.{◌≡◌, ◌⊎◌, ℕ, zero, suc, ◌+◌, ◌-◌, ◌^◌, ◌==◌, min, Bool, true, false, is_none, if◌then◌else◌, List, Option, Some, None, IfSome, IsSomeAnd, Result, Ok, Err, slice_get}
+use Rattle.std.specs.Prelude.{◌≡◌, ◌⊎◌, ℕ, zero, suc, ◌+◌, ◌-◌, ◌^◌, ◌==◌, min, Bool, true, false, is_none, if◌then◌else◌, List, Option, Some, None, IfSome, IsSomeAnd, Result, Ok, Err, slice_get, slice_set}
 use Rattle.std.specs.Global.{Box}
 use Rattle.endpoint_names.specs.declared.name.Pattern.{Pattern}
 use Rattle.endpoint_names.specs.declared.name.Pattern.TheVariants.{One, All, Any}
@@ -137,6 +137,18 @@ ToldAt (Some line) was is = OfOffice (ToldOf line) was is
 -- the gateway at this place becomes so, if there is that one
 abbrev pub AtPlace : ℕ → (Gateway → Gateway → Type 0) → List Gateway → List Gateway → Type 0
 AtPlace place Does were are = IfSome (slice_get were place) (λ was. IsSomeAnd (slice_get are place) (λ is. Does was is))
+
+-- each gateway but the one at this place is as it was
+abbrev pub with_gateway : ℕ → Option Gateway → List Gateway → List Gateway
+with_gateway place None were = were
+with_gateway place (Some is) were = slice_set were place is
+
+abbrev pub OthersStay : ℕ → List Gateway → List Gateway → Type 0
+OthersStay place were are = are ≡ with_gateway place (slice_get are place) were
+
+-- a command may have been issued: its agent took that, and what is in flight may be more; all else of it is as it was
+abbrev pub Sends : Gateway → Gateway → Type 0
+Sends was is = is ≡ record was { agent = is.agent; flights = is.flights }
 
 -- its clock went on, or the tick was refused
 abbrev pub Ticks : Bool → ℕ → Gateway → Gateway → Type 0

@@ -3,12 +3,12 @@ ghost use Rattle.std.specs.Prelude.{◌≡◌, ◌≤◌, [], ◌∷◌, ◌++�
 ghost use Rattle.endpoint_names.specs.declared.route.Route.TheVariants as routes;
 ghost use Rattle.plain_machine.specs.Event.{tick};
 ghost use Rattle.call_agent.specs.Hearing.{hears, issues};
-ghost use Rattle.outbound.specs.Flight.{sent_first};
 ghost use Rattle.call_agent.specs.AgentStands.{AgentStands, AgentTook, AgentStays};
 ghost use Rattle.live_agent.specs.AgentClock.{first_id, tick_to};
 ghost use Rattle.live_agent.specs.Announcing.{is_new, last_new};
 ghost use Rattle.live_agent.specs.Dues.{FallsDueAt};
 ghost use Rattle.live_agent.specs.Ended.{asked_in, first_ended, is_ended_in, still_flying};
+ghost use Rattle.live_agent.specs.Issuing.{Flies};
 ghost use Rattle.live_agent.specs.Wakes.{first_moment, first_woken, behind_woken};
 
 use crate::flight::Flight;
@@ -218,9 +218,7 @@ impl Gateway {
     ) -> Result<Issued, IssueFault>
         ensures took { IfOk result (λ issued. AgentTook self.old.agent.value (issues verb.now name.now rest.now) self.new.agent.value
             (issued.datagram ∷ [])) }
-        ensures flight { IfOk result (λ issued. (flight : Flight) × (flight.line ≡ line) × (flight.pending
-            ≡ sent_first issued.id (routes.One issued.datagram.to) issued.datagram.bytes issued.datagram.moment)
-            × (self.new.flights.items ≡ self.old.flights.items ++ flight ∷ [])) }
+        ensures flight { IfOk result (λ issued. Flies line issued self.old self.new) }
         ensures others { self.new ≡ record self.old { agent = self.new.agent; flights = self.new.flights } }
     {
         let issued = self.agent.issue(verb, name, rest)?;

@@ -1,20 +1,29 @@
 //! Worked examples of what a step of a board does, as theorems.
 #![tactic(auto, unfolding(crate::proofs::Computing::on_examples))]
 
-ghost use Rattle.std.specs.Prelude.{◌≡◌, [], ◌∷◌, ℕ, Bool, true, false, List, Option, Some, None};
+ghost use Rattle.std.specs.Prelude.{◌≡◌, [], ◌∷◌, ℕ, Bool, true, false, List, Option, Some, None, Err};
 ghost use Rattle.std.specs.Global.{Box};
 ghost use Rattle.call_routing.specs.Exchange.{ExchangeState, opening, sent_to, told, answered};
 ghost use Rattle.live_agent.specs.declared.gateway.Gateway.{Gateway};
 ghost use Rattle.live_agent.specs.declared.office.Office.{Office};
+ghost use Rattle.live_agent.specs.declared.switchboard.Switchboard.{Switchboard};
 ghost use Rattle.live_agent.specs.declared.care.Duty.TheVariants.{Audit};
-ghost use Rattle.outbound.specs.Flight.{InFlight};
+ghost use Rattle.live_agent.specs.declared.care.Duty.TheVariants as duties;
+ghost use Rattle.live_agent.specs.declared.flight.Flight.{Flight};
+ghost use Rattle.endpoint_names.specs.declared.route.Route.TheVariants as routes;
+ghost use Rattle.outbound.specs.Flight.{InFlight, sent_first};
+ghost use Rattle.call_agent.specs.declared.issuing.Issued.{Issued};
+ghost use Rattle.call_agent.specs.declared.issuing.IssueFault.{IssueFault};
 ghost use Rattle.call_agent.specs.AgentStands.{AgentStands};
 ghost use Rattle.call_agent.specs.Hearing.{AgentEvent, plain_agent};
+ghost use Rattle.agent_texts.specs.declared.station.Station.{Station};
 ghost use Rattle.live_agent.specs.Boards.{Answers};
 ghost use Rattle.live_agent.specs.Dues.{FallsDue, FallsDueAt};
-ghost use Rattle.live_agent.specs.Duties.{announced, begun, lost, new_care, outlived, owed, told_care, told_of};
+ghost use Rattle.live_agent.specs.Duties.{announced, begun, fixed_order, lost, new_care, outlived, owed, told_care, told_of};
+ghost use Rattle.live_agent.specs.Issuing.{ordered_in, Flies, IssuesOrder, IssuesSettled, IssuesTo, SendsAlone, SendsAtMost};
+ghost use Rattle.live_agent.specs.Orders.{Shown, routed};
 ghost use Rattle.live_agent.specs.Showing.{shown_in};
-ghost use Rattle.live_agent.specs.Steps.{Announces, AnnouncesTo, Begins, Forgets, Hears, IssuesAt, OfOffice, Ticks, ToldOf, Wakens, settled_in};
+ghost use Rattle.live_agent.specs.Steps.{Announces, AnnouncesTo, Begins, Forgets, Hears, IssuesAt, OfOffice, OthersStay, Ticks, ToldOf, Wakens, settled_in};
 ghost use Rattle.live_agent.specs.Example.{audited, cleared, creating, deleted_later, deleted_now, found_off, wake_at};
 
 use call_routing::{Outcome, Told};
@@ -100,4 +109,35 @@ pub fn what_falls_due_next_has_examples()
     ensures sooner { (gateway : Gateway) (flight : InFlight) → flight.due ≡ 600 → gateway.wakes.items ≡ wake_at 700 0 ∷ [] →
         ((events : List AgentEvent) → AgentStands gateway.agent.value events →
         (plain_agent gateway.agent.value.setup events).flights ≡ flight ∷ []) → FallsDueAt gateway (Some 600) }
+{}
+
+/// What a line of a board is sent, and who issues it.
+pub fn what_a_line_is_sent_has_examples()
+    // What its duty says, or else the exchange; nothing where there is no exchange, or no such line.
+    ensures no_exchange { ordered_in 0 None ≡ None }
+    ensures no_line { (office : Box Office) → office.value.cares.items ≡ [] → ordered_in 0 (Some office) ≡ None }
+    ensures duty { (office : Box Office) → office.value.cares.items ≡ audited ∷ new_care ∷ [] →
+        ordered_in 1 (Some office) ≡ fixed_order duties.Clear }
+    ensures exchange { (office : Box Office) → office.value.cares.items ≡ audited ∷ [] →
+        ordered_in 0 (Some office) ≡ routed office.value.exchange 0 office.value.map }
+    // It is issued where it is sent, and nothing else is; to a line that there isn't, or whose gateway there isn't, nothing can be.
+    ensures nothing { (station : Option Station) (gateways : List Gateway) → IssuesOrder 0 None None station gateways gateways }
+    ensures unsent { (station : Option Station) (order : Shown) (gateways : List Gateway) →
+        IssuesOrder 0 (Some order) None station gateways gateways → ⊥ }
+    ensures unasked { (station : Option Station) (issued : Issued) (gateways : List Gateway) →
+        IssuesOrder 0 None (Some issued) station gateways gateways → ⊥ }
+    ensures no_station { (order : Shown) (fault : IssueFault) (gateways : List Gateway) →
+        IssuesTo 0 order (Err fault) None gateways gateways }
+    ensures no_gateway { (order : Shown) (fault : IssueFault) (station : Station) → IssuesTo 0 order (Err fault) (Some station) [] [] }
+    // It is in flight to its line, behind the others.
+    ensures in_flight { (issued : Issued) (flight other : Flight) (was is : Gateway) → flight.line ≡ Some 3 →
+        flight.pending ≡ sent_first issued.id (routes.One issued.datagram.to) issued.datagram.bytes issued.datagram.moment →
+        was.flights.items ≡ other ∷ [] → is.flights.items ≡ other ∷ flight ∷ [] → Flies (Some 3) issued was is }
+    ensures none_settled { (board : Switchboard) → IssuesSettled None None board board }
+    // All other gateways are as they were.
+    ensures none_sent { (board : Switchboard) → SendsAtMost None board board }
+    ensures no_station_sends { (gateways : List Gateway) → SendsAlone None gateways gateways }
+    ensures none_issued { (station : Station) (gateways : List Gateway) → SendsAlone (Some station) gateways gateways }
+    ensures others { (one two three other : Gateway) → OthersStay 1 (one ∷ two ∷ three ∷ []) (one ∷ other ∷ three ∷ []) }
+    ensures none_there { (one : Gateway) → OthersStay 1 (one ∷ []) (one ∷ []) }
 {}

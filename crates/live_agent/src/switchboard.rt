@@ -6,7 +6,9 @@ ghost use Rattle.call_agent.specs.AgentStands.{AgentTook};
 ghost use Rattle.live_agent.specs.AgentClock.{tick_to};
 ghost use Rattle.live_agent.specs.Boards.{is_at, settling_in, SettlesIn, taking_in, woken_at, WakesIn, Answers};
 ghost use Rattle.live_agent.specs.Dues.{FallsDue};
+ghost use Rattle.live_agent.specs.Issuing.{ordered_in, IssuesOrder, IssuesSettled, IssuesTo, SendsAlone, SendsAtMost};
 ghost use Rattle.live_agent.specs.Meaning.{has_domain, meant};
+ghost use Rattle.live_agent.specs.Orders.{shown};
 ghost use Rattle.live_agent.specs.Steps.{is_meant, line_behind, exchange_if, cares_if, settled_in, Announces, AnnouncesTo, AtPlace, Begins, Forgets, HearsSome, Issues, IssuesAt, OfOffice, Ticks, ToldAt, Wakens};
 ghost use Rattle.live_agent.specs.Waiting.{Settles};
 
@@ -384,7 +386,11 @@ impl Switchboard {
 
     // Issues a command of the exchange to a line.
     fn issue(&mut self, line: usize, order: &Order) -> Result<Issued, IssueFault>
-        ensures { self.new.office ≡ self.old.office }
+        ensures issued { IssuesTo line (shown order.now) result (slice_get self.old.stations.items line)
+            self.old.gateways.items self.new.gateways.items }
+        ensures alone { SendsAlone (slice_get self.old.stations.items line) self.old.gateways.items self.new.gateways.items }
+        ensures office { self.new.office ≡ self.old.office }
+        ensures rest { self.new ≡ record self.old { gateways = self.new.gateways } }
     {
         let Some(station) = self.stations.get(line) else {
             return Err(IssueFault::BadCommand);
@@ -420,6 +426,7 @@ impl Switchboard {
     // The command that is to be issued to a line now, if one is; it is in flight from then on. After an error, which is for want of
     // memory, it was given up.
     fn order(&mut self, line: usize) -> Result<Option<Order>, OutOfMemory>
+        ensures order { IfOk result (λ order. option_map shown order ≡ ordered_in line self.old.office) }
         ensures office { OfOffice (Begins line) self.old.office self.new.office }
         ensures rest { self.new ≡ record self.old { office = self.new.office } }
     {
@@ -431,14 +438,21 @@ impl Switchboard {
 
     // Issues what a line is to be sent now: what is to be sent, if anything is. Where it can't be issued it counts as given up.
     fn issue_to(&mut self, line: usize) -> Result<Option<Issued>, IssueFault>
-        ensures { Issues (is_err result) line self.old.office self.new.office }
+        ensures office { Issues (is_err result) line self.old.office self.new.office }
+        ensures issued { IfOk result (λ issued. IssuesOrder line (ordered_in line self.old.office) issued
+            (slice_get self.old.stations.items line) self.old.gateways.items self.new.gateways.items) }
+        ensures alone { SendsAlone (slice_get self.old.stations.items line) self.old.gateways.items self.new.gateways.items }
+        ensures rest { self.new ≡ record self.old { gateways = self.new.gateways; office = self.new.office } }
     {
-        let issued = match self.order(line) {
+        let order = match self.order(line) {
+            Ok(Some(order)) => order,
             Ok(None) => return Ok(None),
-            Ok(Some(order)) => self.issue(line, &order),
-            Err(_) => Err(IssueFault::OutOfMemory),
+            Err(_) => {
+                self.forget(line);
+                return Err(IssueFault::OutOfMemory);
+            }
         };
-        match issued {
+        match self.issue(line, &order) {
             Ok(issued) => Ok(Some(issued)),
             Err(fault) => {
                 self.forget(line);
@@ -450,7 +464,10 @@ impl Switchboard {
     /// Issues what the line that is settled so many behind the first is to be sent now: what is to be sent, if anything is. Where it
     /// can't be issued it counts as given up.
     pub fn issue_next(&mut self, index: usize) -> Result<Option<Issued>, IssueFault>
-        ensures { IssuesAt (settled_in index self.old.office) (is_err result) self.old.office self.new.office }
+        ensures office { IssuesAt (settled_in index self.old.office) (is_err result) self.old.office self.new.office }
+        ensures issued { IfOk result (λ issued. IssuesSettled (settled_in index self.old.office) issued self.old self.new) }
+        ensures alone { SendsAtMost (settled_in index self.old.office) self.old self.new }
+        ensures rest { self.new ≡ record self.old { gateways = self.new.gateways; office = self.new.office } }
     {
         match self.settled_at(index) {
             Some(line) => self.issue_to(line),
