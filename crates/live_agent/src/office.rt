@@ -515,6 +515,7 @@ impl Office {
         ensures order { IfOk result (λ order. option_map shown order
             ≡ ordered (slice_get self.old.cares.items line) self.old.exchange line self.old.map) }
         ensures begins { Begins line self.old.exchange self.old.cares.items self.new.exchange self.new.cares.items }
+        ensures rest { self.new ≡ record self.old { exchange = self.new.exchange; cares = self.new.cares } }
     {
         let Some(duty) = duty_of(change_at(&mut self.cares, line, Change::Begin)) else {
             return Ok(None);
@@ -534,6 +535,7 @@ impl Office {
         ensures sent { self.new.exchange ≡ sent_to self.old.exchange line }
         ensures cares { self.new.cares.items
             ≡ landed_if (is_none (due self.old.exchange line)) self.old.cares.items line }
+        ensures rest { self.new ≡ record self.old { exchange = self.new.exchange; cares = self.new.cares } }
     {
         let order = match routed(alloc, &mut self.exchange, line, self.map.as_bytes()) {
             Ok(order) => order,
@@ -555,6 +557,7 @@ impl Office {
         ensures answer { TakesAnswer (is_outlived (slice_get self.old.cares.items line)) line moment code text.now
             self.old.exchange self.old.cares.items self.new.exchange self.new.cares.items }
         ensures waits { waits self.new.worklist.waiting.items self.new.worklist.is_all line ≡ true }
+        ensures rest { self.new ≡ record self.old { exchange = self.new.exchange; cares = self.new.cares; worklist = self.new.worklist } }
     {
         if is_outlived(care_at(self.cares.as_slice(), line)) {
             return self.given_up(line);
@@ -594,6 +597,7 @@ impl Office {
             self.old.exchange self.old.cares.items self.new.exchange self.new.cares.items }
         ensures waits { waits self.new.worklist.waiting.items self.new.worklist.is_all line ≡ true }
         ensures again { result ≡ again_of (slice_get self.new.cares.items line) }
+        ensures rest { self.new ≡ record self.old { exchange = self.new.exchange; cares = self.new.cares; worklist = self.new.worklist } }
     {
         self.take_answer(alloc, line, moment, code, text);
         again_of(care_at(self.cares.as_slice(), line))
@@ -604,6 +608,7 @@ impl Office {
         ensures exchange { self.new.exchange ≡ self.old.exchange }
         ensures cares { self.new.cares.items ≡ cared (woken moment) self.old.cares.items line }
         ensures waits { waits self.new.worklist.waiting.items self.new.worklist.is_all line ≡ true }
+        ensures rest { self.new ≡ record self.old { cares = self.new.cares; worklist = self.new.worklist } }
     {
         let _ = change_at(&mut self.cares, line, Change::Wake { moment });
         self.worklist.put(line);
@@ -615,6 +620,7 @@ impl Office {
             ≡ forsaken self.old.exchange line (flight_of (slice_get self.old.cares.items line)) }
         ensures cares { self.new.cares.items ≡ cared lost self.old.cares.items line }
         ensures waits { waits self.new.worklist.waiting.items self.new.worklist.is_all line ≡ true }
+        ensures rest { self.new ≡ record self.old { exchange = self.new.exchange; cares = self.new.cares; worklist = self.new.worklist } }
     {
         touch(&mut self.worklist, &self.exchange, line);
         let duty = flight_of(change_at(&mut self.cares, line, Change::Lose));
@@ -627,6 +633,7 @@ impl Office {
         ensures hears { Hears (told_in self.old.plan observed.now) line self.old.exchange self.old.cares.items
             self.new.exchange self.new.cares.items }
         ensures waits { waits self.new.worklist.waiting.items self.new.worklist.is_all line ≡ true }
+        ensures rest { self.new ≡ record self.old { exchange = self.new.exchange; cares = self.new.cares; worklist = self.new.worklist } }
     {
         touch(&mut self.worklist, &self.exchange, line);
         take_told(
@@ -647,6 +654,7 @@ impl Office {
         ensures exchange { self.new.exchange ≡ announced_by is_restart self.old.exchange line }
         ensures cares { self.new.cares.items ≡ cared (announced is_restart) self.old.cares.items line }
         ensures waits { waits self.new.worklist.waiting.items self.new.worklist.is_all line ≡ true }
+        ensures rest { self.new ≡ record self.old { exchange = self.new.exchange; cares = self.new.cares; worklist = self.new.worklist } }
     {
         touch(&mut self.worklist, &self.exchange, line);
         restart(&mut self.exchange, line, is_restart);
@@ -666,6 +674,7 @@ impl Office {
             Shows stations.now line care.shown (shown_in self.old.exchange line) journal.old journal.new) }
         ensures cares { self.new.cares.items ≡ cared (told_of (shown_in self.old.exchange line)) self.old.cares.items line }
         ensures exchange { self.new.exchange ≡ self.old.exchange }
+        ensures rest { self.new ≡ record self.old { cares = self.new.cares } }
     {
         let is = shown_of(&self.exchange, line);
         let Some(was) = change_at(&mut self.cares, line, Change::Show { shown: is }) else {
