@@ -2,6 +2,7 @@ pub mod Computing
 pub mod FlightLemmas
 pub mod EndedLemmas
 pub mod IssueLemmas
+pub mod GivingUpLemmas
 pub mod TurnLemmas
 pub mod WaitingLemmas
 pub mod AnnounceLemmas

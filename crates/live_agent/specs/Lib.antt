@@ -20,3 +20,5 @@ pub mod Ending
 pub mod Dues
 pub mod Issuing
 pub mod Ended
+pub mod GivingUp
+pub mod Tallying

@@ -3,13 +3,16 @@ ghost use Rattle.std.specs.Prelude.{◌≡◌, ◌∷◌, ◌++◌, true, false,
 ghost use Rattle.plain_machine.specs.Event.{datagram, tick};
 ghost use Rattle.call_agent.specs.Hearing.{hears};
 ghost use Rattle.call_agent.specs.AgentStands.{AgentTook};
+ghost use Rattle.agent_texts.specs.Counts.{with_given_up};
 ghost use Rattle.live_agent.specs.AgentClock.{tick_to};
 ghost use Rattle.live_agent.specs.Boards.{is_at, settling_in, SettlesIn, taking_in, woken_at, WakesIn, Answers};
 ghost use Rattle.live_agent.specs.Dues.{FallsDue};
+ghost use Rattle.live_agent.specs.GivingUp.{ended_in, EndsAt, GivesUp};
 ghost use Rattle.live_agent.specs.Issuing.{ordered_in, IssuesOrder, IssuesSettled, IssuesTo, SendsAlone, SendsAtMost};
 ghost use Rattle.live_agent.specs.Meaning.{has_domain, meant};
 ghost use Rattle.live_agent.specs.Orders.{shown};
 ghost use Rattle.live_agent.specs.Steps.{is_meant, line_behind, exchange_if, cares_if, settled_in, Announces, AnnouncesTo, AtPlace, Begins, Forgets, HearsSome, Issues, IssuesAt, OfOffice, Ticks, ToldAt, Wakens};
+ghost use Rattle.live_agent.specs.Tallying.{counted_if};
 ghost use Rattle.live_agent.specs.Waiting.{Settles};
 
 use crate::flight::Flight;
@@ -489,21 +492,31 @@ impl Switchboard {
     }
 
     // The command that a response with this id and return code answers; without a response, the next one that is given up.
-    fn ended(&mut self, place: usize, response: Option<(TransactionId, u16)>) -> Option<Flight> {
+    fn ended(&mut self, place: usize, response: Option<(TransactionId, u16)>) -> Option<Flight>
+        ensures ended { result ≡ ended_in response (slice_get self.old.gateways.items place) }
+        ensures gateway { EndsAt place response self.old self.new }
+    {
         let gateway = self.gateways.get_mut(place)?;
         gateway.ended(response)
     }
 
     /// The next command to the gateway at this place that is given up by now is so: whether there is one. It is this time, in
     /// microseconds since 1970.
-    pub fn give_up(&mut self, journal: &mut Journal, place: usize, time: u64) -> bool {
+    pub fn give_up(&mut self, journal: &mut Journal, place: usize, time: u64) -> bool
+        ensures found { result ≡ is_some (ended_in None (slice_get self.old.gateways.items place)) }
+        ensures gives_up { GivesUp place self.old self.new }
+        ensures tally { journal.new.tally ≡ counted_if (is_some (ended_in None (slice_get self.old.gateways.items place)))
+            with_given_up journal.old.tally }
+        ensures rest { journal.new ≡ record journal.old { tally = journal.new.tally; told = journal.new.told; log = journal.new.log } }
+    {
         let Some(flight) = self.ended(place, None) else {
             return false;
         };
         journal.tell_given_up(time, flight.pending.to(), flight.pending.text());
-        if let Some(line) = flight.line {
-            self.forget(line);
-        }
+        let Some(line) = flight.line else {
+            return true;
+        };
+        self.forget(line);
         true
     }
 
