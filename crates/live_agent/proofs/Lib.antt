@@ -3,6 +3,7 @@ pub mod FlightLemmas
 pub mod EndedLemmas
 pub mod IssueLemmas
 pub mod GivingUpLemmas
+pub mod HearingLemmas
 pub mod TurnLemmas
 pub mod WaitingLemmas
 pub mod AnnounceLemmas

@@ -22,3 +22,4 @@ pub mod Issuing
 pub mod Ended
 pub mod GivingUp
 pub mod Tallying
+pub mod Hearing

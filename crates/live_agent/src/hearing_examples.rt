@@ -1,14 +1,24 @@
 //! Worked examples of what it is to a board that something comes from a gateway, as theorems.
 #![tactic(auto, unfolding(crate::proofs::Computing::on_examples))]
 
-ghost use Rattle.std.specs.Prelude.{◌≡◌, [], ◌∷◌, Option, Some, None, option_map};
+ghost use Rattle.std.specs.Prelude.{◌≡◌, [], ◌∷◌, ℕ, true, false, List, Option, Some, None, Ok, Err, codes, option_map};
 ghost use Rattle.std.specs.Global.{Box};
+ghost use Rattle.mgcp_text.specs.Reading.{read_text, takes_memory};
+ghost use Rattle.endpoint_names.specs.declared.name.NameFault.TheVariants.{Unknown};
+ghost use Rattle.agent_texts.specs.declared.journal.Journal.{Journal};
+ghost use Rattle.agent_texts.specs.declared.tally.Tally.{Tally};
 ghost use Rattle.live_agent.specs.declared.gateway.Gateway.{Gateway};
 ghost use Rattle.live_agent.specs.declared.office.Office.{Office};
+ghost use Rattle.live_agent.specs.declared.switchboard.Switchboard.{Switchboard};
+ghost use Rattle.live_agent.specs.declared.worklist.Worklist.{Worklist};
 ghost use Rattle.live_agent.specs.Ended.{first_ended, still_flying};
 ghost use Rattle.live_agent.specs.GivingUp.{ended_in, Ends, ForgetsFlight, ForgetsFor};
-ghost use Rattle.live_agent.specs.Steps.{Forgets, OfOffice};
-ghost use Rattle.live_agent.specs.Example.{flying};
+ghost use Rattle.live_agent.specs.Hearing.{announcement_counted, is_new_to, is_strange_at, line_meant, method_of, response_counted};
+ghost use Rattle.live_agent.specs.Hearing.{AnnouncesNew, AnnouncesWith, AnswersFor, AnswersIn, HearsText, HearsUnread, Notes, Waits};
+ghost use Rattle.live_agent.specs.Steps.{AnnouncesTo, Forgets, OfOffice};
+ghost use Rattle.live_agent.specs.Example.{flying, param};
+
+use endpoint_names::Pattern;
 
 /// Which command in flight is over.
 pub fn what_ends_has_examples()
@@ -30,4 +40,42 @@ pub fn what_ends_has_examples()
     ensures nothing_forgotten { (office : Option (Box Office)) → ForgetsFlight None office office }
     ensures typed { (office : Option (Box Office)) → ForgetsFor None office office }
     ensures sent { (was is : Option (Box Office)) → OfOffice (Forgets 1) was is → ForgetsFlight (Some (flying 8 1)) was is }
+{}
+
+/// What a response, an announcement, a notification and a strange name mean, and what counts.
+pub fn what_is_heard_has_examples()
+    // Nobody is told of an answer where there is no such gateway, or no exchange; nor of one to what was typed.
+    ensures answered_nowhere { (office : Option (Box Office)) → AnswersIn 0 200 [] None office None office }
+    ensures no_exchange { (gateway after : Gateway) → AnswersIn 0 200 [] (Some gateway) None (Some after) None }
+    ensures typed { (board : Switchboard) → AnswersFor 0 None 200 [] board board }
+    // Without a word for it lines are announced as started again.
+    ensures no_word { method_of None ≡ codes "restart" }
+    ensures word { method_of (Some (param (codes "RM") (codes "graceful"))) ≡ codes "graceful" }
+    // Case makes no difference to that; a word that the exchange doesn't know is nothing to it, nor is what isn't new.
+    ensures restart { (name : List ℕ) (gateway : Option Gateway) (was is : Option (Box Office)) → AnnouncesTo true name gateway was is →
+        AnnouncesWith (codes "Restart") name gateway was is }
+    ensures disconnected { (name : List ℕ) (gateway : Option Gateway) (was is : Option (Box Office)) →
+        AnnouncesTo false name gateway was is → AnnouncesWith (codes "disconnected") name gateway was is }
+    ensures graceful { (name : List ℕ) (gateway : Option Gateway) (office : Option (Box Office)) →
+        AnnouncesWith (codes "graceful") name gateway office office }
+    ensures again { (method name : List ℕ) (gateway : Option Gateway) (office : Option (Box Office)) →
+        AnnouncesNew false method name gateway office office }
+    ensures no_gateway { is_new_to 7 None ≡ false }
+    ensures first { (gateway : Gateway) → gateway.announced ≡ None → is_new_to 7 (Some gateway) ≡ true }
+    ensures noted { (was is : Gateway) → was.announced ≡ None → was.ticked ≡ 100 → is ≡ record was { announced = Some (7, 100) } →
+        Notes 7 was is }
+    // A notification is of one line, which has its place behind the first of its gateway.
+    ensures line { line_meant 4 (Ok (Pattern.One 2)) ≡ Some 5 }
+    ensures all { line_meant 4 (Ok Pattern.All) ≡ None }
+    ensures any { line_meant 4 (Ok Pattern.Any) ≡ None }
+    ensures none { line_meant 4 (Err Unknown) ≡ None }
+    ensures nobody_waits { (list : Worklist) → Waits None list list }
+    // What counts, and what doesn't.
+    ensures unanswered { (tally : Tally) → response_counted 7 200 None tally ≡ tally }
+    ensures not_new { (tally : Tally) → announcement_counted 7 None tally ≡ tally }
+    ensures unknown { is_strange_at (codes "aaln/1@here") None ≡ false }
+    // What is no message is nothing to it; nothing is told of what memory is refused for.
+    ensures no_message { (board : Switchboard) (journal : Journal) → HearsText 0 [] board journal board journal }
+    ensures unread { (text : List ℕ) (was is : Switchboard) (journal : Journal) → takes_memory (read_text text) ≡ true →
+        HearsUnread was is → HearsText 0 text was journal is journal }
 {}

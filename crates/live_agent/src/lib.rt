@@ -14,6 +14,7 @@ mod gateway;
 pub mod hearing_examples;
 mod hooks;
 mod loading;
+mod naming;
 mod office;
 mod recorder;
 mod responses;

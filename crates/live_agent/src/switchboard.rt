@@ -3,20 +3,25 @@ ghost use Rattle.std.specs.Prelude.{◌≡◌, ◌∷◌, ◌++◌, true, false,
 ghost use Rattle.plain_machine.specs.Event.{datagram, tick};
 ghost use Rattle.call_agent.specs.Hearing.{hears};
 ghost use Rattle.call_agent.specs.AgentStands.{AgentTook};
-ghost use Rattle.agent_texts.specs.Counts.{with_given_up};
+ghost use Rattle.agent_texts.specs.Counts.{with_given_up, with_strange_name};
 ghost use Rattle.live_agent.specs.AgentClock.{tick_to};
 ghost use Rattle.live_agent.specs.Boards.{is_at, settling_in, SettlesIn, taking_in, woken_at, WakesIn, Answers};
 ghost use Rattle.live_agent.specs.Dues.{FallsDue};
 ghost use Rattle.live_agent.specs.GivingUp.{ended_in, EndsAt, GivesUp};
+ghost use Rattle.live_agent.specs.Hearing.{is_new_to, is_strange, announcement_counted, command_counted, message_counted, response_counted};
+ghost use Rattle.live_agent.specs.Hearing.{AnnouncesWith, AnswersAt, HearsAnnouncement, HearsCommand, HearsMessage, HearsNotification, HearsResponse, HearsText, NotesAt};
 ghost use Rattle.live_agent.specs.Issuing.{ordered_in, IssuesOrder, IssuesSettled, IssuesTo, SendsAlone, SendsAtMost};
 ghost use Rattle.live_agent.specs.Meaning.{has_domain, meant};
 ghost use Rattle.live_agent.specs.Orders.{shown};
-ghost use Rattle.live_agent.specs.Steps.{is_meant, line_behind, exchange_if, cares_if, settled_in, Announces, AnnouncesTo, AtPlace, Begins, Forgets, HearsSome, Issues, IssuesAt, OfOffice, Ticks, ToldAt, Wakens};
+ghost use Rattle.live_agent.specs.Steps.{exchange_if, cares_if, settled_in, Announces, AnnouncesTo, AtPlace, Begins, Forgets, HearsSome, Issues, IssuesAt, OfOffice, Ticks, ToldAt, Wakens};
 ghost use Rattle.live_agent.specs.Tallying.{counted_if};
 ghost use Rattle.live_agent.specs.Waiting.{Settles};
 
 use crate::flight::Flight;
 use crate::gateway::{Gateway, Wake};
+use crate::naming::{
+    has_domain, is_meant, is_unknown, line_behind, line_meant, method_of, whole_name,
+};
 use crate::office::{Office, Order};
 use crate::typed::{TypedFault, typed_in};
 use crate::worklist::Worklist;
@@ -24,8 +29,8 @@ use agent_texts::{AgentConfig, Journal, Station, copied};
 use call_agent::{IssueFault, Issued};
 use call_routing::NumberPlan;
 use endpoint_names::{Pattern, read_name, write_name};
-use mg_bytes::{Draft, OutOfMemory, Sequence, Text, same_no_case, split_once};
-use mgcp_text::{Message, Param, TextFault, TransactionId, Verb, param_at, read_message};
+use mg_bytes::{OutOfMemory, Sequence, Text, same_no_case, split_once};
+use mgcp_text::{Message, Param, TextFault, TransactionId, Verb, read_message};
 use plain_machine::{Event, Outputs, Refusal};
 use std::alloc::Global;
 use std::net::SocketAddrV4;
@@ -88,17 +93,6 @@ fn plan_of(alloc: Global, stations: &[Station]) -> Result<NumberPlan, OutOfMemor
     Ok(NumberPlan::of(numbers))
 }
 
-// The whole name of an endpoint.
-fn whole_name(alloc: Global, local: &[u8], domain: &[u8]) -> Result<Vec<u8>, OutOfMemory>
-    ensures { IfOk result (λ name. name.items ≡ local.now ++ 64 ∷ domain.now) }
-{
-    let mut name = Draft::new(alloc);
-    name.put(local);
-    name.put_byte(b'@');
-    name.put(domain);
-    name.end()
-}
-
 fn is_at(gateway: &Gateway, address: SocketAddrV4) -> bool
     ensures { result ≡ is_at address gateway.now }
 {
@@ -125,29 +119,6 @@ fn answer_at(
         Ok(()) => {}
         Err(_) => office.wake(line, again),
     }
-}
-
-fn has_domain(gateway: &Gateway, domain: &[u8]) -> bool
-    ensures { result ≡ has_domain domain.now gateway.now }
-{
-    same_no_case(gateway.domain.as_bytes(), domain)
-}
-
-// Whether a name means the line that is so many behind the first of its gateway.
-fn is_meant(pattern: Pattern, before: u16) -> bool
-    ensures { result ≡ is_meant pattern before }
-{
-    match pattern {
-        Pattern::One(line) => usize::from(line) == usize::from(before) + 1,
-        Pattern::All | Pattern::Any => true,
-    }
-}
-
-// The place of the line that is so many behind the first, which has this one.
-fn line_behind(first: usize, before: u16) -> usize
-    ensures { result ≡ line_behind first before }
-{
-    first.saturating_add(usize::from(before))
 }
 
 // A line is there again, or lost its agent, if a name means it.
@@ -521,7 +492,9 @@ impl Switchboard {
     }
 
     // The exchange's command to a line of the gateway at this place was answered.
-    fn answer(&mut self, place: usize, line: usize, code: u16, text: &[u8]) {
+    fn answer(&mut self, place: usize, line: usize, code: u16, text: &[u8])
+        ensures { AnswersAt place line code text.now self.old self.new }
+    {
         let Some(gateway) = self.gateways.get_mut(place) else {
             return;
         };
@@ -564,14 +537,19 @@ impl Switchboard {
         id: TransactionId,
         code: u16,
         text: &[u8],
-    ) {
+    )
+        ensures hears { HearsResponse place id code text.now self.old self.new }
+        ensures tally { journal.new.tally ≡ response_counted id code (slice_get self.old.gateways.items place) journal.old.tally }
+        ensures rest { journal.new ≡ record journal.old { tally = journal.new.tally; told = journal.new.told } }
+    {
         let Some(flight) = self.ended(place, Some((id, code))) else {
             return;
         };
         journal.tell_answer(flight.pending.text(), text);
-        if let Some(line) = flight.line {
-            self.answer(place, line, code, text);
-        }
+        let Some(line) = flight.line else {
+            return;
+        };
+        self.answer(place, line, code, text);
     }
 
     // The lines of a gateway that a name means are there again, or lost their agent.
@@ -596,6 +574,29 @@ impl Switchboard {
         }
     }
 
+    // An announcement came under this id: whether that is new to the gateway at this place.
+    fn is_new_at(&mut self, place: usize, id: TransactionId) -> bool
+        ensures new { result ≡ is_new_to id (slice_get self.old.gateways.items place) }
+        ensures noted { NotesAt place id self.old self.new }
+    {
+        match self.gateways.get_mut(place) {
+            Some(gateway) => gateway.announces(id),
+            None => false,
+        }
+    }
+
+    // The lines of a gateway that a name means are announced by this word.
+    fn announce_as(&mut self, place: usize, name: &[u8], method: &[u8])
+        ensures office { AnnouncesWith method.now name.now (slice_get self.old.gateways.items place) self.old.office self.new.office }
+        ensures rest { self.new ≡ record self.old { office = self.new.office } }
+    {
+        if same_no_case(method, b"restart") {
+            self.announce(place, name, true);
+        } else if same_no_case(method, b"disconnected") {
+            self.announce(place, name, false);
+        }
+    }
+
     // An announcement came (RFC 3435, 2.3.12).
     fn hear_announcement(
         &mut self,
@@ -604,35 +605,51 @@ impl Switchboard {
         id: TransactionId,
         name: &[u8],
         params: &[Param<'_>],
-    ) {
-        let is_new = match self.gateways.get_mut(place) {
-            Some(gateway) => gateway.announces(id),
-            None => false,
-        };
-        if !is_new {
+    )
+        ensures hears { HearsAnnouncement place id name.now params.now self.old self.new }
+        ensures tally { journal.new.tally ≡ announcement_counted id (slice_get self.old.gateways.items place) journal.old.tally }
+        ensures rest { journal.new ≡ record journal.old { tally = journal.new.tally; told = journal.new.told } }
+    {
+        if !self.is_new_at(place, id) {
             return;
         }
-        let method = match param_at(b"RM", params) {
-            Some(param) => param.value.as_slice(),
-            None => b"restart",
-        };
+        let method = method_of(params);
         journal.tell_announcement(name, method);
-        if same_no_case(method, b"restart") {
-            self.announce(place, name, true);
-        } else if same_no_case(method, b"disconnected") {
-            self.announce(place, name, false);
-        }
+        self.announce_as(place, name, method);
     }
 
     // A notification came: what the agent took of it is to be taken of its line.
-    fn hear_notification(&mut self, place: usize, name: &[u8]) {
+    fn hear_notification(&mut self, place: usize, name: &[u8])
+        ensures { HearsNotification place name.now self.old self.new }
+    {
         let Some(gateway) = self.gateways.get(place) else {
             return;
         };
-        let named = read_name(name, gateway.domain.as_bytes(), gateway.lines);
-        if let Ok(Pattern::One(line)) = named {
-            let before = usize::from(line.saturating_sub(1));
-            self.notifying.put(gateway.first.saturating_add(before));
+        let domain = gateway.domain.as_bytes();
+        if let Some(line) = line_meant(name, domain, gateway.lines, gateway.first) {
+            self.notifying.put(line);
+        }
+    }
+
+    // A command came from the gateway at this place.
+    fn hear_command(
+        &mut self,
+        journal: &mut Journal,
+        place: usize,
+        verb: Verb,
+        id: TransactionId,
+        name: &[u8],
+        params: &[Param<'_>],
+    )
+        ensures hears { HearsCommand verb place id name.now params.now self.old self.new }
+        ensures tally { journal.new.tally ≡ command_counted verb id (slice_get self.old.gateways.items place) journal.old.tally }
+        ensures rest { journal.new ≡ record journal.old { tally = journal.new.tally; told = journal.new.told } }
+    {
+        match verb {
+            Verb::Rsip => self.hear_announcement(journal, place, id, name, params),
+            Verb::Ntfy => self.hear_notification(place, name),
+            Verb::Epcf | Verb::Rqnt | Verb::Crcx | Verb::Mdcx | Verb::Dlcx => {}
+            Verb::Auep | Verb::Aucx | Verb::Other => {}
         }
     }
 
@@ -643,48 +660,54 @@ impl Switchboard {
         place: usize,
         message: &Message<'_>,
         text: &[u8],
-    ) {
+    )
+        ensures hears { HearsMessage message.now place text.now self.old self.new }
+        ensures tally { journal.new.tally ≡ message_counted message.now (slice_get self.old.gateways.items place) journal.old.tally }
+        ensures rest { journal.new ≡ record journal.old { tally = journal.new.tally; told = journal.new.told } }
+    {
         match message {
             Message::Response { code, id, .. } => {
                 self.hear_response(journal, place, *id, *code, text);
             }
             Message::Command {
-                verb: Verb::Rsip,
+                verb,
                 id,
                 name,
                 params,
                 ..
-            } => self.hear_announcement(journal, place, *id, name.as_slice(), params.as_slice()),
-            Message::Command {
-                verb: Verb::Ntfy,
-                name,
-                ..
-            } => self.hear_notification(place, name.as_slice()),
-            Message::Command { .. } => {}
+            } => self.hear_command(
+                journal,
+                place,
+                *verb,
+                *id,
+                name.as_slice(),
+                params.as_slice(),
+            ),
         }
     }
 
     // Tells of a command whose name isn't of the gateway at this place.
-    fn tell_strange(
-        &self,
-        journal: &mut Journal,
-        place: usize,
-        message: &Message<'_>,
-        text: &[u8],
-    ) {
+    fn tell_strange(&self, journal: &mut Journal, place: usize, message: &Message<'_>, text: &[u8])
+        ensures tally { journal.new.tally ≡ counted_if (is_strange message.now (slice_get self.now.gateways.items place)) with_strange_name
+            journal.old.tally }
+        ensures rest { journal.new ≡ record journal.old { tally = journal.new.tally; told = journal.new.told } }
+    {
         let Message::Command { name, .. } = message else {
             return;
         };
         let Some(gateway) = self.gateways.get(place) else {
             return;
         };
-        if read_name(name.as_slice(), gateway.domain.as_bytes(), gateway.lines).is_err() {
+        if is_unknown(name.as_slice(), gateway.domain.as_bytes(), gateway.lines) {
             journal.tell_strange(text);
         }
     }
 
     /// A text came from the gateway at this place, of which its agent has heard.
-    pub fn hear(&mut self, journal: &mut Journal, place: usize, text: &[u8]) {
+    pub fn hear(&mut self, journal: &mut Journal, place: usize, text: &[u8])
+        ensures hears { HearsText place text.now self.old journal.old self.new journal.new }
+        ensures rest { journal.new ≡ record journal.old { tally = journal.new.tally; told = journal.new.told } }
+    {
         match read_message(self.alloc, text) {
             Ok(message) => {
                 self.tell_strange(journal, place, &message, text);
@@ -692,7 +715,8 @@ impl Switchboard {
             }
             // It may have been a notification of any line.
             Err(TextFault::OutOfMemory) => self.notifying.put_all(),
-            Err(_) => {}
+            Err(TextFault::NoHeader) => {}
+            Err(TextFault::BadVersion { .. } | TextFault::BadBody { .. }) => {}
         }
     }
 

@@ -34,6 +34,7 @@ impl Worklist {
         ensures waits { waits self.new.waiting.items self.new.is_all place ≡ true }
         ensures others { (other : ℕ) → waits self.old.waiting.items self.old.is_all other ≡ true
             → waits self.new.waiting.items self.new.is_all other ≡ true }
+        ensures rest { self.new ≡ record self.old { waiting = self.new.waiting; is_all = self.new.is_all } }
     {
         match self.waiting.push(place) {
             Ok(()) => {}
@@ -43,7 +44,7 @@ impl Worklist {
 
     /// All lines wait.
     pub(crate) fn put_all(&mut self)
-        ensures { self.new.is_all ≡ true }
+        ensures { self.new ≡ record self.old { is_all = true } }
     {
         self.is_all = true;
     }
