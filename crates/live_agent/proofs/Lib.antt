@@ -4,6 +4,7 @@ pub mod EndedLemmas
 pub mod IssueLemmas
 pub mod GivingUpLemmas
 pub mod HearingLemmas
+pub mod TakingLemmas
 pub mod TurnLemmas
 pub mod WaitingLemmas
 pub mod AnnounceLemmas

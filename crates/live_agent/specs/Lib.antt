@@ -23,3 +23,4 @@ pub mod Ended
 pub mod GivingUp
 pub mod Tallying
 pub mod Hearing
+pub mod Taking

@@ -5,7 +5,9 @@ ghost use Rattle.std.specs.Prelude.{◌≡◌, [], ◌∷◌, ℕ, true, false, 
 ghost use Rattle.std.specs.Global.{Box};
 ghost use Rattle.mgcp_text.specs.Reading.{read_text, takes_memory};
 ghost use Rattle.endpoint_names.specs.declared.name.NameFault.TheVariants.{Unknown};
+ghost use Rattle.event_values.specs.declared.observed.Observed.{Observed};
 ghost use Rattle.agent_texts.specs.declared.journal.Journal.{Journal};
+ghost use Rattle.agent_texts.specs.declared.station.Station.{Station};
 ghost use Rattle.agent_texts.specs.declared.tally.Tally.{Tally};
 ghost use Rattle.live_agent.specs.declared.gateway.Gateway.{Gateway};
 ghost use Rattle.live_agent.specs.declared.office.Office.{Office};
@@ -16,6 +18,7 @@ ghost use Rattle.live_agent.specs.GivingUp.{ended_in, Ends, ForgetsFlight, Forge
 ghost use Rattle.live_agent.specs.Hearing.{announcement_counted, is_new_to, is_strange_at, line_meant, method_of, response_counted};
 ghost use Rattle.live_agent.specs.Hearing.{AnnouncesNew, AnnouncesWith, AnswersFor, AnswersIn, HearsText, HearsUnread, Notes, Waits};
 ghost use Rattle.live_agent.specs.Steps.{AnnouncesTo, Forgets, OfOffice};
+ghost use Rattle.live_agent.specs.Taking.{first_of, with_taken, HearsIf, TakesTold};
 ghost use Rattle.live_agent.specs.Example.{flying, param};
 
 use endpoint_names::Pattern;
@@ -78,4 +81,19 @@ pub fn what_is_heard_has_examples()
     ensures no_message { (board : Switchboard) (journal : Journal) → HearsText 0 [] board journal board journal }
     ensures unread { (text : List ℕ) (was is : Switchboard) (journal : Journal) → takes_memory (read_text text) ≡ true →
         HearsUnread was is → HearsText 0 text was journal is journal }
+{}
+
+/// What is taken of a line.
+pub fn what_is_taken_has_examples()
+    // What was taken of a line is kept; where it told nothing more nothing is taken, nor where there is no line or no gateway.
+    ensures nothing_told { (office : Option (Box Office)) → HearsIf false 0 [] office office }
+    ensures no_exchange { (told : List Observed) → HearsIf true 0 told None None }
+    ensures nothing_taken { (observed : List Observed) (station : Station) → with_taken false observed station ≡ station }
+    ensures taken { (event : Observed) (station : Station) →
+        with_taken true (event ∷ event ∷ []) station ≡ record station { taken = 2 } }
+    ensures no_line { (gateway : Gateway) (board : Switchboard) → TakesTold 0 (Some gateway) None false board board }
+    ensures no_gateway { (station : Option Station) (board : Switchboard) → TakesTold 0 None station false board board }
+    // The place of the first line of a gateway.
+    ensures first { (gateway : Gateway) → gateway.first ≡ 4 → first_of (Some gateway) ≡ 4 }
+    ensures none { first_of None ≡ 0 }
 {}

@@ -3,7 +3,7 @@ ghost use Rattle.std.specs.Prelude.{◌≡◌, ◌∷◌, ◌++◌, true, false,
 ghost use Rattle.plain_machine.specs.Event.{datagram, tick};
 ghost use Rattle.call_agent.specs.Hearing.{hears};
 ghost use Rattle.call_agent.specs.AgentStands.{AgentTook};
-ghost use Rattle.agent_texts.specs.Counts.{with_given_up, with_strange_name};
+ghost use Rattle.agent_texts.specs.Counts.{with_given_up, with_notification, with_strange_name};
 ghost use Rattle.live_agent.specs.AgentClock.{tick_to};
 ghost use Rattle.live_agent.specs.Boards.{is_at, settling_in, SettlesIn, taking_in, woken_at, WakesIn, Answers};
 ghost use Rattle.live_agent.specs.Dues.{FallsDue};
@@ -14,6 +14,7 @@ ghost use Rattle.live_agent.specs.Issuing.{ordered_in, IssuesOrder, IssuesSettle
 ghost use Rattle.live_agent.specs.Meaning.{has_domain, meant};
 ghost use Rattle.live_agent.specs.Orders.{shown};
 ghost use Rattle.live_agent.specs.Steps.{exchange_if, cares_if, settled_in, Announces, AnnouncesTo, AtPlace, Begins, Forgets, HearsSome, Issues, IssuesAt, OfOffice, Ticks, ToldAt, Wakens};
+ghost use Rattle.live_agent.specs.Taking.{first_of, taken_place, TakesOf, TakesTold};
 ghost use Rattle.live_agent.specs.Tallying.{counted_if};
 ghost use Rattle.live_agent.specs.Waiting.{Settles};
 
@@ -22,7 +23,7 @@ use crate::gateway::{Gateway, Wake};
 use crate::naming::{
     has_domain, is_meant, is_unknown, line_behind, line_meant, method_of, whole_name,
 };
-use crate::office::{Office, Order};
+use crate::office::{Office, Order, behind, tell_office};
 use crate::typed::{TypedFault, typed_in};
 use crate::worklist::Worklist;
 use agent_texts::{AgentConfig, Journal, Station, copied};
@@ -733,13 +734,25 @@ impl Switchboard {
         }
     }
 
-    /// Takes what the line that is so many behind the first of these has told and wasn't taken yet: whether there was anything.
-    pub fn take(&mut self, journal: &mut Journal, place: usize, index: usize) -> bool {
-        let first = match self.gateways.get(place) {
+    // The place of the first line of the gateway at this place.
+    fn first_of(&self, place: usize) -> usize
+        ensures { result ≡ first_of (slice_get self.now.gateways.items place) }
+    {
+        match self.gateways.get(place) {
             Some(gateway) => gateway.first,
             None => 0,
-        };
-        match self.notifying.at(first, index) {
+        }
+    }
+
+    /// Takes what the line that is so many behind the first of these has told and wasn't taken yet: whether there was anything.
+    pub fn take(&mut self, journal: &mut Journal, place: usize, index: usize) -> bool
+        ensures takes { TakesOf place (taken_place index (slice_get self.old.gateways.items place) self.old.notifying) result
+            self.old self.new }
+        ensures tally { journal.new.tally ≡ counted_if result with_notification journal.old.tally }
+        ensures rest { self.new ≡ record self.old { stations = self.new.stations; office = self.new.office } }
+        ensures journal { journal.new ≡ record journal.old { tally = journal.new.tally; told = journal.new.told } }
+    {
+        match self.notifying.at(self.first_of(place), index) {
             Some(line) => self.take_of(journal, place, line),
             None => false,
         }
@@ -747,8 +760,13 @@ impl Switchboard {
 
     // Takes what a line has told and wasn't taken yet: whether there was anything.
     fn take_of(&mut self, journal: &mut Journal, place: usize, line: usize) -> bool
+        ensures takes { TakesTold line (slice_get self.old.gateways.items place) (slice_get self.old.stations.items line) result
+            self.old self.new }
         ensures told { result ≡ true → OfOffice (HearsSome line) self.old.office self.new.office }
         ensures nothing { result ≡ false → self.new.office ≡ self.old.office }
+        ensures tally { journal.new.tally ≡ counted_if result with_notification journal.old.tally }
+        ensures rest { self.new ≡ record self.old { stations = self.new.stations; office = self.new.office } }
+        ensures journal { journal.new ≡ record journal.old { tally = journal.new.tally; told = journal.new.told } }
     {
         let Some(gateway) = self.gateways.get(place) else {
             return false;
@@ -757,15 +775,13 @@ impl Switchboard {
             return false;
         };
         let observed = gateway.agent.taken(station.line);
-        let told = observed.get(station.taken..).unwrap_or(&[]);
+        let told = behind(observed, station.taken);
         if told.is_empty() {
             return false;
         }
         station.taken = observed.len();
         journal.tell_notification(station.name.as_bytes(), told);
-        if let Some(office) = &mut self.office {
-            office.told(self.alloc, line, told);
-        }
+        tell_office(self.alloc, &mut self.office, line, told);
         true
     }
 }
