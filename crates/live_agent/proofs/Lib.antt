@@ -5,6 +5,7 @@ pub mod IssueLemmas
 pub mod GivingUpLemmas
 pub mod HearingLemmas
 pub mod TakingLemmas
+pub mod TallyingLemmas
 pub mod TurnLemmas
 pub mod WaitingLemmas
 pub mod AnnounceLemmas

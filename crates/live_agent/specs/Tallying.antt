@@ -1,7 +1,54 @@
--- What counts.
-use Rattle.std.specs.Prelude.{Bool, if◌then◌else◌}
+-- What counts: in general, and of what goes over a wire.
+use Rattle.std.specs.Prelude.{◌≡◌, ◌⊎◌, ℕ, ◌==◌, Bool, false, if◌then◌else◌, Option, Some, None, Result, Ok, Err}
+use Rattle.std.specs.declared.net.socket_addr.SocketAddrV4.{SocketAddrV4}
 use Rattle.agent_texts.specs.declared.tally.Tally.{Tally}
+use Rattle.agent_texts.specs.Counts.{one_more, with_handed_out}
+use Rattle.bad_network.specs.declared.fate.Fate.{Fate}
+use Rattle.bad_network.specs.declared.fate.Fate.TheVariants.{Lost, Once, Twice}
+use Rattle.bad_network.specs.declared.network.BadNetwork.{BadNetwork}
+use Rattle.bad_network.specs.Drawing.{draws_of}
+use Rattle.bad_network.specs.Fates.{fate_of}
+use Rattle.surroundings.specs.declared.surroundings.Fault.{Fault}
 
 -- something counts once, where it is so
 abbrev pub counted_if : Bool → (Tally → Tally) → Tally → Tally
 counted_if is_so count tally = if is_so then count tally else tally
+
+-- a command was issued; something was refused for want of memory; a datagram didn't leave, or none could be looked for
+abbrev pub with_command : Tally → Tally
+with_command tally = record tally { commands = one_more tally.commands }
+
+abbrev pub with_refusal : Tally → Tally
+with_refusal tally = record tally { refused = one_more tally.refused }
+
+abbrev pub with_send_fault : Tally → Tally
+with_send_fault tally = record tally { send_faults = one_more tally.send_faults }
+
+abbrev pub with_receive_fault : Tally → Tally
+with_receive_fault tally = record tally { receive_faults = one_more tally.receive_faults }
+
+-- what becomes of a packet counts, unless it goes on at once
+abbrev pub with_fate : Fate → Tally → Tally
+with_fate Lost tally = record tally { lost = one_more tally.lost }
+with_fate (Once late) tally = if late == 0 then tally else record tally { late = one_more tally.late }
+with_fate (Twice first second) tally = record tally { copied = one_more tally.copied }
+
+-- a packet is offered to the network that spoils it, if there is one: that takes it, or memory is refused for it
+abbrev pub CountsOffer : Option BadNetwork → Tally → Tally → Type 0
+CountsOffer None was is = is ≡ was
+CountsOffer (Some network) was is =
+    (is ≡ with_fate (fate_of network.spoiling (draws_of network.generator)) was) ⊎ (is ≡ with_refusal was)
+
+-- a datagram is put onto the machine's network: it leaves, or doesn't
+abbrev pub CountsLeaving : Tally → Tally → Type 0
+CountsLeaving was is = (is ≡ was) ⊎ (is ≡ with_send_fault was)
+
+-- a datagram is sent, again or for the first time: it counts once, and what becomes of it
+abbrev pub CountsSent : Bool → Option BadNetwork → Tally → Tally → Type 0
+CountsSent is_repeat None was is = CountsLeaving (with_handed_out is_repeat was) is
+CountsSent is_repeat (Some network) was is = CountsOffer (Some network) (with_handed_out is_repeat was) is
+
+-- one that was looked for and couldn't be read counts as a fault
+abbrev pub looked_counted : Result (Option (SocketAddrV4 × ℕ)) Fault → Tally → Tally
+looked_counted (Ok found) tally = tally
+looked_counted (Err fault) tally = with_receive_fault tally

@@ -1,8 +1,9 @@
 //! The wire: what datagrams and typed lines come over, and a bad network, where one lies between; and the journal of what goes over it.
-ghost use Rattle.std.specs.Prelude.{◌≡◌, ◌≤◌, ◌∷◌, ℕ, Bool, Option, Result, [], true, false, not, length, is_some, IfOk, IfSome};
+ghost use Rattle.std.specs.Prelude.{◌≡◌, ◌≤◌, ◌∷◌, ℕ, Bool, Option, Some, Result, [], true, false, not, length, is_some, IfOk, IfSome};
 ghost use Rattle.std.specs.declared.net.socket_addr.SocketAddrV4.{SocketAddrV4 as Peer};
 ghost use Rattle.mg_bytes.specs.Lists.{is_empty};
 ghost use Rattle.live_agent.specs.Wiring.{due_of, with_read, read_at, heard_at, ready_by};
+ghost use Rattle.live_agent.specs.Tallying.{looked_counted, with_fate, CountsLeaving, CountsOffer, CountsSent};
 ghost use Rattle.surroundings.specs.Hearing.{Hears, AnswersTo};
 ghost use Rattle.surroundings.specs.Requests.{requests_from};
 ghost use Rattle.surroundings.specs.Sending.{Grows};
@@ -11,7 +12,7 @@ ghost use Rattle.surroundings.specs.declared.surroundings.Fault.{Fault};
 ghost use Rattle.surroundings.specs.declared.surroundings.Told.{Told};
 
 use crate::loading::{Load, count_sent};
-use agent_texts::{Journal, count};
+use agent_texts::{Journal, Tally, count};
 use bad_network::{BadNetwork, Fate, Packet, Way};
 use exchange_log::{Note, Stamp, put_pause};
 use live_ends::{NEXT_OFFER, Now};
@@ -69,17 +70,54 @@ impl<S: Drop> Drop for Wire<S> {
     }
 }
 
+// What becomes of a packet counts: what is noted of it in the log, unless it goes on at once.
+fn count_fate(tally: &mut Tally, fate: Fate) -> Option<Note>
+    ensures { tally.new ≡ with_fate fate tally.old }
+{
+    match fate {
+        Fate::Lost => {
+            count(&mut tally.lost);
+            Some(Note::Lost)
+        }
+        Fate::Once { late } => {
+            if late == 0 {
+                return None;
+            }
+            count(&mut tally.late);
+            Some(Note::Late { ms: late })
+        }
+        Fate::Twice { first, second } => {
+            count(&mut tally.copied);
+            Some(Note::Copied { first, second })
+        }
+    }
+}
+
 // What becomes of a packet is counted, and noted in the log.
-fn note_fate(journal: &mut Journal, stamp: Stamp, fate: Fate) {
-    let tally = &mut journal.tally;
-    let (number, note) = match fate {
-        Fate::Lost => (&mut tally.lost, Note::Lost),
-        Fate::Once { late: 0 } => return,
-        Fate::Once { late } => (&mut tally.late, Note::Late { ms: late }),
-        Fate::Twice { first, second } => (&mut tally.copied, Note::Copied { first, second }),
-    };
-    count(number);
-    journal.note(stamp, note);
+fn note_fate(journal: &mut Journal, stamp: Stamp, fate: Fate)
+    ensures tally { journal.new.tally ≡ with_fate fate journal.old.tally }
+    ensures rest { journal.new ≡ record journal.old { tally = journal.new.tally; log = journal.new.log } }
+{
+    if let Some(note) = count_fate(&mut journal.tally, fate) {
+        journal.note(stamp, note);
+    }
+}
+
+// A packet is offered to the network that spoils it, at this moment of its clock, in ms.
+fn offer_to(
+    network: &mut BadNetwork,
+    journal: &mut Journal,
+    stamp: Stamp,
+    way: Way,
+    bytes: &[u8],
+    clock: u64,
+)
+    ensures { CountsOffer (Some network.old) journal.old.tally journal.new.tally }
+{
+    match network.offer(way, stamp.peer, bytes, clock) {
+        Ok(fate) => note_fate(journal, stamp, fate),
+        Err(_) => count(&mut journal.tally.refused),
+    }
 }
 
 impl<S: Surroundings + Drop> Wire<S> {
@@ -158,7 +196,8 @@ impl<S: Surroundings + Drop> Wire<S> {
         ensures length { length room.new ≡ length room.old }
         ensures within { IfSome result (λ p. p.1 ≤ length room.new) }
         ensures looked { (outcome : Result (Option (Peer × ℕ)) Fault) × S.receives self.old.around outcome room.new self.new.around
-            × (result ≡ heard_at outcome) × (self.new.read ≡ read_at outcome self.old.read) }
+            × (result ≡ heard_at outcome) × (self.new.read ≡ read_at outcome self.old.read)
+            × (self.new.journal.value.tally ≡ looked_counted outcome self.old.journal.value.tally) }
     {
         match self.around.receive(room) {
             Ok(Some((source, len))) => {
@@ -208,6 +247,7 @@ impl<S: Surroundings + Drop> Wire<S> {
     pub(crate) fn offer(&mut self, way: Way, peer: SocketAddrV4, bytes: &[u8]) -> bool
         ensures spoilt { result ≡ is_some self.old.network }
         ensures around { self.new.around ≡ self.old.around }
+        ensures tally { CountsOffer self.old.network self.old.journal.value.tally self.new.journal.value.tally }
     {
         let stamp = Stamp {
             moment: self.now.time,
@@ -216,10 +256,8 @@ impl<S: Surroundings + Drop> Wire<S> {
         let Some(network) = &mut self.network else {
             return false;
         };
-        match network.offer(way, peer, bytes, self.now.clock) {
-            Ok(fate) => note_fate(&mut self.journal, stamp, fate),
-            Err(_) => count(&mut self.journal.tally.refused),
-        }
+        let clock = self.now.clock;
+        offer_to(network, &mut self.journal, stamp, way, bytes, clock);
         true
     }
 
@@ -248,6 +286,7 @@ impl<S: Surroundings + Drop> Wire<S> {
         ensures sent { Grows (S.traffic self.old.around).sent (record { to = to; bytes = bytes.now } ∷ [])
             (S.traffic self.new.around).sent }
         ensures received { (S.traffic self.new.around).received ≡ (S.traffic self.old.around).received }
+        ensures tally { CountsLeaving self.old.journal.value.tally self.new.journal.value.tally }
     {
         if self.around.send(to, bytes).is_ok() {
             return;
@@ -265,12 +304,14 @@ impl<S: Surroundings + Drop> Wire<S> {
         ensures sent { is_some self.old.network ≡ false →
             Grows (S.traffic self.old.around).sent (record { to = to; bytes = bytes.now } ∷ []) (S.traffic self.new.around).sent }
         ensures offered { is_some self.old.network ≡ true → self.new.around ≡ self.old.around }
+        ensures tally { CountsSent is_repeat self.old.network self.old.journal.value.tally self.new.journal.value.tally }
     {
         self.journal.sent(self.now.time, to, bytes, is_repeat);
         count_sent(&mut self.load, self.now.time, to, bytes, is_repeat);
-        if !self.offer(Way::Out, to, bytes) {
-            self.transmit(to, bytes);
+        if self.offer(Way::Out, to, bytes) {
+            return;
         }
+        self.transmit(to, bytes);
     }
 
     /// Sends datagrams, for the first time or again.

@@ -1,0 +1,21 @@
+-- What counts where a datagram is sent.
+use Rattle.std.proofs.Common.{◌≡◌, Bool, true, false, Option, Some, None, subst}
+use Rattle.std.specs.Prelude.{is_some}
+use Rattle.agent_texts.specs.declared.tally.Tally.{Tally}
+use Rattle.agent_texts.specs.Counts.{with_handed_out}
+use Rattle.bad_network.specs.declared.network.BadNetwork.{BadNetwork}
+use Rattle.live_agent.specs.Tallying.{CountsLeaving, CountsOffer, CountsSent}
+
+-- no network spoils it, and it is put onto the machine's
+pub left_so : (is_repeat : Bool) (network : Option BadNetwork) (was sent offered is : Tally) → sent ≡ with_handed_out is_repeat was
+    → is_some network ≡ false → CountsOffer network sent offered → CountsLeaving offered is → CountsSent is_repeat network was is
+left_so is_repeat None was sent offered is sent_is none offers leaves =
+    subst (λ (tally : Tally). CountsLeaving tally is) sent_is (subst (λ (tally : Tally). CountsLeaving tally is) offers leaves)
+left_so is_repeat (Some network) was sent offered is sent_is none offers leaves = absurd cc
+
+-- it is offered to the network that spoils it
+pub offered_so : (is_repeat : Bool) (network : Option BadNetwork) (was sent is : Tally) → sent ≡ with_handed_out is_repeat was
+    → is_some network ≡ true → CountsOffer network sent is → CountsSent is_repeat network was is
+offered_so is_repeat None was sent is sent_is some offers = absurd cc
+offered_so is_repeat (Some network) was sent is sent_is some offers =
+    subst (λ (tally : Tally). CountsOffer (Some network) tally is) sent_is offers
