@@ -1,6 +1,7 @@
 //! Serves gateways and whoever types commands, a turn at a time, as a schedule says what comes next.
 ghost use Rattle.std.specs.Prelude.{◌≡◌, false, IfOk, IfErr};
 ghost use Rattle.live_agent.specs.Clock.{is_behind};
+ghost use Rattle.live_agent.specs.Tallying.{with_command, CountsSent};
 ghost use Rattle.live_agent.specs.Wiring.{IsSituation, AsksNext};
 
 use crate::loading::count_came;
@@ -27,7 +28,9 @@ const ROOM: usize = 4001;
 const LONGEST_LAG: u64 = 100;
 
 // A command was issued.
-fn send_issued<S: Surroundings + Drop>(wire: &mut Wire<S>, issued: &Issued) {
+fn send_issued<S: Surroundings + Drop>(wire: &mut Wire<S>, issued: &Issued)
+    ensures tally { CountsSent false wire.old.network (with_command wire.old.journal.value.tally) wire.new.journal.value.tally }
+{
     count(&mut wire.journal.tally.commands);
     wire.send(issued.datagram.to, issued.datagram.bytes.as_bytes(), false);
 }

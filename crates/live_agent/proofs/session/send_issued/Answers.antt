@@ -1,0 +1,10 @@
+use Rattle.std.proofs.Common.{ℕ, false, subst}
+use Rattle.live_agent.specs.Tallying.{CountsSent}
+use Rattle.live_agent.proofs.session.send_issued.Goals as goal
+
+pub returns : goal.returns
+returns g c =
+    subst
+    (λ (commands : ℕ). CountsSent false c.args.wire.now.network (record c.args.wire.now.journal.value.tally { commands = commands })
+    c.send.new.self.journal.value.tally)
+    c.count.ensures c.send.ensures.tally
