@@ -13,7 +13,7 @@ ghost use Rattle.live_agent.specs.Hearing.{AnnouncesWith, AnswersAt, HearsAnnoun
 ghost use Rattle.live_agent.specs.Issuing.{ordered_in, IssuesOrder, IssuesSettled, IssuesTo, SendsAlone, SendsAtMost};
 ghost use Rattle.live_agent.specs.Meaning.{has_domain, meant};
 ghost use Rattle.live_agent.specs.Orders.{shown};
-ghost use Rattle.live_agent.specs.Steps.{exchange_if, cares_if, settled_in, Announces, AnnouncesTo, AtPlace, Begins, Forgets, HearsSome, Issues, IssuesAt, OfOffice, Ticks, ToldAt, Wakens};
+ghost use Rattle.live_agent.specs.Steps.{exchange_if, cares_if, settled_in, Announces, AnnouncesTo, AtPlace, Begins, Forgets, HearsSome, Issues, IssuesAt, OfOffice, OthersStay, Ticks, ToldAt, Wakens};
 ghost use Rattle.live_agent.specs.Taking.{first_of, taken_place, TakesOf, TakesTold};
 ghost use Rattle.live_agent.specs.Tallying.{counted_if};
 ghost use Rattle.live_agent.specs.Waiting.{Settles};
@@ -267,6 +267,8 @@ impl Switchboard {
             AgentTook was.agent.value (hears (datagram source bytes.now)) is.agent.value outputs))
             self.old.gateways.items self.new.gateways.items }
         ensures office { self.new.office ≡ self.old.office }
+        ensures others { OthersStay place self.old.gateways.items self.new.gateways.items }
+        ensures rest { self.new ≡ record self.old { gateways = self.new.gateways } }
     {
         match self.gateways.get_mut(place) {
             Some(gateway) => gateway.agent.step(Event::Datagram { source, bytes }),
@@ -281,6 +283,8 @@ impl Switchboard {
             self.old.gateways.items self.new.gateways.items }
         ensures clock { AtPlace place (Ticks (is_ok result) moment) self.old.gateways.items self.new.gateways.items }
         ensures office { self.new.office ≡ self.old.office }
+        ensures others { OthersStay place self.old.gateways.items self.new.gateways.items }
+        ensures rest { self.new ≡ record self.old { gateways = self.new.gateways } }
     {
         match self.gateways.get_mut(place) {
             Some(gateway) => gateway.tick(moment),
@@ -510,6 +514,8 @@ impl Switchboard {
         ensures wake { result ≡ woken_at (slice_get self.old.gateways.items place) }
         ensures gateway { AtPlace place Wakens self.old.gateways.items self.new.gateways.items }
         ensures office { self.new.office ≡ self.old.office }
+        ensures others { OthersStay place self.old.gateways.items self.new.gateways.items }
+        ensures rest { self.new ≡ record self.old { gateways = self.new.gateways } }
     {
         let gateway = self.gateways.get_mut(place)?;
         gateway.woken()
@@ -520,6 +526,8 @@ impl Switchboard {
         ensures found { result ≡ is_some (woken_at (slice_get self.old.gateways.items place)) }
         ensures line { WakesIn (woken_at (slice_get self.old.gateways.items place)) self.old.office self.new.office }
         ensures gateway { AtPlace place Wakens self.old.gateways.items self.new.gateways.items }
+        ensures others { OthersStay place self.old.gateways.items self.new.gateways.items }
+        ensures rest { self.new ≡ record self.old { gateways = self.new.gateways; office = self.new.office } }
     {
         let Some(wake) = self.woken(place) else {
             return false;
