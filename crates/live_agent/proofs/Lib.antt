@@ -6,6 +6,7 @@ pub mod GivingUpLemmas
 pub mod HearingLemmas
 pub mod TakingLemmas
 pub mod TallyingLemmas
+pub mod ShowingLemmas
 pub mod TurnLemmas
 pub mod WaitingLemmas
 pub mod AnnounceLemmas

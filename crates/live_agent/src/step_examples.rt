@@ -16,13 +16,14 @@ ghost use Rattle.call_agent.specs.declared.issuing.Issued.{Issued};
 ghost use Rattle.call_agent.specs.declared.issuing.IssueFault.{IssueFault};
 ghost use Rattle.call_agent.specs.AgentStands.{AgentStands};
 ghost use Rattle.call_agent.specs.Hearing.{AgentEvent, plain_agent};
+ghost use Rattle.agent_texts.specs.declared.journal.Journal.{Journal};
 ghost use Rattle.agent_texts.specs.declared.station.Station.{Station};
 ghost use Rattle.live_agent.specs.Boards.{Answers};
 ghost use Rattle.live_agent.specs.Dues.{FallsDue, FallsDueAt};
 ghost use Rattle.live_agent.specs.Duties.{announced, begun, fixed_order, lost, new_care, outlived, owed, told_care, told_of};
 ghost use Rattle.live_agent.specs.Issuing.{ordered_in, Flies, IssuesOrder, IssuesSettled, IssuesTo, SendsAlone, SendsAtMost};
 ghost use Rattle.live_agent.specs.Orders.{Shown, routed};
-ghost use Rattle.live_agent.specs.Showing.{shown_in};
+ghost use Rattle.live_agent.specs.Showing.{ShowsIn, shown_in};
 ghost use Rattle.live_agent.specs.Steps.{Announces, AnnouncesTo, Begins, Forgets, Hears, IssuesAt, OfOffice, OthersStay, Ticks, ToldOf, Wakens, settled_in};
 ghost use Rattle.live_agent.specs.Example.{audited, cleared, creating, deleted_later, deleted_now, found_off, wake_at};
 
@@ -91,6 +92,15 @@ pub fn what_an_answer_does_has_examples()
     ensures outlived { (gateway after : Gateway) (was is : Office) → gateway.ticked ≡ 500 →
         was.cares.items ≡ outlived (begun new_care) ∷ [] → gateway.wakes.items ≡ [] → is.exchange ≡ was.exchange →
         is.cares.items ≡ lost (outlived (begun new_care)) ∷ [] → after.wakes.items ≡ [] → Answers 0 400 [] gateway was after is }
+{}
+
+/// What is told of how a line stands.
+pub fn what_is_shown_has_examples()
+    ensures none { (stations : List Station) (office : Option (Box Office)) (journal : Journal) →
+        ShowsIn stations None office journal journal }
+    ensures no_exchange { (stations : List Station) (journal : Journal) → ShowsIn stations (Some 0) None journal journal }
+    ensures no_line { (stations : List Station) (office : Box Office) (journal now : Journal) → office.value.cares.items ≡ [] →
+        ShowsIn stations (Some 0) (Some office) journal now }
 {}
 
 /// When something falls due next.

@@ -13,6 +13,7 @@ ghost use Rattle.live_agent.specs.Hearing.{AnnouncesWith, AnswersAt, HearsAnnoun
 ghost use Rattle.live_agent.specs.Issuing.{ordered_in, IssuesOrder, IssuesSettled, IssuesTo, SendsAlone, SendsAtMost};
 ghost use Rattle.live_agent.specs.Meaning.{has_domain, meant};
 ghost use Rattle.live_agent.specs.Orders.{shown};
+ghost use Rattle.live_agent.specs.Showing.{ShowsIn};
 ghost use Rattle.live_agent.specs.Steps.{exchange_if, cares_if, settled_in, Announces, AnnouncesTo, AtPlace, Begins, Forgets, HearsSome, Issues, IssuesAt, OfOffice, OthersStay, Ticks, ToldAt, Wakens};
 ghost use Rattle.live_agent.specs.Taking.{first_of, taken_place, TakesOf, TakesTold};
 ghost use Rattle.live_agent.specs.Tallying.{counted_if};
@@ -456,6 +457,7 @@ impl Switchboard {
 
     /// Tells how the line that is settled so many behind the first stands, where that has changed.
     pub fn show(&mut self, journal: &mut Journal, index: usize)
+        ensures told { ShowsIn self.old.stations.items (settled_in index self.old.office) self.old.office journal.old journal.new }
         ensures office { ToldAt (settled_in index self.old.office) self.old.office self.new.office }
         ensures rest { self.new ≡ record self.old { office = self.new.office } }
     {
