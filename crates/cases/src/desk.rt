@@ -8,6 +8,7 @@
 //! - `print ..` a line of standard output.
 //! - `read print` what is printed is read from here on, and `read print 1048413` so many bytes wait for that from the start; where the log
 //!   is read late, nobody reads that without it.
+//! - `refused print` memory is refused for what is printed, from the start.
 use crate::loads::{asked_in, play_load};
 use crate::stories::{
     Clocks, EndClock, LateRecord, Machine, Place, Program, Records, Story, Transcript, Words, told,
@@ -96,6 +97,16 @@ pub(crate) fn wire_of<'c>(
     Ok(wire)
 }
 
+// Memory is refused for the record of this name.
+fn refuse(name: &str, journal: &mut Journal) {
+    match name {
+        "print" => journal.told.refuse(),
+        "log" => journal.log.refuse(),
+        "capture" => journal.capture.refuse(),
+        _ => {}
+    }
+}
+
 // Serves with this configuration to the end, as the program does, and puts what is given, with what was counted and the exit status, where
 // these are asked for.
 fn run(
@@ -107,6 +118,7 @@ fn run(
     given: &mut Transcript,
 ) -> Result<bool, OutOfMemory> {
     let mut records = Records::of_story(alloc, story, LateRecord::Print)?;
+    refuse(story.refused.as_str(), &mut wire.journal);
     let clock = EndClock::over(story.clocks.as_ref());
     let ending = serve_over(&clock, alloc, config, is_routed, wire, &mut records);
     records.tell_status(ending, story);

@@ -10,9 +10,11 @@
 //! - `ask GET /state HTTP/1.1¶..` a visitor of the page asks that.
 //! - `pause 31000` the program is stopped, for so many ms.
 //! - `work 2` from here on each datagram that is read, and each that is sent to an agent, takes so many ms first.
-//! - `clock -2000` the machine's clock is set back, by so many ms; `day +3600000`, `day -3600000` its time of day is set on, or back.
-//! - `fault send` the next datagram can't be sent; `fault receive` none can be received; `fault clock` the clock can't be read any more.
+//! - `clock +2000`, `clock -2000` the machine's clock is set on, or back, by so many ms; so is its time of day by `day +3600000`.
+//! - `fault send` the next datagram can't be sent; `fault receive` none can be received; `fault wait` the next wait fails; `fault clock` the
+//!   clock can't be read any more.
 //! - `dropped 12` so many lines of the log are said not to be kept; `failed calls.pcap` a record is said not to be written.
+//! - `refused log` memory is refused for the log from the start; `refused trace`, `refused capture` for these.
 //! - `room 300` so many bytes of the trace find room, and no more, since nobody takes any.
 //! - `read 1048385` the log is read from here on; before, nobody does, and so many bytes wait for that from the start, which aren't told.
 //!   `read trace` the trace is; where the log is read late, nobody reads the trace without that.
@@ -166,6 +168,16 @@ fn visitors_of(
     Ok(Some(boxed(alloc, browsers)?))
 }
 
+// Memory is refused for the record of this name.
+fn refuse(name: &str, trace: &mut Trace, journal: &mut Journal) {
+    match name {
+        "trace" => trace.record.refuse(),
+        "log" => journal.log.record.refuse(),
+        "capture" => journal.capture.record.refuse(),
+        _ => {}
+    }
+}
+
 // It has ended, as the program does; and its status is told, where a story asks for that.
 fn end(desk: &mut Desk<Machine<'_>, Trace>, records: &mut Records, story: &Story) {
     let ending = end_desk(&EndClock::over(story.clocks.as_ref()), desk, records);
@@ -183,6 +195,11 @@ fn run(
     given: &mut Transcript,
 ) -> Result<bool, OutOfMemory> {
     let mut records = Records::of_story(alloc, story, LateRecord::Trace)?;
+    refuse(
+        story.refused.as_str(),
+        &mut desk.play.teller,
+        &mut desk.exchange.journal,
+    );
     desk.run(visitors, &mut records);
     if is_ended || story.is_counted || story.has_status {
         end(desk, &mut records, story);

@@ -18,8 +18,9 @@ pub struct Stamp {
 /// it says.
 #[derive(Drop)]
 pub struct Clocks {
-    // The moment that it has come to, in ms, and so much the program's clock was set back.
+    // The moment that it has come to, in ms, and so much the program's clock was set on, and back.
     moment: Cell<u64>,
+    on: Cell<u64>,
     back: Cell<u64>,
     // Whether the program's clock can't be read any more.
     has_failed: Cell<bool>,
@@ -34,6 +35,7 @@ impl Clocks {
     pub fn new() -> Clocks {
         Clocks {
             moment: Cell::new(0),
+            on: Cell::new(0),
             back: Cell::new(0),
             has_failed: Cell::new(false),
             opened: Cell::new(OPENED),
@@ -49,6 +51,11 @@ impl Clocks {
     /// The story comes to this moment, in ms.
     pub fn reach(&self, moment: u64) {
         self.moment.set(moment);
+    }
+
+    /// The program's clock is set on, by so many ms.
+    pub fn set_on(&self, ms: u64) {
+        self.on.set(self.on.get().saturating_add(ms));
     }
 
     /// The program's clock is set back, by so many ms.
@@ -87,8 +94,8 @@ impl Clock for Clocks {
         if self.has_failed.get() {
             return Err(io::Error::from(io::ErrorKind::Unsupported));
         }
-        let passed = self.moment.get().saturating_sub(self.back.get());
-        Ok(Duration::from_millis(passed))
+        let passed = self.moment.get().saturating_add(self.on.get());
+        Ok(Duration::from_millis(passed.saturating_sub(self.back.get())))
     }
 
     fn since_1970(&self) -> io::Result<Duration> {

@@ -21,10 +21,14 @@ use surroundings::{Coming, Fault, Happening, Scripted, Surroundings, Told};
 pub enum Change {
     /// From now on each datagram that is read, and each that is sent to an agent, takes so many ms.
     Work { ms: u64 },
+    /// The clock is set on, by so many ms.
+    ClockOn { ms: u64 },
     /// The clock is set back, by so many ms.
     ClockBack { ms: u64 },
     /// The clock can't be read any more.
     ClockFails,
+    /// The next wait fails.
+    WaitFails,
     /// The time of day is set on, by so many ms.
     DayOn { ms: u64 },
     /// The time of day is set back, by so many ms.
@@ -65,6 +69,8 @@ pub struct Machine<'c> {
     told: Told,
     // So long a datagram takes, in ms.
     work: u64,
+    // Whether the next wait fails.
+    fails_to_wait: bool,
     clocks: Rc<Clocks>,
     clock: LiveClock<'c, Clocks>,
     /// What was sent and answered.
@@ -96,8 +102,13 @@ fn is_found(what: &Happening, is_lines: bool) -> bool {
     }
 }
 
-// What is to change by now has changed: the clocks, or how long a datagram takes, in ms.
-fn change_all(changing: &mut VecDeque<Changing>, clocks: &Clocks, work: &mut u64) {
+// What is to change by now has changed: the clocks, how long a datagram takes, in ms, or whether the next wait fails.
+fn change_all(
+    changing: &mut VecDeque<Changing>,
+    clocks: &Clocks,
+    work: &mut u64,
+    fails_to_wait: &mut bool,
+) {
     for _ in 0..changing.len() {
         let Some(next) = changing.front() else {
             return;
@@ -108,8 +119,10 @@ fn change_all(changing: &mut VecDeque<Changing>, clocks: &Clocks, work: &mut u64
         }
         match what {
             Change::Work { ms } => *work = ms,
+            Change::ClockOn { ms } => clocks.set_on(ms),
             Change::ClockBack { ms } => clocks.set_back(ms),
             Change::ClockFails => clocks.fail(),
+            Change::WaitFails => *fails_to_wait = true,
             Change::DayOn { ms } => clocks.set_day_on(ms),
             Change::DayBack { ms } => clocks.set_day_back(ms),
         }
@@ -138,6 +151,7 @@ impl<'c> Machine<'c> {
                 datagrams: true,
             },
             work: 0,
+            fails_to_wait: false,
             clocks: all_clocks,
             clock,
             given: Transcript::new(alloc),
@@ -154,6 +168,7 @@ impl<'c> Machine<'c> {
             &mut self.plan.changing,
             self.clocks.as_ref(),
             &mut self.work,
+            &mut self.fails_to_wait,
         );
     }
 
@@ -305,6 +320,10 @@ impl Surroundings for Machine<'_> {
     }
 
     fn wait(&mut self, longest: u64) -> Result<(), Fault> {
+        if self.fails_to_wait {
+            self.fails_to_wait = false;
+            return Err(Fault);
+        }
         self.go_on(longest);
         self.told = Told {
             lines: self.told.lines || self.place_of(true).is_some(),

@@ -50,6 +50,8 @@ pub struct Story {
     pub visits: VecDeque<Visit>,
     /// What becomes of what it records.
     pub written: Written,
+    /// The record that memory is refused for; empty where it is for none.
+    pub refused: String,
     /// So many bytes of a trace find room.
     pub room: usize,
     /// When its log is read first, and what goes to standard output, where that is said.
@@ -100,6 +102,7 @@ enum Says {
     Fault,
     Dropped,
     Failed,
+    Refused,
     Room,
     Read,
     Order,
@@ -108,7 +111,7 @@ enum Says {
     Given,
 }
 
-const FIRST_WORDS: [(&str, Says); 21] = [
+const FIRST_WORDS: [(&str, Says); 22] = [
     ("<", Says::Heard),
     (">", Says::Sent),
     ("at", Says::At),
@@ -125,6 +128,7 @@ const FIRST_WORDS: [(&str, Says); 21] = [
     ("fault", Says::Fault),
     ("dropped", Says::Dropped),
     ("failed", Says::Failed),
+    ("refused", Says::Refused),
     ("room", Says::Room),
     ("read", Says::Read),
     ("order", Says::Order),
@@ -174,10 +178,13 @@ fn work_in(words: &str) -> Change {
     }
 }
 
-// `-2000`: the clock is set back by so many ms.
+// A change of the clock: `+2000` sets it on, and `-2000` back, by so many ms.
 fn clock_in(words: &str) -> Change {
-    Change::ClockBack {
-        ms: number_in(words.strip_prefix("-").unwrap_or(words)),
+    match words.strip_prefix("-") {
+        Some(ms) => Change::ClockBack { ms: number_in(ms) },
+        None => Change::ClockOn {
+            ms: number_in(words.strip_prefix("+").unwrap_or(words)),
+        },
     }
 }
 
@@ -201,6 +208,7 @@ impl Story {
             clocks,
             visits: VecDeque::new(alloc),
             written: Written::ALL,
+            refused: String::new(alloc),
             room: TEXT_ROOM,
             reading: None,
             wanted: Transcript::new(alloc),
@@ -293,10 +301,13 @@ impl Story {
         Ok(self.words.push(word)?)
     }
 
-    // A socket fails, or the clock.
+    // A socket fails, the clock, or a wait.
     fn put_fault(&mut self, rest: &str) -> Result<(), OutOfMemory> {
         if is_word(rest, "clock") {
             return self.change(Change::ClockFails);
+        }
+        if is_word(rest, "wait") {
+            return self.change(Change::WaitFails);
         }
         self.add(if is_word(rest, "send") {
             Happening::SendFault
@@ -362,6 +373,7 @@ impl Story {
             Says::At => self.moment = number_in(rest),
             Says::Dropped => self.written.dropped = number_in(rest),
             Says::Failed => self.put_failed(rest),
+            Says::Refused => self.refused = rest.to_string(self.alloc)?,
             Says::Room => self.room = number_in(rest) as usize,
             Says::Read => self.read_from_now(rest),
             Says::Order => self.is_ordered = true,
