@@ -1,6 +1,6 @@
 -- When a desk comes to its end.
-use Rattle.std.proofs.Common.{◌≡◌, ℕ, suc, ◌+◌, Bool, true, false, List, Option, refl, sym, ◌∙◌, ap, subst, arith}
-use Rattle.std.specs.Prelude.{not}
+use Rattle.std.proofs.Common.{◌≡◌, ◌⊎◌, inl, inr, ℕ, suc, ◌+◌, Bool, true, false, List, Option, refl, sym, ◌∙◌, ap, subst, arith}
+use Rattle.std.specs.Prelude.{not, Result, Ok, Err, IfOk, OnErr}
 use Rattle.plain_machine.specs.Event.{GatewayEvent}
 use Rattle.plain_machine.specs.Lists.{plain}
 use Rattle.gateway_core.specs.GatewayState.{GatewayState}
@@ -12,7 +12,16 @@ use Rattle.turns.specs.Clock.{has_come}
 use Rattle.turns.specs.Runs.{is_end}
 use Rattle.turns.specs.Schedule.{next_of}
 use Rattle.turns.proofs.ScheduleLaws.{ends_when_over}
-use Rattle.live_gateway.specs.Ending.{EndsAt, WroteTimes}
+use Rattle.live_ends.specs.declared.ending.CommonEnding.{CommonEnding}
+use Rattle.live_ends.specs.declared.ending.CommonEnding.TheVariants.{OutOfMemory}
+use Rattle.live_ends.specs.declared.written.Written.{Written}
+use Rattle.live_ends.specs.Ending.{served_ending}
+use Rattle.live_ends.specs.Written.{faults_in}
+use Rattle.live_journal.specs.declared.trace.Trace.{Trace}
+use Rattle.live_telephones.specs.Losses.{counts_text}
+use Rattle.live_gateway.specs.declared.desk.Desk.{Desk}
+use Rattle.live_gateway.specs.declared.exchange.Exchange.{Exchange}
+use Rattle.live_gateway.specs.Ending.{EndsAt, WroteTimes, is_record_refused, IsCounted, EndsWith}
 
 pub ends_so : (end next : Option ℕ) (gateway after : GatewayState) (is_over : Bool) → next ≡ end → after ≡ gateway → EndsAt end gateway is_over
     → EndsAt next after is_over
@@ -36,3 +45,34 @@ pub wrote_once_more : {W : Type 0} (writes : W → W → Type 0) (count : ℕ) (
 wrote_once_more {W} writes count was between is some once =
     let more : suc count ≡ count + 1 = omega arith in
     subst (λ (n : ℕ). WroteTimes writes n was is) more (between, some, once)
+
+-- ---- what is said last
+
+-- behind the last words nothing changes at a desk but the surroundings and the lines
+pub ended_by : {S W V E : Type 0} (items : V → List ℕ) (ends : List ℕ → W → Written → W → Type 0) (desk after : Desk S Trace) (counts : Result V E)
+    (is_refused : Bool) (was is : W) (ending : CommonEnding)
+    → ((events : List GatewayEvent) → Stands desk.play.gateway.value events → IfOk counts (λ v. items v
+    ≡ counts_text desk.exchange.journal desk.exchange.faults desk.play.gateway.value.setup (plain desk.play.gateway.value.setup events)))
+    → is_refused ≡ is_record_refused desk.play.teller desk.exchange.journal
+    → IfOk counts (λ v. (written : Written) × ends (items v) was written is × (ending ≡ served_ending is_refused (faults_in written)))
+    → OnErr counts ((is ≡ was) × (ending ≡ OutOfMemory))
+    → after.exchange ≡ record desk.exchange { around = after.exchange.around }
+    → after ≡ record desk { exchange = after.exchange; lines = after.lines } → EndsWith ends after was is ending
+ended_by {S} items ends desk after (Ok v) is_refused was is ending says refused counted lacks kept rest =
+    subst (λ (d : Desk S Trace). EndsWith ends d was is ending) (sym rest)
+    (subst (λ (e : Exchange S). EndsWith ends (let d : Desk S Trace = record desk { exchange = e; lines = after.lines } in d) was is ending) (sym kept)
+    (inr (items v, counted.0, says, counted.1, subst (λ (b : Bool). ending ≡ served_ending b (faults_in counted.0)) refused counted.2)))
+ended_by items ends desk after (Err why) is_refused was is ending says refused counted lacks kept rest = inl lacks
+
+-- memory was refused for a record: so it ends
+pub refused_ends : {S W : Type 0} (ends : List ℕ → W → Written → W → Type 0) (desk : Desk S Trace) (was is : W) (ending : CommonEnding)
+    → is_record_refused desk.play.teller desk.exchange.journal ≡ true → EndsWith ends desk was is ending → ending ≡ OutOfMemory
+refused_ends ends desk was is ending refused (inl none) = none.1
+refused_ends ends desk was is ending refused (inr told) = told.4 ∙ ap (λ (b : Bool). served_ending b (faults_in told.1)) refused
+
+-- what was counted is said last, or memory was refused for it
+pub counts_end : {S W : Type 0} (last : List ℕ) (desk : Desk S Trace) (was is : W) (ending : CommonEnding)
+    → EndsWith (λ (words : List ℕ) (before : W) (written : Written) (after : W). words ≡ last) desk was is ending
+    → (ending ≡ OutOfMemory) ⊎ IsCounted desk last
+counts_end last desk was is ending (inl none) = inl none.1
+counts_end last desk was is ending (inr told) = inr (subst (λ (words : List ℕ). IsCounted desk words) told.3 told.2)

@@ -18,6 +18,8 @@ use Rattle.live_ends.specs.Recording.{is_refused}
 use Rattle.live_ends.specs.Written.{faults_in}
 use Rattle.live_journal.specs.declared.journal.Journal.{Journal}
 use Rattle.live_journal.specs.declared.trace.Trace.{Trace}
+use Rattle.live_telephones.specs.Losses.{counts_text}
+use Rattle.live_gateway.specs.declared.desk.Desk.{Desk}
 
 -- ticks of the gateway have come to the end, or they haven't, whatever events it stands for
 abbrev pub EndsAt : Option ℕ → GatewayState → Bool → Type 0
@@ -44,8 +46,15 @@ abbrev pub is_record_refused : Trace → Journal → Bool
 is_record_refused trace journal =
     is_refused trace.record.state || (is_refused journal.log.value.record.state || is_refused journal.capture.value.record.state)
 
--- what was recorded is written to its end by who was told these last words; or memory was refused for them, and nobody is told any
-abbrev pub EndsWith : {W : Type 0} → (List ℕ → W → Written → W → Type 0) → Bool → W → W → CommonEnding → Type 0
-EndsWith ends is_refused was is ending =
+-- this is what was counted at a desk, by all events that its gateway stands for
+abbrev pub IsCounted : {S T : Type 0} → Desk S T → List ℕ → Type 0
+IsCounted desk text = (events : List GatewayEvent) → Stands desk.play.gateway.value events → text
+    ≡ counts_text desk.exchange.journal desk.exchange.faults desk.play.gateway.value.setup (plain desk.play.gateway.value.setup events)
+
+-- What was recorded at a desk is written to its end by who was told what was counted, as last words, and the program ends as became of that
+-- and of its records; or memory was refused for those words, and nobody is told any.
+abbrev pub EndsWith : {S W : Type 0} → (List ℕ → W → Written → W → Type 0) → Desk S Trace → W → W → CommonEnding → Type 0
+EndsWith ends desk was is ending =
     ((is ≡ was) × (ending ≡ OutOfMemory))
-    ⊎ ((last : List ℕ) × (written : Written) × ends last was written is × (ending ≡ served_ending is_refused (faults_in written)))
+    ⊎ ((last : List ℕ) × (written : Written) × IsCounted desk last × ends last was written is
+    × (ending ≡ served_ending (is_record_refused desk.play.teller desk.exchange.journal) (faults_in written)))

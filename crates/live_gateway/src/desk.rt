@@ -408,6 +408,7 @@ impl<S: Surroundings + Drop, T: Teller + Drop> Desk<S, T> {
         ensures stopped { AsksForEnd self.old.lines →
             AnswersTo S.answers self.old.lines.sender self.old.exchange.around (codes "done\n") self.new.exchange.around }
         ensures other { (AsksForEnd self.old.lines → ⊥) → self.new.exchange ≡ self.old.exchange }
+        ensures kept { self.new.exchange ≡ record self.old.exchange { around = self.new.exchange.around } }
         ensures rest { self.new ≡ record self.old { exchange = self.new.exchange; lines = self.new.lines } }
     {
         if asks_for_end(&self.lines) {

@@ -1,5 +1,5 @@
 //! How a gateway that runs ends.
-ghost use Rattle.std.specs.Prelude.{◌≡◌, ℕ, Bool, codes, List, IfOk, IfErr};
+ghost use Rattle.std.specs.Prelude.{◌≡◌, codes, IfOk, OnErr};
 ghost use Rattle.surroundings.specs.Hearing.{AnswersTo};
 ghost use Rattle.live_ends.specs.Ending.{served_ending};
 ghost use Rattle.live_ends.specs.Written.{faults_in};
@@ -21,7 +21,8 @@ fn is_record_refused(trace: &Trace, journal: &Journal) -> bool
         || journal.capture.record.is_refused()
 }
 
-// What was recorded is written to its end, and behind it what was counted: how the program ends that served.
+// What was recorded is written to its end, and behind it what was counted: how the program ends that served. Where memory was refused
+// for what was counted, nobody is told anything.
 fn finish<W: Finisher, R: Clock>(
     rt: &R,
     recorder: &mut W,
@@ -29,7 +30,7 @@ fn finish<W: Finisher, R: Clock>(
     is_refused: bool,
     time: u64,
 ) -> CommonEnding
-    ensures ends { EndsWith W.ends is_refused recorder.old recorder.new result }
+    ensures refused { OnErr counts ((recorder.new ≡ recorder.old) × (result ≡ CommonEnding.OutOfMemory)) }
     ensures counted { IfOk counts (λ counts. (written : Written) × W.ends counts.items recorder.old written recorder.new
         × (result ≡ served_ending is_refused (faults_in written))) }
 {
@@ -47,8 +48,7 @@ pub fn end_desk<S: Surroundings + Drop, W: Recorder<Trace> + Finisher, R: Clock>
     desk: &mut Desk<S, Trace>,
     recorder: &mut W,
 ) -> CommonEnding
-    ensures ended { (between : W) × (is_refused : Bool) × W.writes recorder.old between
-        × EndsWith W.ends is_refused between recorder.new result }
+    ensures ended { (between : W) × W.writes recorder.old between × EndsWith W.ends desk.new between recorder.new result }
     ensures stopped { AsksForEnd desk.old.lines → (before : S)
         × AnswersTo S.answers desk.old.lines.sender before (codes "done\n") desk.new.exchange.around }
 {

@@ -1,9 +1,14 @@
 //! Worked examples of what a turn does, as theorems.
 #![tactic(auto)]
 
-ghost use Rattle.std.specs.Prelude.{◌≡◌, codes, true, false, ℕ, List, Some, None, Result, Ok, Err};
+ghost use Rattle.std.specs.Prelude.{◌≡◌, ◌⊎◌, ⊤, codes, true, false, ℕ, List, Some, None, Result, Ok, Err};
 ghost use Rattle.gateway_rules.specs.declared.refusal.Refusal.{Refusal as Why};
+ghost use Rattle.live_ends.specs.declared.ending.CommonEnding.{CommonEnding};
+ghost use Rattle.live_ends.specs.declared.ending.CommonEnding.TheVariants.{OutOfMemory};
+ghost use Rattle.live_journal.specs.declared.trace.Trace.{Trace};
+ghost use Rattle.live_gateway.specs.declared.desk.Desk.{Desk};
 ghost use Rattle.live_gateway.specs.Answering.{IsActAnswer};
+ghost use Rattle.live_gateway.specs.Ending.{is_record_refused, IsCounted, EndsWith};
 ghost use Rattle.live_gateway.specs.Turning.{ready_at};
 
 /// Who types may have something where a line is left, or as was told of their socket; the network where one that spoils it hands something
@@ -31,4 +36,12 @@ pub fn an_act_is_answered_by_what_came_of_it()
     ensures memory { (printed answer : List ℕ) → IsActAnswer {A = ℕ} (Err Why.OutOfMemory) printed answer
         → answer ≡ codes "! 1 OutOfMemory\n" }
     ensures refused { (printed answer : List ℕ) → IsActAnswer {A = ℕ} (Err Why.PhoneState) printed answer → answer ≡ printed }
+{}
+
+/// A desk ends for want of memory where that was refused for a record; what was counted is said last, unless memory was refused for that.
+pub fn a_desk_ends_as_its_records_and_counts_say()
+    ensures refused { (desk : Desk ℕ Trace) (was is : ℕ) (ending : CommonEnding) → is_record_refused desk.play.teller desk.exchange.journal ≡ true
+        → EndsWith (λ last before written after. ⊤) desk was is ending → ending ≡ OutOfMemory }
+    ensures counted { (last : List ℕ) (desk : Desk ℕ Trace) (was is : ℕ) (ending : CommonEnding)
+        → EndsWith (λ words before written after. words ≡ last) desk was is ending → (ending ≡ OutOfMemory) ⊎ IsCounted desk last }
 {}
