@@ -1,6 +1,6 @@
 -- What is counted of looks for datagrams.
-use Rattle.std.proofs.Common.{inr, ◌≡◌, ℕ, List, Option, ◌∙◌, ap}
-use Rattle.std.specs.Prelude.{Result}
+use Rattle.std.proofs.Common.{inl, inr, ◌≡◌, ℕ, Bool, true, false, List, Option, ◌∙◌, sym, ap}
+use Rattle.std.specs.Prelude.{Result, is_some}
 use Rattle.std.specs.declared.net.socket_addr.SocketAddrV4.{SocketAddrV4}
 use Rattle.surroundings.specs.declared.surroundings.Fault.{Fault}
 use Rattle.live_gateway.specs.declared.exchange.Exchange.{Exchange}
@@ -41,3 +41,13 @@ pub read_behind_others : {S : Type 0} (receives : S → Result (Option (SocketAd
     → CountsReceived receives was given is
 read_behind_others receives was mid next is given read faults l read' faults' =
     inr (looked_before receives was next is (looked_behind receives was mid next read faults l) read' faults')
+
+not_both : (b : Bool) → b ≡ true → b ≡ false → ⊥
+not_both true some none = cc
+not_both false some none = cc
+
+-- nothing is found of a socket that isn't looked at
+pub nobody_looked : {S : Type 0} (was is : Exchange S) (given : Option (SocketAddrV4 × ℕ)) → is_some was.network ≡ false
+    → CountsReceived (λ (before : S) (outcome : Result (Option (SocketAddrV4 × ℕ)) Fault) (room : List ℕ) (after : S). ⊥) was given is → ⊥
+nobody_looked was is given none (inl handed) = not_both (is_some was.network) handed.0 none
+nobody_looked was is given none (inr l) = l.looked

@@ -96,8 +96,9 @@ pub record LooksOnce {S : Type 0}
   pub read : is.read ≡ read_at outcome was.read
   pub faults : is.faults ≡ faults_at outcome was.faults
 
--- a bad network handed a datagram over, and nothing is counted; or it was looked for one
+-- a bad network that is before the socket handed a datagram over, and nothing is counted; or it was looked for one
 abbrev pub CountsReceived :
     {S : Type 0} → (S → Result (Option (SocketAddrV4 × ℕ)) Fault → List ℕ → S → Type 0)
     → Exchange S → Option (SocketAddrV4 × ℕ) → Exchange S → Type 0
-CountsReceived receives was given is = (IsSome given × (is.read ≡ was.read) × (is.faults ≡ was.faults)) ⊎ LooksOnce receives was is
+CountsReceived receives was given is =
+    ((is_some was.network ≡ true) × IsSome given × (is.read ≡ was.read) × (is.faults ≡ was.faults)) ⊎ LooksOnce receives was is

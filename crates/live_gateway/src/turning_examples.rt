@@ -1,14 +1,17 @@
 //! Worked examples of what a turn does, as theorems.
 #![tactic(auto)]
 
-ghost use Rattle.std.specs.Prelude.{◌≡◌, ◌⊎◌, ⊤, codes, true, false, ℕ, List, Some, None, Result, Ok, Err};
+ghost use Rattle.std.specs.Prelude.{◌≡◌, ◌⊎◌, ⊤, codes, true, false, ℕ, List, Option, Some, None, is_some, Result, Ok, Err};
+ghost use Rattle.std.specs.declared.net.socket_addr.SocketAddrV4.{SocketAddrV4};
 ghost use Rattle.gateway_rules.specs.declared.refusal.Refusal.{Refusal as Why};
 ghost use Rattle.live_ends.specs.declared.ending.CommonEnding.{CommonEnding};
 ghost use Rattle.live_ends.specs.declared.ending.CommonEnding.TheVariants.{OutOfMemory};
 ghost use Rattle.live_journal.specs.declared.trace.Trace.{Trace};
 ghost use Rattle.live_gateway.specs.declared.desk.Desk.{Desk};
+ghost use Rattle.live_gateway.specs.declared.exchange.Exchange.{Exchange};
 ghost use Rattle.live_gateway.specs.Answering.{IsActAnswer};
 ghost use Rattle.live_gateway.specs.Ending.{is_record_refused, IsCounted, EndsWith};
+ghost use Rattle.live_gateway.specs.Exchanging.{CountsReceived};
 ghost use Rattle.live_gateway.specs.Turning.{ready_at};
 
 /// Who types may have something where a line is left, or as was told of their socket; the network where one that spoils it hands something
@@ -44,4 +47,10 @@ pub fn a_desk_ends_as_its_records_and_counts_say()
         → EndsWith (λ last before written after. ⊤) desk was is ending → ending ≡ OutOfMemory }
     ensures counted { (last : List ℕ) (desk : Desk ℕ Trace) (was is : ℕ) (ending : CommonEnding)
         → EndsWith (λ words before written after. words ≡ last) desk was is ending → (ending ≡ OutOfMemory) ⊎ IsCounted desk last }
+{}
+
+/// Where no network is before the socket, nothing is found that wasn't looked for.
+pub fn what_is_found_is_looked_for()
+    ensures { (was is : Exchange ℕ) (given : Option (SocketAddrV4 × ℕ)) → is_some was.network ≡ false
+        → CountsReceived (λ before outcome room after. ⊥) was given is → ⊥ }
 {}

@@ -5,7 +5,7 @@ use Rattle.live_gateway.proofs.CountingLemmas.{read_behind_others}
 use Rattle.live_gateway.proofs.exchange.Exchange.receive_spoilt.Goals as goal
 
 pub returns-in-Some-clause-counts : goal.returns-in-Some-clause-counts
-returns-in-Some-clause-counts g c = inl (refl, c.handed_over.ensures.read, c.handed_over.ensures.faults)
+returns-in-Some-clause-counts g c = inl (c.requires, refl, c.handed_over.ensures.read, c.handed_over.ensures.faults)
 
 pub returns-in_err-source-clause-came : goal.returns-in_err-source-clause-came
 returns-in_err-source-clause-came g c =
