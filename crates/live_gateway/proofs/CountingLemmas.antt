@@ -1,53 +1,48 @@
 -- What is counted of looks for datagrams.
-use Rattle.std.proofs.Common.{inl, inr, ◌≡◌, ℕ, Bool, true, false, List, Option, ◌∙◌, sym, ap}
+use Rattle.std.proofs.Common.{inl, inr, ◌≡◌, ℕ, Bool, true, false, cond, List, Option, None, Some, ◌∙◌, sym, ap, subst}
 use Rattle.std.specs.Prelude.{Result, is_some}
 use Rattle.std.specs.declared.net.socket_addr.SocketAddrV4.{SocketAddrV4}
 use Rattle.surroundings.specs.declared.surroundings.Fault.{Fault}
+use Rattle.live_gateway.specs.declared.admission.Admission.{Admission}
 use Rattle.live_gateway.specs.declared.exchange.Exchange.{Exchange}
-use Rattle.live_gateway.specs.Exchanging.{read_at, faults_at, LooksOnce, CountsReceived}
+use Rattle.live_gateway.specs.Admitting.{is_heard}
+use Rattle.live_gateway.specs.Exchanging.{LooksOnce, heard_in, CountsReceived}
 
--- nothing was counted behind it
+-- nothing was counted behind it, and nothing else was asked of the surroundings
 pub looked_before : {S : Type 0} (receives : S → Result (Option (SocketAddrV4 × ℕ)) Fault → List ℕ → S → Type 0) (was mid is : Exchange S)
-    → LooksOnce receives was mid → is.read ≡ mid.read → is.faults ≡ mid.faults → LooksOnce receives was is
-looked_before receives was mid is l read faults = record {
-  before = l.before;
+    (found : Option (SocketAddrV4 × ℕ)) (room : List ℕ) → LooksOnce receives was found room mid → is.around ≡ mid.around → is.read ≡ mid.read
+    → is.faults ≡ mid.faults → LooksOnce receives was found room is
+looked_before {S} receives was mid is found room l around read faults = record {
   outcome = l.outcome;
-  room = l.room;
-  after = l.after;
-  looked = l.looked;
+  looked = subst (λ (s : S). receives was.around l.outcome room s) (sym around) l.looked;
+  gave = l.gave;
   read = read ∙ l.read;
   faults = faults ∙ l.faults;
 }
 
--- nor before it
-looked_behind : {S : Type 0} (receives : S → Result (Option (SocketAddrV4 × ℕ)) Fault → List ℕ → S → Type 0) (was mid is : Exchange S)
-    → mid.read ≡ was.read → mid.faults ≡ was.faults → LooksOnce receives mid is → LooksOnce receives was is
-looked_behind receives was mid is read faults l = record {
-  before = l.before;
-  outcome = l.outcome;
-  room = l.room;
-  after = l.after;
-  looked = l.looked;
-  read = l.read ∙ ap (read_at l.outcome) read;
-  faults = l.faults ∙ ap (faults_at l.outcome) faults;
-}
+-- what a network does before a look, and behind it, counts nothing
+pub read_behind_others : {S : Type 0} (receives : S → Result (Option (SocketAddrV4 × ℕ)) Fault → List ℕ → S → Type 0) (admission : Admission)
+    (was mid next is : Exchange S) (found given : Option (SocketAddrV4 × ℕ)) (between room : List ℕ) → is_some was.network ≡ true
+    → mid.read ≡ was.read → mid.faults ≡ was.faults → LooksOnce receives mid found between next → is.read ≡ next.read → is.faults ≡ next.faults
+    → CountsReceived receives admission was given room is
+read_behind_others receives admission was mid next is found given between room some read faults l read' faults' =
+    inr (some, inr (mid, next, found, between, l, read, faults, read', faults'))
 
-pub was_read : {S : Type 0} (receives : S → Result (Option (SocketAddrV4 × ℕ)) Fault → List ℕ → S → Type 0) (was is : Exchange S) (given : Option (SocketAddrV4 × ℕ))
-    → LooksOnce receives was is → CountsReceived receives was given is
-was_read receives was is given l = inr l
+-- one that is found is given where it is heard
 
-pub read_behind_others : {S : Type 0} (receives : S → Result (Option (SocketAddrV4 × ℕ)) Fault → List ℕ → S → Type 0) (was mid next is : Exchange S)
-    (given : Option (SocketAddrV4 × ℕ)) → mid.read ≡ was.read → mid.faults ≡ was.faults → LooksOnce receives mid next → is.read ≡ next.read → is.faults ≡ next.faults
-    → CountsReceived receives was given is
-read_behind_others receives was mid next is given read faults l read' faults' =
-    inr (looked_before receives was next is (looked_behind receives was mid next read faults l) read' faults')
+pub heard_given : (admission : Admission) (found : SocketAddrV4 × ℕ) → is_heard admission found.0 ≡ true → Some found ≡ heard_in admission (Some found)
+heard_given admission found may = sym (ap (λ (b : Bool). cond b (Some found) None) may)
+
+pub strange_kept : (admission : Admission) (found : SocketAddrV4 × ℕ) → is_heard admission found.0 ≡ false → None ≡ heard_in admission (Some found)
+strange_kept admission found other = sym (ap (λ (b : Bool). cond b (Some found) None) other)
 
 not_both : (b : Bool) → b ≡ true → b ≡ false → ⊥
 not_both true some none = cc
 not_both false some none = cc
 
 -- nothing is found of a socket that isn't looked at
-pub nobody_looked : {S : Type 0} (was is : Exchange S) (given : Option (SocketAddrV4 × ℕ)) → is_some was.network ≡ false
-    → CountsReceived (λ (before : S) (outcome : Result (Option (SocketAddrV4 × ℕ)) Fault) (room : List ℕ) (after : S). ⊥) was given is → ⊥
-nobody_looked was is given none (inl handed) = not_both (is_some was.network) handed.0 none
-nobody_looked was is given none (inr l) = l.looked
+pub nobody_looked : {S : Type 0} (admission : Admission) (was is : Exchange S) (given : Option (SocketAddrV4 × ℕ)) (room : List ℕ)
+    → is_some was.network ≡ false → CountsReceived
+    (λ (before : S) (outcome : Result (Option (SocketAddrV4 × ℕ)) Fault) (room : List ℕ) (after : S). ⊥) admission was given room is → ⊥
+nobody_looked admission was is given room none (inl here) = here.1.1.looked
+nobody_looked admission was is given room none (inr over) = not_both (is_some was.network) over.0 none

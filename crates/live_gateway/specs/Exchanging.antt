@@ -7,12 +7,14 @@ use Rattle.message_counts.specs.declared.reporting.Faults.{Faults}
 use Rattle.live_play.specs.Coming.{Came}
 use Rattle.live_play.specs.Readable.{first_unread}
 use Rattle.std.specs.declared.net.socket_addr.SocketAddrV4.{SocketAddrV4}
-use Rattle.surroundings.specs.Sending.{Sent, Received, Traffic}
+use Rattle.surroundings.specs.Sending.{Sent, Received, Traffic, found_by}
 use Rattle.surroundings.specs.declared.surroundings.Fault.{Fault}
 use Rattle.traces.specs.declared.telling.Mark.{Mark}
 use Rattle.traces.specs.declared.telling.Mark.TheVariants.{Unsent, Lost}
+use Rattle.live_gateway.specs.declared.admission.Admission.{Admission}
 use Rattle.live_gateway.specs.declared.exchange.Exchange.{Exchange}
 use Rattle.live_gateway.specs.declared.spoilt_way.SpoiltWay.{SpoiltWay}
+use Rattle.live_gateway.specs.Admitting.{is_heard, HeardSince}
 use Rattle.live_gateway.specs.Offering.{offered_by, came_over}
 
 -- where who takes it tells that: sockets in memory do, and a network that keeps what it is offered
@@ -85,20 +87,53 @@ abbrev pub faults_at : Result (Option (SocketAddrV4 × ℕ)) Fault → Faults �
 faults_at (Ok found) faults = faults
 faults_at (Err fault) faults = with_unreceived faults
 
--- it was looked for a datagram of the socket, and what that gave is counted, once
+-- what it found, if it found something
+abbrev pub found_at : Result (Option (SocketAddrV4 × ℕ)) Fault → Option (SocketAddrV4 × ℕ)
+found_at (Ok found) = found
+found_at (Err fault) = None
+
+-- it was looked for a datagram of the socket: this one was found, at the front of this room, and what the look gave is counted, once
 pub record LooksOnce {S : Type 0}
-    (receives : S → Result (Option (SocketAddrV4 × ℕ)) Fault → List ℕ → S → Type 0) (was is : Exchange S) : Type 0 where
-  pub before : S
+    (receives : S → Result (Option (SocketAddrV4 × ℕ)) Fault → List ℕ → S → Type 0)
+    (was : Exchange S) (found : Option (SocketAddrV4 × ℕ)) (room : List ℕ) (is : Exchange S) : Type 0 where
   pub outcome : Result (Option (SocketAddrV4 × ℕ)) Fault
-  pub room : List ℕ
-  pub after : S
-  pub looked : receives before outcome room after
+  pub looked : receives was.around outcome room is.around
+  pub gave : found ≡ found_at outcome
   pub read : is.read ≡ read_at outcome was.read
   pub faults : is.faults ≡ faults_at outcome was.faults
 
--- a bad network that is before the socket handed a datagram over, and nothing is counted; or it was looked for one
+-- what was found is given where it is heard
+abbrev pub heard_in : Admission → Option (SocketAddrV4 × ℕ) → Option (SocketAddrV4 × ℕ)
+heard_in admission None = None
+heard_in admission (Some found) = if is_heard admission found.0 then Some found else None
+
+-- it was looked for a datagram of the socket, which is given where it is heard
+abbrev pub LooksHere :
+    {S : Type 0} → (S → Result (Option (SocketAddrV4 × ℕ)) Fault → List ℕ → S → Type 0)
+    → Admission → Exchange S → Option (SocketAddrV4 × ℕ) → List ℕ → Exchange S → Type 0
+LooksHere receives admission was given room is =
+    (found : Option (SocketAddrV4 × ℕ)) × LooksOnce receives was found room is × (given ≡ heard_in admission found)
+
+-- it was, behind what the network before the socket sent, and before what it hands over then: that counts nothing
+abbrev pub LooksBetween :
+    {S : Type 0} → (S → Result (Option (SocketAddrV4 × ℕ)) Fault → List ℕ → S → Type 0) → Exchange S → Exchange S → Type 0
+LooksBetween {S} receives was is =
+    (before after : Exchange S) × (found : Option (SocketAddrV4 × ℕ)) × (room : List ℕ) × LooksOnce receives before found room after
+    × (before.read ≡ was.read) × (before.faults ≡ was.faults) × (is.read ≡ after.read) × (is.faults ≡ after.faults)
+
+-- With no network before the socket it was looked for a datagram of that. Else the network handed one over, and nothing is counted; or it
+-- was looked for one all the same.
 abbrev pub CountsReceived :
     {S : Type 0} → (S → Result (Option (SocketAddrV4 × ℕ)) Fault → List ℕ → S → Type 0)
-    → Exchange S → Option (SocketAddrV4 × ℕ) → Exchange S → Type 0
-CountsReceived receives was given is =
-    ((is_some was.network ≡ true) × IsSome given × (is.read ≡ was.read) × (is.faults ≡ was.faults)) ⊎ LooksOnce receives was is
+    → Admission → Exchange S → Option (SocketAddrV4 × ℕ) → List ℕ → Exchange S → Type 0
+CountsReceived receives admission was given room is =
+    ((is_some was.network ≡ false) × LooksHere receives admission was given room is)
+    ⊎ ((is_some was.network ≡ true)
+    × ((IsSome given × (is.read ≡ was.read) × (is.faults ≡ was.faults)) ⊎ LooksBetween receives was is))
+
+-- of what came to an exchange since, this was found that is heard, at the front of this room, and nothing else
+abbrev pub FoundSince :
+    {S : Type 0} → (S → Traffic) → Admission → Exchange S → Option (SocketAddrV4 × ℕ) → List ℕ → Exchange S → Type 0
+FoundSince traffic admission was found room is =
+    HeardSince admission (received_by was.network (traffic was.around).received) (found_by found room)
+    (received_by is.network (traffic is.around).received)

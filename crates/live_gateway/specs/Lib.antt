@@ -1,3 +1,4 @@
+pub mod Example
 pub mod Offering
 pub mod Exchanging
 pub mod Noting

@@ -1,5 +1,5 @@
 -- What a turn does, by its kind.
-use Rattle.std.specs.Prelude.{◌≡◌, ◌⊎◌, ℕ, Bool, true, ◌||◌, not, List, [], Option, option_map, Result}
+use Rattle.std.specs.Prelude.{◌≡◌, ◌⊎◌, ℕ, Bool, true, ◌||◌, not, List, [], take, Option, None, Some, option_map, Result}
 use Rattle.std.specs.declared.net.socket_addr.SocketAddr.{SocketAddr}
 use Rattle.std.specs.declared.net.socket_addr.SocketAddrV4.{SocketAddrV4}
 use Rattle.mg_bytes.specs.Lists.{is_empty}
@@ -23,12 +23,11 @@ use Rattle.turns.specs.Schedule.{next_of}
 use Rattle.live_play.specs.Running.{Ran, Takes}
 use Rattle.live_telephones.specs.Paging.{TakesAct}
 use Rattle.live_telephones.specs.Watching.{WatchesOn}
-use Rattle.live_gateway.specs.declared.admission.Admission.{Admission}
 use Rattle.live_gateway.specs.declared.desk.Desk.{Desk}
 use Rattle.live_gateway.specs.declared.exchange.Exchange.{Exchange}
 use Rattle.live_gateway.specs.Answering.{DoesLine}
 use Rattle.live_gateway.specs.Desk.{Standing, at_desk, IsHeard}
-use Rattle.live_gateway.specs.Exchanging.{CountsReceived, next_due, moment_at}
+use Rattle.live_gateway.specs.Exchanging.{CountsReceived, FoundSince, came_by, next_due, moment_at}
 
 -- the gateway took an event that came in so, as a play tells it; or refused it, which is counted, and nothing was told
 abbrev pub Tries : Input → GatewayEvent → Standing → Standing → Type 0
@@ -36,15 +35,28 @@ Tries input event was is =
     (Takes was.live input event is.live × (is.came.refused ≡ was.came.refused))
     ⊎ (Ran was.live [] is.live × (is.came.refused ≡ counted was.came.refused 1))
 
--- it was looked for a datagram, once
-abbrev pub LooksForOne : {S : Type 0} → (S → Result (Option (SocketAddrV4 × ℕ)) Fault → List ℕ → S → Type 0) → Type 0
-LooksForOne {S} receives = (was is : Exchange S) × (found : Option (SocketAddrV4 × ℕ)) × CountsReceived receives was found is
+-- None came that is heard, and nothing changed but at the exchange that looked. Or this one did, at the front of this room, and the
+-- gateway took or refused it: what goes out at it changes nothing of what came.
+abbrev pub TriesFound :
+    {S T : Type 0} → (T → Option (List ℕ)) → (S → Traffic) → Exchange S → Option (SocketAddrV4 × ℕ) → List ℕ → Desk S T → Desk S T → Type 0
+TriesFound told traffic looked None room was is =
+    (is ≡ record was { exchange = looked }) × ((at_desk told traffic is).live ≡ (at_desk told traffic was).live)
+    × (looked.faults.refused ≡ was.exchange.faults.refused)
+TriesFound told traffic looked (Some found) room was is =
+    IsHeard was.admission found.0 × ((came_by traffic is.exchange).received ≡ (came_by traffic looked).received)
+    × Tries (arrived found.0 (take found.1 room)) (datagram found.0 (take found.1 room))
+    (at_desk told traffic was) (at_desk told traffic is)
 
--- none came that is heard; or one, which the gateway took or refused
-abbrev pub TriesHeard : Admission → Standing → Standing → Type 0
-TriesHeard admission was is =
-    ((is.live ≡ was.live) × (is.came.refused ≡ was.came.refused))
-    ⊎ ((source : SocketAddrV4) × (bytes : List ℕ) × IsHeard admission source × Tries (arrived source bytes) (datagram source bytes) was is)
+-- it was looked for a datagram at the desk's own exchange, once, and what was found was tried
+pub record LooksForOne {S T : Type 0}
+    (told : T → Option (List ℕ)) (traffic : S → Traffic)
+    (receives : S → Result (Option (SocketAddrV4 × ℕ)) Fault → List ℕ → S → Type 0) (was is : Desk S T) : Type 0 where
+  pub found : Option (SocketAddrV4 × ℕ)
+  pub room : List ℕ
+  pub looked : Exchange S
+  pub counts : CountsReceived receives was.admission was.exchange found room looked
+  pub came : FoundSince traffic was.admission was.exchange found room looked
+  pub tried : TriesFound told traffic looked found room was is
 
 -- Lines are heard where none is left; the first that is left is done, and no other one. Where none is left then, the next act of the page
 -- may be.
@@ -76,8 +88,7 @@ Does told traffic sockets receives hears answers (Wait until) was is = at_desk t
 Does told traffic sockets receives hears answers (Tick moment) was is =
     Tries (passed moment) (tick moment) (at_desk told traffic was) (at_desk told traffic is)
 Does told traffic sockets receives hears answers Command was is = DoesLines told traffic sockets hears answers was is
-Does told traffic sockets receives hears answers Datagram was is =
-    LooksForOne receives × TriesHeard was.admission (at_desk told traffic was) (at_desk told traffic is)
+Does told traffic sockets receives hears answers Datagram was is = LooksForOne told traffic receives was is
 Does told traffic sockets receives hears answers Visit was is = at_desk told traffic is ≡ at_desk told traffic was
 Does told traffic sockets receives hears answers (Note pause) was is = at_desk told traffic is ≡ at_desk told traffic was
 

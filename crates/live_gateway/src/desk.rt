@@ -14,7 +14,7 @@ ghost use Rattle.live_gateway.specs.Desk.{at_desk, GoesOn};
 ghost use Rattle.live_gateway.specs.Ending.{EndsAt, WroteTimes, AsksForEnd};
 ghost use Rattle.live_play.specs.Readable.{first_unread};
 ghost use Rattle.live_gateway.specs.Answering.{DoesLine, AnswersRequest};
-ghost use Rattle.live_gateway.specs.Turning.{Tries, TriesHeard, LooksForOne, DoesLines, Does, DoesNext};
+ghost use Rattle.live_gateway.specs.Turning.{Tries, LooksForOne, DoesLines, Does, DoesNext};
 ghost use Rattle.traces.specs.Writing.{passed};
 
 use crate::admission::Admission;
@@ -149,8 +149,7 @@ impl<S: Surroundings + Drop, T: Teller + Drop> Desk<S, T> {
     // A datagram is taken, if one is there, and who sent it is heard.
     fn datagram(&mut self)
         ensures play { GoesOn T.told S.traffic self.old self.new }
-        ensures looked { LooksForOne S.receives }
-        ensures tried { TriesHeard self.old.admission (at_desk T.told S.traffic self.old) (at_desk T.told S.traffic self.new) }
+        ensures looked { LooksForOne T.told S.traffic S.receives self.old self.new }
         ensures schedule { self.new.schedule ≡ self.old.schedule }
     {
         let mut room = [0u8; DATAGRAM_ROOM];

@@ -12,9 +12,9 @@ ghost use Rattle.told_messages.specs.Showing.{GoesOn, HappenedWith, Turned};
 ghost use Rattle.surroundings.specs.declared.surroundings.Fault.{Fault};
 ghost use Rattle.surroundings.specs.Hearing.{Hears};
 ghost use Rattle.surroundings.specs.Sending.{Sent, Grows, found_by};
-ghost use Rattle.live_gateway.specs.Admitting.{is_heard, HeardSince};
+ghost use Rattle.live_gateway.specs.Admitting.{is_heard};
 ghost use Rattle.live_gateway.specs.Offering.{brought};
-ghost use Rattle.live_gateway.specs.Exchanging.{handed_by, received_by, came_by, next_due, moment_at, faultless, refusals, with_refused, with_mark, with_unreceived, with_read, IsSameTurn, LooksOnce, CountsReceived};
+ghost use Rattle.live_gateway.specs.Exchanging.{handed_by, received_by, came_by, next_due, moment_at, faultless, refusals, with_refused, with_mark, with_unreceived, with_read, IsSameTurn, LooksOnce, CountsReceived, FoundSince};
 ghost use Rattle.live_gateway.specs.Noting.{TurnsAway, NotesArrival, NotesLate, CountsFound};
 ghost use Rattle.live_play.specs.Readable.{first_unread};
 
@@ -329,9 +329,7 @@ impl<S: Surroundings + Drop> Exchange<S> {
         ensures read { self.new.read ≡ self.old.read }
         ensures turn { IsSameTurn self.old self.new }
         ensures spoilt { is_some self.new.network ≡ is_some self.old.network }
-        ensures came { HeardSince admission.now
-            (received_by self.old.network (S.traffic self.old.around).received) (found_by result room.new)
-            (received_by self.new.network (S.traffic self.new.around).received) }
+        ensures came { FoundSince S.traffic admission.now self.old result room.new self.new }
         ensures tally { CountsFound self.old.journal.tally.value result self.new.journal.tally.value }
     {
         for _ in 0..u16::MAX {
@@ -390,9 +388,7 @@ impl<S: Surroundings + Drop> Exchange<S> {
         ensures read { self.new.read ≡ self.old.read }
         ensures turn { IsSameTurn self.old self.new }
         ensures spoilt { is_some self.new.network ≡ is_some self.old.network }
-        ensures came { HeardSince admission.now
-            (received_by self.old.network (S.traffic self.old.around).received) (found_by result room.new)
-            (received_by self.new.network (S.traffic self.new.around).received) }
+        ensures came { FoundSince S.traffic admission.now self.old result room.new self.new }
         ensures tally { CountsFound self.old.journal.tally.value result self.new.journal.tally.value }
     {
         if self.is_lost(source, &room[..len]) {
@@ -411,7 +407,7 @@ impl<S: Surroundings + Drop> Exchange<S> {
         ensures sent { (S.traffic self.new.around).sent ≡ (S.traffic self.old.around).sent }
         ensures received { Grows (S.traffic self.old.around).received (found_by result room.new) (S.traffic self.new.around).received }
         ensures refused { self.new.faults.refused ≡ self.old.faults.refused }
-        ensures counts { LooksOnce S.receives self.old self.new }
+        ensures counts { LooksOnce S.receives self.old result room.new self.new }
         ensures turn { IsSameTurn self.old self.new }
         ensures journal { self.new.journal ≡ self.old.journal }
     {
@@ -441,11 +437,9 @@ impl<S: Surroundings + Drop> Exchange<S> {
         ensures handed { handed_by self.new.network (S.traffic self.new.around).sent
             ≡ handed_by self.old.network (S.traffic self.old.around).sent }
         ensures refused { self.new.faults.refused ≡ self.old.faults.refused }
-        ensures counts { LooksOnce S.receives self.old self.new }
+        ensures counts { CountsReceived S.receives admission.now self.old result room.new self.new }
         ensures turn { IsSameTurn self.old self.new }
-        ensures came { HeardSince admission.now
-            (received_by self.old.network (S.traffic self.old.around).received) (found_by result room.new)
-            (received_by self.new.network (S.traffic self.new.around).received) }
+        ensures came { FoundSince S.traffic admission.now self.old result room.new self.new }
         ensures tally { CountsFound self.old.journal.tally.value result self.new.journal.tally.value }
     {
         let (source, len) = self.read_socket(room)?;
@@ -469,11 +463,9 @@ impl<S: Surroundings + Drop> Exchange<S> {
         ensures handed { handed_by self.new.network (S.traffic self.new.around).sent
             ≡ handed_by self.old.network (S.traffic self.old.around).sent }
         ensures refused { self.new.faults.refused ≡ self.old.faults.refused }
-        ensures counts { CountsReceived S.receives self.old result self.new }
+        ensures counts { CountsReceived S.receives admission.now self.old result room.new self.new }
         ensures turn { IsSameTurn self.old self.new }
-        ensures came { HeardSince admission.now
-            (received_by self.old.network (S.traffic self.old.around).received) (found_by result room.new)
-            (received_by self.new.network (S.traffic self.new.around).received) }
+        ensures came { FoundSince S.traffic admission.now self.old result room.new self.new }
         ensures tally { CountsFound self.old.journal.tally.value result self.new.journal.tally.value }
     {
         if let Some(found) = self.handed_over(admission, room) {
@@ -489,7 +481,6 @@ impl<S: Surroundings + Drop> Exchange<S> {
 
     /// A datagram for the gateway, put at the start of the room, if one has come from one of those who are heard: from where, and how
     /// long it is. What comes from others, or from the gateway's own sockets, is counted, and told of once a second; it does nothing else.
-    #[tactic(auto, using(crate::proofs::CountingLemmas::was_read))]
     pub fn receive(
         &mut self,
         admission: &Admission,
@@ -501,11 +492,9 @@ impl<S: Surroundings + Drop> Exchange<S> {
         ensures handed { handed_by self.new.network (S.traffic self.new.around).sent
             ≡ handed_by self.old.network (S.traffic self.old.around).sent }
         ensures refused { self.new.faults.refused ≡ self.old.faults.refused }
-        ensures counts { CountsReceived S.receives self.old result self.new }
+        ensures counts { CountsReceived S.receives admission.now self.old result room.new self.new }
         ensures turn { IsSameTurn self.old self.new }
-        ensures came { HeardSince admission.now
-            (received_by self.old.network (S.traffic self.old.around).received) (found_by result room.new)
-            (received_by self.new.network (S.traffic self.new.around).received) }
+        ensures came { FoundSince S.traffic admission.now self.old result room.new self.new }
         ensures tally { CountsFound self.old.journal.tally.value result self.new.journal.tally.value }
     {
         if self.network.is_some() {

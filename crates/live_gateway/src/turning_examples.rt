@@ -1,17 +1,19 @@
 //! Worked examples of what a turn does, as theorems.
 #![tactic(auto)]
 
-ghost use Rattle.std.specs.Prelude.{◌≡◌, ◌⊎◌, ⊤, codes, true, false, ℕ, List, Option, Some, None, is_some, Result, Ok, Err};
-ghost use Rattle.std.specs.declared.net.socket_addr.SocketAddrV4.{SocketAddrV4};
+ghost use Rattle.std.specs.Prelude.{◌≡◌, ◌⊎◌, codes, true, false, ℕ, List, [], Some, None, is_some, Result, Ok, Err};
 ghost use Rattle.gateway_rules.specs.declared.refusal.Refusal.{Refusal as Why};
 ghost use Rattle.live_ends.specs.declared.ending.CommonEnding.{CommonEnding};
 ghost use Rattle.live_ends.specs.declared.ending.CommonEnding.TheVariants.{OutOfMemory};
 ghost use Rattle.live_journal.specs.declared.trace.Trace.{Trace};
+ghost use Rattle.live_gateway.specs.declared.admission.Admission.{Admission};
 ghost use Rattle.live_gateway.specs.declared.desk.Desk.{Desk};
 ghost use Rattle.live_gateway.specs.declared.exchange.Exchange.{Exchange};
+ghost use Rattle.live_gateway.specs.Admitting.{is_heard};
 ghost use Rattle.live_gateway.specs.Answering.{IsActAnswer};
-ghost use Rattle.live_gateway.specs.Ending.{is_record_refused, IsCounted, EndsWith};
-ghost use Rattle.live_gateway.specs.Exchanging.{CountsReceived};
+ghost use Rattle.live_gateway.specs.Ending.{is_record_refused, IsCounted};
+ghost use Rattle.live_gateway.specs.Example.{found, LooksNowhere, FindsNothing, EndsSaying};
+ghost use Rattle.live_gateway.specs.Exchanging.{heard_in};
 ghost use Rattle.live_gateway.specs.Turning.{ready_at};
 
 /// Who types may have something where a line is left, or as was told of their socket; the network where one that spoils it hands something
@@ -43,14 +45,16 @@ pub fn an_act_is_answered_by_what_came_of_it()
 
 /// A desk ends for want of memory where that was refused for a record; what was counted is said last, unless memory was refused for that.
 pub fn a_desk_ends_as_its_records_and_counts_say()
-    ensures refused { (desk : Desk ℕ Trace) (was is : ℕ) (ending : CommonEnding) → is_record_refused desk.play.teller desk.exchange.journal ≡ true
-        → EndsWith (λ last before written after. ⊤) desk was is ending → ending ≡ OutOfMemory }
-    ensures counted { (last : List ℕ) (desk : Desk ℕ Trace) (was is : ℕ) (ending : CommonEnding)
-        → EndsWith (λ words before written after. words ≡ last) desk was is ending → (ending ≡ OutOfMemory) ⊎ IsCounted desk last }
+    ensures refused { (desk : Desk ℕ Trace) (ending : CommonEnding) → is_record_refused desk.play.teller desk.exchange.journal ≡ true
+        → EndsSaying [] desk ending → ending ≡ OutOfMemory }
+    ensures counted { (last : List ℕ) (desk : Desk ℕ Trace) (ending : CommonEnding) → EndsSaying last desk ending
+        → (ending ≡ OutOfMemory) ⊎ IsCounted desk last }
 {}
 
-/// Where no network is before the socket, nothing is found that wasn't looked for.
-pub fn what_is_found_is_looked_for()
-    ensures { (was is : Exchange ℕ) (given : Option (SocketAddrV4 × ℕ)) → is_some was.network ≡ false
-        → CountsReceived (λ before outcome room after. ⊥) was given is → ⊥ }
+/// What an exchange gives: nothing that wasn't looked for where no network is before the socket, and nothing of who isn't heard.
+pub fn what_an_exchange_gives_has_examples()
+    ensures unlooked { (was is : Desk ℕ ℕ) → is_some was.exchange.network ≡ false → LooksNowhere was is → ⊥ }
+    ensures nothing { (looked : Exchange ℕ) (was is : Desk ℕ ℕ) → FindsNothing looked was is → is.exchange ≡ looked }
+    ensures heard { (admission : Admission) → is_heard admission found.0 ≡ true → heard_in admission (Some found) ≡ Some found }
+    ensures strange { (admission : Admission) → is_heard admission found.0 ≡ false → heard_in admission (Some found) ≡ None }
 {}

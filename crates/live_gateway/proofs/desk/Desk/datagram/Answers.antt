@@ -1,6 +1,7 @@
-use Rattle.std.proofs.Common.{inl, inr, refl, ◌∙◌, ap}
+use Rattle.std.proofs.Common.{None, Some, refl, ◌∙◌, ap}
+use Rattle.std.specs.Prelude.{not, is_ok}
 use Rattle.live_play.specs.Coming.{Came}
-use Rattle.live_gateway.specs.Desk.{at_desk}
+use Rattle.live_gateway.specs.Desk.{Standing, at_desk}
 use Rattle.live_gateway.proofs.DeskLemmas.{standing_of, counted_so, hears_nobody, hears}
 use Rattle.live_gateway.proofs.HearingLemmas.{heard_still}
 use Rattle.live_gateway.proofs.TurningLemmas.{tries}
@@ -11,10 +12,14 @@ returns-in_default-clause-play g c =
     hears_nobody g.T.Teller.told g.S.Surroundings.traffic _ _ c.in_default.ensures.came (rw (c.receive.ensures.handed) refl) c.receive.ensures.refused refl
 
 pub returns-in_default-clause-looked : goal.returns-in_default-clause-looked
-returns-in_default-clause-looked g c = (_, _, _, c.receive.ensures.counts)
-
-pub returns-in_default-clause-tried : goal.returns-in_default-clause-tried
-returns-in_default-clause-tried g c = inl (rw (c.receive.ensures.handed) refl, c.receive.ensures.refused)
+returns-in_default-clause-looked g c = record {
+  found = None;
+  room = c.receive.new.room;
+  looked = c.receive.new.self;
+  counts = c.in_default.ensures.counts;
+  came = c.in_default.ensures.came;
+  tried = (refl, rw (c.receive.ensures.handed) refl, c.receive.ensures.refused);
+}
 
 pub returns-clause-play : goal.returns-clause-play
 returns-clause-play g c =
@@ -32,22 +37,27 @@ returns-clause-play g c =
     refl
 
 pub returns-clause-looked : goal.returns-clause-looked
-returns-clause-looked g c = (_, _, _, c.receive.ensures.counts)
-
-pub returns-clause-tried : goal.returns-clause-tried
-returns-clause-tried g c =
+returns-clause-looked g c =
     let told = g.T.Teller.told in
     let traffic = g.S.Surroundings.traffic in
     let same = c.datagram-done.ensures.came in
-    inr (
-      c.in-Some.source,
-      _,
-      c.in-Some.ensures.admitted,
-      tries _ _ c.datagram-done.result (at_desk told traffic c.args.self.now) (standing_of told traffic c.datagram-done.new.self c.datagram-done.new.out) _
-          (rw (c.receive.ensures.handed) at c.datagram-done.ensures.taken)
-          (rw (c.receive.ensures.handed) at c.datagram-done.ensures.refused)
-          (ap (λ (x : Came). x.refused) same ∙ c.receive.ensures.refused)
-          (counted_so told traffic c.datagram-done.new.self c.datagram-done.new.out c.note_taken.new.exchange _
-          (c.note_taken.ensures.network ∙ c.note_datagram.ensures.network) (ap traffic (c.note_taken.ensures.around ∙ c.note_datagram.ensures.around))
-          (rw (c.is_ok-is_taken.ensures.value, c.note_datagram.ensures.faults) at c.note_taken.ensures.refused)),
-    )
+    let noted = counted_so told traffic c.datagram-done.new.self c.datagram-done.new.out c.note_taken.new.exchange (not (is_ok c.datagram-done.result))
+    (c.note_taken.ensures.network ∙ c.note_datagram.ensures.network) (ap traffic (c.note_taken.ensures.around ∙ c.note_datagram.ensures.around))
+    (rw (c.is_ok-is_taken.ensures.value, c.note_datagram.ensures.faults) at c.note_taken.ensures.refused) in
+    record {
+      found = Some (c.in-Some.source, c.in-Some.len);
+      room = c.receive.new.room;
+      looked = c.receive.new.self;
+      counts = c.in-Some.ensures.counts;
+      came = c.in-Some.ensures.came;
+      tried = (
+        c.in-Some.ensures.admitted,
+        ap (λ (s : Standing). s.came.received) noted ∙ ap (λ (x : Came). x.received) same,
+        tries _ _ c.datagram-done.result (at_desk told traffic c.args.self.now)
+            (standing_of told traffic c.datagram-done.new.self c.datagram-done.new.out) _
+            (rw (c.receive.ensures.handed) at c.datagram-done.ensures.taken)
+            (rw (c.receive.ensures.handed) at c.datagram-done.ensures.refused)
+            (ap (λ (x : Came). x.refused) same ∙ c.receive.ensures.refused)
+            noted,
+      );
+    }

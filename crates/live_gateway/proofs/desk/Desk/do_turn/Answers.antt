@@ -20,7 +20,7 @@ pub returns-in-Datagram-clause-play : goal.returns-in-Datagram-clause-play
 returns-in-Datagram-clause-play g c = c.datagram.ensures.play
 
 pub returns-in-Datagram-clause-does : goal.returns-in-Datagram-clause-does
-returns-in-Datagram-clause-does g c = rw (c.in-Datagram.is) (c.datagram.ensures.looked, c.datagram.ensures.tried)
+returns-in-Datagram-clause-does g c = rw (c.in-Datagram.is) c.datagram.ensures.looked
 
 pub returns-in-Visit-clause-play : goal.returns-in-Visit-clause-play
 returns-in-Visit-clause-play g c = stays_so g.T.Teller.told g.S.Surroundings.traffic _ _ c.visit.ensures.play c.visit.ensures.admission

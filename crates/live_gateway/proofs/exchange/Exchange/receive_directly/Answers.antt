@@ -1,7 +1,7 @@
-use Rattle.std.proofs.Common.{refl, sym, ◌∙◌}
+use Rattle.std.proofs.Common.{None, Some, inl, refl, sym, ◌∙◌}
 use Rattle.live_gateway.proofs.ArrivalLemmas.{found_none, found_between, arrival_found, arrival_strange, tally_of}
 use Rattle.live_gateway.proofs.HearingLemmas.{heard_still, hears_nothing, hears_one, passes_over}
-use Rattle.live_gateway.proofs.CountingLemmas.{looked_before}
+use Rattle.live_gateway.proofs.CountingLemmas.{looked_before, heard_given, strange_kept}
 use Rattle.live_gateway.proofs.exchange.Exchange.receive_directly.Goals as goal
 
 pub returns-in_err-source-clause-came : goal.returns-in_err-source-clause-came
@@ -17,8 +17,19 @@ returns-then-come-clause-came g c =
     c.in_ok-source.ensures.received (sym c.come.ensures.heard ∙ c.if-come.true))
     (rw (c.come.ensures.network, c.come.ensures.around) refl)
 
+pub returns-in_err-source-clause-counts : goal.returns-in_err-source-clause-counts
+returns-in_err-source-clause-counts g c = inl (c.requires, (None, c.in_err-source.ensures.counts, c.from_residual.ensures))
+
 pub returns-then-come-clause-counts : goal.returns-then-come-clause-counts
-returns-then-come-clause-counts g c = looked_before _ _ _ _ c.read_socket.ensures.counts c.come.ensures.read c.come.ensures.faults
+returns-then-come-clause-counts g c =
+    inl (
+      c.requires,
+      (
+        Some (c.in_ok-source.source, c.in_ok-source.len),
+        looked_before _ _ _ _ _ _ c.in_ok-source.ensures.counts c.come.ensures.around c.come.ensures.read c.come.ensures.faults,
+        heard_given c.args.admission.now (c.in_ok-source.source, c.in_ok-source.len) (sym c.come.ensures.heard ∙ c.if-come.true),
+      ),
+    )
 
 pub returns-then-come-clause-turn : goal.returns-then-come-clause-turn
 returns-then-come-clause-turn g c =
@@ -32,7 +43,15 @@ returns-clause-came g c =
     (rw (c.come.ensures.network, c.come.ensures.around) refl)
 
 pub returns-clause-counts : goal.returns-clause-counts
-returns-clause-counts g c = looked_before _ _ _ _ c.read_socket.ensures.counts c.come.ensures.read c.come.ensures.faults
+returns-clause-counts g c =
+    inl (
+      c.requires,
+      (
+        Some (c.in_ok-source.source, c.in_ok-source.len),
+        looked_before _ _ _ _ _ _ c.in_ok-source.ensures.counts c.come.ensures.around c.come.ensures.read c.come.ensures.faults,
+        strange_kept c.args.admission.now (c.in_ok-source.source, c.in_ok-source.len) (sym c.come.ensures.heard ∙ c.if-come.false),
+      ),
+    )
 
 pub returns-clause-turn : goal.returns-clause-turn
 returns-clause-turn g c =

@@ -1,0 +1,17 @@
+use Rattle.std.proofs.Common.{ℕ, sym, ap}
+use Rattle.live_gateway.specs.declared.desk.Desk.{Desk}
+use Rattle.live_gateway.specs.Example.{found}
+use Rattle.live_gateway.proofs.CountingLemmas.{nobody_looked, heard_given, strange_kept}
+use Rattle.live_gateway.proofs.turning_examples.what_an_exchange_gives_has_examples.Goals as goal
+
+pub returns-clause-unlooked : goal.returns-clause-unlooked
+returns-clause-unlooked c = λ was is none l. nobody_looked was.admission was.exchange l.looked l.found l.room none l.counts
+
+pub returns-clause-nothing : goal.returns-clause-nothing
+returns-clause-nothing c = λ looked was is tries. ap (λ (desk : Desk ℕ ℕ). desk.exchange) tries.0
+
+pub returns-clause-heard : goal.returns-clause-heard
+returns-clause-heard c = λ admission may. sym (heard_given admission found may)
+
+pub returns-clause-strange : goal.returns-clause-strange
+returns-clause-strange c = λ admission other. sym (strange_kept admission found other)

@@ -1,0 +1,26 @@
+-- What the worked examples speak of: a desk over surroundings that tell nothing, whose trace tells nothing either.
+use Rattle.std.specs.Prelude.{◌≡◌, ℕ, List, [], ◌∷◌, Option, None}
+use Rattle.std.specs.declared.net.socket_addr.SocketAddrV4.{SocketAddrV4}
+use Rattle.live_ends.specs.declared.ending.CommonEnding.{CommonEnding}
+use Rattle.live_journal.specs.declared.trace.Trace.{Trace}
+use Rattle.surroundings.specs.Sending.{untold}
+use Rattle.live_gateway.specs.declared.desk.Desk.{Desk}
+use Rattle.live_gateway.specs.declared.exchange.Exchange.{Exchange}
+use Rattle.live_gateway.specs.Ending.{EndsWith}
+use Rattle.live_gateway.specs.Turning.{TriesFound, LooksForOne}
+
+-- a datagram of 5 bytes from 10.0.0.9:2727
+abbrev pub found : SocketAddrV4 × ℕ
+found = (record { ip = record { octets = 10 ∷ 0 ∷ 0 ∷ 9 ∷ [] }; port = 2727 }, 5)
+
+-- a desk looked for a datagram, where nobody looks for one
+abbrev pub LooksNowhere : Desk ℕ ℕ → Desk ℕ ℕ → Type 0
+LooksNowhere was is = LooksForOne (λ told. None) (λ around. untold) (λ before outcome room after. ⊥) was is
+
+-- nothing was found by an exchange that looked so
+abbrev pub FindsNothing : Exchange ℕ → Desk ℕ ℕ → Desk ℕ ℕ → Type 0
+FindsNothing looked was is = TriesFound (λ told. None) (λ around. untold) looked None [] was is
+
+-- a desk ended so, and who writes what was recorded was told these words last, if any
+abbrev pub EndsSaying : List ℕ → Desk ℕ Trace → CommonEnding → Type 0
+EndsSaying last desk ending = EndsWith (λ words before written after. words ≡ last) desk 0 0 ending
