@@ -1,3 +1,4 @@
+pub mod SendingLemmas
 pub mod CameLemmas
 pub mod HearingLemmas
 pub mod CountingLemmas

@@ -1,12 +1,16 @@
 -- What the worked examples speak of: a desk over surroundings that tell nothing, whose trace tells nothing either.
-use Rattle.std.specs.Prelude.{◌≡◌, ℕ, List, [], ◌∷◌, Option, None}
+use Rattle.std.specs.Prelude.{◌≡◌, ℕ, List, [], ◌∷◌, None, Result, Ok, Err}
 use Rattle.std.specs.declared.net.socket_addr.SocketAddrV4.{SocketAddrV4}
+use Rattle.bad_network.specs.declared.fate.Fate.{Fate}
+use Rattle.bad_network.specs.declared.fate.Fate.TheVariants.{Lost, Once}
 use Rattle.live_ends.specs.declared.ending.CommonEnding.{CommonEnding}
 use Rattle.live_journal.specs.declared.trace.Trace.{Trace}
 use Rattle.surroundings.specs.Sending.{untold}
+use Rattle.surroundings.specs.declared.surroundings.Fault.{Fault}
 use Rattle.live_gateway.specs.declared.desk.Desk.{Desk}
 use Rattle.live_gateway.specs.declared.exchange.Exchange.{Exchange}
 use Rattle.live_gateway.specs.Ending.{EndsWith}
+use Rattle.live_gateway.specs.Exchanging.{Becomes}
 use Rattle.live_gateway.specs.Turning.{TriesFound, LooksForOne}
 
 -- a datagram of 5 bytes from 10.0.0.9:2727
@@ -24,3 +28,17 @@ FindsNothing looked was is = TriesFound (λ told. None) (λ around. untold) look
 -- a desk ended so, and who writes what was recorded was told these words last, if any
 abbrev pub EndsSaying : List ℕ → Desk ℕ Trace → CommonEnding → Type 0
 EndsSaying last desk ending = EndsWith (λ words before written after. words ≡ last) desk 0 0 ending
+
+-- a network loses it, or it comes; the surroundings failed
+abbrev pub lost : Result Fate ℕ
+lost = Ok Lost
+
+abbrev pub comes : Result Fate ℕ
+comes = Ok (Once 0)
+
+abbrev pub failed : {A : Type 0} → Result A ℕ
+failed = Err 0
+
+-- something became of a datagram, where nobody sends one
+abbrev pub SendsNowhere : Exchange ℕ → Exchange ℕ → Type 0
+SendsNowhere was is = (became : Result Fate Fault) × Becomes (λ before to bytes sent after. ⊥) was found.0 [] became is

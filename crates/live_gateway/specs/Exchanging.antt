@@ -1,6 +1,9 @@
 -- What was handed to an exchange: to the sockets, or to the bad network before them; and what came to it.
-use Rattle.std.specs.Prelude.{◌≡◌, ◌⊎◌, ℕ, nat_lt, if◌then◌else◌, Bool, true, false, List, Option, Some, None, IsSome, is_some, Result, Ok, Err}
+use Rattle.std.specs.Prelude.{◌≡◌, ◌⊎◌, ⊤, ℕ, nat_lt, if◌then◌else◌, Bool, true, false, List, Option, Some, None, IsSome, is_some, Result, Ok, Err, IsErr}
 use Rattle.std.specs.Global.{Box}
+use Rattle.bad_network.specs.declared.fate.Fate.{Fate}
+use Rattle.bad_network.specs.declared.fate.Fate.TheVariants.{Lost as NeverComes, Once, Twice}
+use Rattle.bad_network.specs.declared.packet.Way.TheVariants.{In, Out}
 use Rattle.bad_network.specs.Waiting.{first_due}
 use Rattle.gateway_core.specs.Wire.{counted}
 use Rattle.message_counts.specs.declared.reporting.Faults.{Faults}
@@ -15,7 +18,7 @@ use Rattle.live_gateway.specs.declared.admission.Admission.{Admission}
 use Rattle.live_gateway.specs.declared.exchange.Exchange.{Exchange}
 use Rattle.live_gateway.specs.declared.spoilt_way.SpoiltWay.{SpoiltWay}
 use Rattle.live_gateway.specs.Admitting.{is_heard, HeardSince}
-use Rattle.live_gateway.specs.Offering.{offered_by, came_over}
+use Rattle.live_gateway.specs.Offering.{offered_by, came_over, Offers}
 
 -- where who takes it tells that: sockets in memory do, and a network that keeps what it is offered
 abbrev pub handed_by : Option (Box SpoiltWay) → Option (List Sent) → Option (List Sent)
@@ -62,11 +65,60 @@ faultless = record { refused = 0; receive = 0; send = 0 }
 abbrev pub with_unreceived : Faults → Faults
 with_unreceived faults = record faults { receive = counted faults.receive 1 }
 
+-- that the clock failed counts, or told a moment that no trace has read again
+abbrev pub faults_by : {E : Type 0} → Result ℕ E → Faults → Faults
+faults_by (Ok moment) faults = if nat_lt moment first_unread then faults else with_unreceived faults
+faults_by (Err fault) faults = with_unreceived faults
+
 -- a datagram was handed out, of which this is to be noted: that it wasn't sent counts
 abbrev pub with_mark : Option Mark → Faults → Faults
 with_mark None faults = faults
 with_mark (Some Lost) faults = faults
 with_mark (Some Unsent) faults = record faults { send = counted faults.send 1 }
+
+-- what is to be noted of a datagram of which this became
+abbrev pub mark_of : {E : Type 0} → Result Fate E → Option Mark
+mark_of (Ok NeverComes) = Some Lost
+mark_of (Ok (Once late)) = None
+mark_of (Ok (Twice first second)) = None
+mark_of (Err fault) = Some Unsent
+
+-- so one that came is lost, by what the network draws, or for want of memory
+abbrev pub is_lost : {E : Type 0} → Result Fate E → Bool
+is_lost (Ok NeverComes) = true
+is_lost (Ok (Once late)) = false
+is_lost (Ok (Twice first second)) = false
+is_lost (Err fault) = true
+
+-- a socket loses none: what it sends comes once, and at once
+abbrev pub IsSentSo : Result ⊤ Fault → Result Fate Fault → Type 0
+IsSentSo (Ok sent) became = became ≡ Ok (Once 0)
+IsSentSo (Err fault) became = IsErr became
+
+-- a datagram goes to the network before the socket alone, where one is there; else to the socket
+abbrev pub SendsOver :
+    {S : Type 0} → (S → SocketAddrV4 → List ℕ → Result ⊤ Fault → S → Type 0) → SocketAddrV4 → List ℕ → ℕ → Result Fate Fault
+    → Option (Box SpoiltWay) → S → Option (Box SpoiltWay) → S → Type 0
+SendsOver sends to bytes now became None before None after =
+    (sent : Result ⊤ Fault) × sends before to bytes sent after × IsSentSo sent became
+SendsOver sends to bytes now became None before (Some is) after = ⊥
+SendsOver sends to bytes now became (Some was) before None after = ⊥
+SendsOver sends to bytes now became (Some was) before (Some is) after =
+    (after ≡ before) × Offers Out was.value.network to bytes now became is.value.network
+
+-- this becomes of a datagram that is sent
+abbrev pub Becomes :
+    {S : Type 0} → (S → SocketAddrV4 → List ℕ → Result ⊤ Fault → S → Type 0)
+    → Exchange S → SocketAddrV4 → List ℕ → Result Fate Fault → Exchange S → Type 0
+Becomes sends was to bytes became is = SendsOver sends to bytes was.now.clock became was.network was.around is.network is.around
+
+-- a datagram that came goes to the network before the socket, which may lose it; where none is there, it isn't lost
+abbrev pub LosesOver : SocketAddrV4 → List ℕ → ℕ → Bool → Option (Box SpoiltWay) → Option (Box SpoiltWay) → Type 0
+LosesOver source bytes now lost None None = lost ≡ false
+LosesOver source bytes now lost None (Some is) = ⊥
+LosesOver source bytes now lost (Some was) None = ⊥
+LosesOver source bytes now lost (Some was) (Some is) =
+    (became : Result Fate ⊤) × Offers In was.value.network source bytes now became is.value.network × (lost ≡ is_lost became)
 
 -- a datagram was read, or none was
 abbrev pub with_read : Bool → ℕ → ℕ
@@ -76,6 +128,10 @@ with_read false read = read
 -- the turn under way is the same, and whether something waits to be taken
 abbrev pub IsSameTurn : {S : Type 0} → Exchange S → Exchange S → Type 0
 IsSameTurn was is = (is.now ≡ was.now) × (is.is_offering ≡ was.is_offering)
+
+-- of an exchange, only what is recorded changes, and whether some of that waits to be taken
+abbrev pub OnlyWrites : {S : Type 0} → Exchange S → Exchange S → Type 0
+OnlyWrites was is = is ≡ record was { journal = is.journal; is_offering = is.is_offering }
 
 -- so many datagrams were read, where a look for one gave this: a datagram counts, whatever becomes of it
 abbrev pub read_at : Result (Option (SocketAddrV4 × ℕ)) Fault → ℕ → ℕ

@@ -1,14 +1,15 @@
 -- What was offered to the bad network before the sockets, and what it handed over.
-use Rattle.std.specs.Prelude.{ℕ, List, [], ◌∷◌, map, take, Option, None, Some, option_map}
+use Rattle.std.specs.Prelude.{◌≡◌, ℕ, List, [], ◌∷◌, map, take, Option, None, Some, option_map, Result, IfOk, OnOk, OnErr}
+use Rattle.std.specs.Global.{Box}
 use Rattle.std.specs.declared.net.socket_addr.SocketAddrV4.{SocketAddrV4}
 use Rattle.bad_network.specs.declared.fate.Fate.{Fate}
 use Rattle.bad_network.specs.declared.network.BadNetwork.{BadNetwork}
 use Rattle.bad_network.specs.declared.packet.Packet.{Packet}
 use Rattle.bad_network.specs.declared.packet.Way.{Way}
 use Rattle.bad_network.specs.declared.packet.Way.TheVariants.{In, Out}
-use Rattle.bad_network.specs.Drawing.{draws_of}
+use Rattle.bad_network.specs.Drawing.{draws_of, after_draws}
 use Rattle.bad_network.specs.Fates.{fate_of}
-use Rattle.bad_network.specs.Waiting.{copies_of as packets_of}
+use Rattle.bad_network.specs.Waiting.{copies_of as packets_of, put_all, taken, IsPutInPart}
 use Rattle.surroundings.specs.Keeping.{copies_of}
 use Rattle.surroundings.specs.Sending.{Sent, Received}
 use Rattle.live_gateway.specs.declared.spoilt_way.SpoiltWay.{SpoiltWay}
@@ -42,3 +43,25 @@ next_fate network = fate_of network.spoiling (draws_of network.generator)
 -- what comes of it
 abbrev pub next_copies : BadNetwork → Way → SocketAddrV4 → List ℕ → ℕ → List Packet
 next_copies network way peer bytes now = packets_of (next_fate network) way peer bytes now
+
+-- This becomes of a datagram that is offered to a network, at a moment: what it draws next, and its copies wait. Where memory is refused,
+-- those of them that stand in front may.
+pub record Offers {E : Type 0}
+    (way : Way) (was : BadNetwork) (peer : SocketAddrV4) (bytes : List ℕ) (now : ℕ) (became : Result Fate E) (is : BadNetwork)
+    : Type 0 where
+  pub fate : IfOk became (λ fate. fate ≡ next_fate was)
+  pub wait : OnOk became (is.waiting.items ≡ put_all (next_copies was way peer bytes now) was.waiting.items)
+  pub in_part : OnErr became (IsPutInPart (next_copies was way peer bytes now) was.waiting.items is.waiting.items)
+  pub spoiling : is.spoiling ≡ was.spoiling
+  pub draws : is.generator ≡ after_draws was.generator
+
+-- the first packet that waits in a network is handed out, if it is due by now, and nothing is drawn
+abbrev pub TakesFirst : ℕ → BadNetwork → Option Packet → BadNetwork → Type 0
+TakesFirst now was packet is =
+    ((packet, is.waiting.items) ≡ taken now was.waiting.items) × (is.spoiling ≡ was.spoiling) × (is.generator ≡ was.generator)
+
+-- so it is where a network is before a socket
+abbrev pub TakesDue : ℕ → Option (Box SpoiltWay) → Option Packet → Option (Box SpoiltWay) → Type 0
+TakesDue now None packet is = (packet ≡ None) × (is ≡ None)
+TakesDue now (Some was) packet None = ⊥
+TakesDue now (Some was) packet (Some is) = TakesFirst now was.value.network packet is.value.network

@@ -1,5 +1,5 @@
 //! What goes between the gateway and others: over sockets, behind a bad network where one is asked for; and its journal.
-ghost use Rattle.std.specs.Prelude.{◌≡◌, ◌<◌, ◌≤◌, ◌∷◌, ◌⊎◌, ⊤, [], true, false, length, ℕ, Bool, List, Option, Result, IfSome, is_some, map};
+ghost use Rattle.std.specs.Prelude.{◌≡◌, ◌<◌, ◌≤◌, ◌∷◌, ◌⊎◌, ⊤, [], true, false, length, take, ℕ, Bool, List, Option, Result, IfSome, is_some, map, option_map};
 ghost use Rattle.small_rules.specs.Counting.{counted};
 ghost use Rattle.message_counts.specs.Counting.{counts_in, with_texts};
 ghost use Rattle.message_counts.specs.Places.{with_sends};
@@ -13,8 +13,8 @@ ghost use Rattle.surroundings.specs.declared.surroundings.Fault.{Fault};
 ghost use Rattle.surroundings.specs.Hearing.{Hears};
 ghost use Rattle.surroundings.specs.Sending.{Sent, Grows, found_by};
 ghost use Rattle.live_gateway.specs.Admitting.{is_heard};
-ghost use Rattle.live_gateway.specs.Offering.{brought};
-ghost use Rattle.live_gateway.specs.Exchanging.{handed_by, received_by, came_by, next_due, moment_at, faultless, refusals, with_refused, with_mark, with_unreceived, with_read, IsSameTurn, LooksOnce, CountsReceived, FoundSince};
+ghost use Rattle.live_gateway.specs.Offering.{brought, TakesDue};
+ghost use Rattle.live_gateway.specs.Exchanging.{handed_by, received_by, came_by, next_due, moment_at, faultless, refusals, with_refused, with_mark, with_unreceived, with_read, faults_by, mark_of, Becomes, LosesOver, IsSameTurn, LooksOnce, CountsReceived, FoundSince};
 ghost use Rattle.live_gateway.specs.Noting.{TurnsAway, NotesArrival, NotesLate, CountsFound};
 ghost use Rattle.live_play.specs.Readable.{first_unread};
 
@@ -155,6 +155,7 @@ impl<S: Surroundings + Drop> Exchange<S> {
         ensures network { self.new.network ≡ self.old.network }
         ensures around { self.new.around ≡ self.old.around }
         ensures faults { (self.new.faults ≡ self.old.faults) ⊎ ((self.new.faults ≡ with_unreceived self.old.faults) × (result ≡ ticked)) }
+        ensures counted { (clock : Result ℕ Fault) × S.passes self.old.around clock × (self.new.faults ≡ faults_by clock self.old.faults) }
         ensures short { (result < first_unread) ⊎ (result ≡ ticked) }
         ensures clock { (clock : Result ℕ Fault) × S.passes self.old.around clock × (result ≡ moment_at clock ticked) }
         ensures refused { self.new.faults.refused ≡ self.old.faults.refused }
@@ -242,6 +243,8 @@ impl<S: Surroundings + Drop> Exchange<S> {
             handed_by self.new.network sent ≡ handed_by self.old.network (S.traffic self.old.around).sent) }
         ensures came { Grows (received_by self.old.network (S.traffic self.old.around).received) (brought result room.new)
             (received_by self.new.network (S.traffic self.new.around).received) }
+        ensures due { TakesDue self.old.now.clock self.old.network (option_map (λ found. found.0) result) self.new.network }
+        ensures put { IfSome result (λ found. found.0.way ≡ Way.In → take found.1 room.new ≡ take (length room.old) found.0.bytes) }
         ensures journal { self.new.journal ≡ self.old.journal }
     {
         match &mut self.network {
@@ -285,11 +288,7 @@ impl<S: Surroundings + Drop> Exchange<S> {
 
     // That a datagram couldn't be sent which the network handed out the log alone tells: the turn that it is of is over.
     fn note_late(&mut self, to: SocketAddrV4, sent: Result<(), Fault>)
-        ensures network { self.new.network ≡ self.old.network }
-        ensures around { self.new.around ≡ self.old.around }
-        ensures faults { self.new.faults ≡ self.old.faults }
-        ensures read { self.new.read ≡ self.old.read }
-        ensures turn { IsSameTurn self.old self.new }
+        ensures rest { self.new ≡ record self.old { journal = self.new.journal } }
         ensures noted { NotesLate self.old.journal self.old.now.time to sent self.new.journal }
         ensures tally { self.new.journal.tally ≡ self.old.journal.tally }
     {
@@ -357,6 +356,7 @@ impl<S: Surroundings + Drop> Exchange<S> {
         ensures read { self.new.read ≡ self.old.read }
         ensures turn { IsSameTurn self.old self.new }
         ensures spoilt { is_some self.new.network ≡ is_some self.old.network }
+        ensures lost { LosesOver source bytes.now self.old.now.clock result self.old.network self.new.network }
         ensures journal { self.new.journal ≡ self.old.journal }
     {
         let now = self.now.clock;
@@ -510,7 +510,9 @@ impl<S: Surroundings + Drop> Exchange<S> {
             (handed_by self.new.network (S.traffic self.new.around).sent) }
         ensures received { received_by self.new.network (S.traffic self.new.around).received
             ≡ received_by self.old.network (S.traffic self.old.around).received }
+        ensures became { Becomes S.sends self.old to bytes.now result self.new }
         ensures faults { self.new.faults ≡ self.old.faults }
+        ensures rest { (self.new.read ≡ self.old.read) × IsSameTurn self.old self.new }
         ensures journal { self.new.journal ≡ self.old.journal }
     {
         if let Some(network) = &mut self.network {
@@ -558,16 +560,18 @@ impl<S: Surroundings + Drop> Outlet for Exchange<S> {
         ensures shown { GoesOn (HappenedWith self.old.now.clock OfSent to bytes.now (map sent_label messages.now))
             self.old.journal.board self.new.journal.board }
         ensures counted { self.new.journal.tally.value ≡ with_handed_out self.old.journal.tally.value }
+        ensures became { (became : Result Fate Fault) × Becomes S.sends self.old to bytes.now became self.new × (result ≡ mark_of became) }
         ensures faults { self.new.faults ≡ with_mark result self.old.faults }
+        ensures rest { (self.new.read ≡ self.old.read) × IsSameTurn self.old self.new }
     {
         self.journal.sent(self.now, to, bytes, messages);
         match self.send(to, bytes) {
             Ok(fate) => {
                 self.journal.spoilt(self.now, to, fate);
-                if matches!(fate, Fate::Lost) {
-                    return Some(Mark::Lost);
+                match fate {
+                    Fate::Lost => Some(Mark::Lost),
+                    Fate::Once { .. } | Fate::Twice { .. } => None,
                 }
-                None
             }
             Err(_) => {
                 count(&mut self.faults.send);

@@ -1,10 +1,9 @@
 //! A bad network before the sockets.
-ghost use Rattle.std.specs.Prelude.{◌≡◌, ◌≤◌, ◌∷◌, [], length, take, None, Some, IfOk, IfSome, OnOk, OnErr, option_map};
+ghost use Rattle.std.specs.Prelude.{◌≡◌, ◌≤◌, ◌∷◌, [], length, take, None, Some, IfSome, option_map};
 ghost use Rattle.bad_network.specs.declared.packet.Way.TheVariants.{In, Out};
-ghost use Rattle.bad_network.specs.Drawing.{after_draws};
-ghost use Rattle.bad_network.specs.Waiting.{first_due, put_all, taken, IsPutInPart};
+ghost use Rattle.bad_network.specs.Waiting.{first_due};
 ghost use Rattle.surroundings.specs.Sending.{Grows};
-ghost use Rattle.live_gateway.specs.Offering.{offered_by, came_over, brings, brought, next_fate, next_copies};
+ghost use Rattle.live_gateway.specs.Offering.{offered_by, came_over, brings, brought, Offers, TakesFirst};
 
 use bad_network::{BadNetwork, Fate, Packet, Way};
 use mg_bytes::OutOfMemory;
@@ -128,8 +127,7 @@ impl SpoiltWay {
     pub fn take_due(&mut self, now: u64, room: &mut [u8]) -> Option<(Packet, usize)>
         ensures length { length room.new ≡ length room.old }
         ensures within { IfSome result (λ found. found.1 ≤ length room.new) }
-        ensures taken { (option_map (λ found. found.0) result, self.new.network.waiting.items)
-            ≡ taken now self.old.network.waiting.items }
+        ensures taken { TakesFirst now self.old.network (option_map (λ found. found.0) result) self.new.network }
         ensures put { IfSome result (λ found. found.0.way ≡ In → take found.1 room.new ≡ take (length room.old) found.0.bytes) }
         ensures came { Grows (came_over self.old) (brought result room.new) (came_over self.new) }
         ensures offered { offered_by self.new ≡ offered_by self.old }
@@ -152,13 +150,7 @@ impl SpoiltWay {
     ) -> Result<Fate, OutOfMemory>
         ensures offered { offered_by self.new ≡ offered_by self.old }
         ensures came { came_over self.new ≡ came_over self.old }
-        ensures fate { IfOk result (λ fate. fate ≡ next_fate self.old.network) }
-        ensures ok { OnOk result (self.new.network.waiting.items
-            ≡ put_all (next_copies self.old.network In source bytes.now now) self.old.network.waiting.items) }
-        ensures err { OnErr result (IsPutInPart (next_copies self.old.network In source bytes.now now)
-            self.old.network.waiting.items self.new.network.waiting.items) }
-        ensures spoiling { self.new.network.spoiling ≡ self.old.network.spoiling }
-        ensures draws { self.new.network.generator ≡ after_draws self.old.network.generator }
+        ensures offers { Offers In self.old.network source bytes.now now result self.new.network }
     {
         self.network.offer(Way::In, source, bytes, now)
     }
@@ -188,13 +180,7 @@ impl SpoiltWay {
     ) -> Result<Fate, OutOfMemory>
         ensures offered { Grows (offered_by self.old) (record { to = to; bytes = bytes.now } ∷ []) (offered_by self.new) }
         ensures came { came_over self.new ≡ came_over self.old }
-        ensures fate { IfOk result (λ fate. fate ≡ next_fate self.old.network) }
-        ensures ok { OnOk result (self.new.network.waiting.items
-            ≡ put_all (next_copies self.old.network Out to bytes.now now) self.old.network.waiting.items) }
-        ensures err { OnErr result (IsPutInPart (next_copies self.old.network Out to bytes.now now)
-            self.old.network.waiting.items self.new.network.waiting.items) }
-        ensures spoiling { self.new.network.spoiling ≡ self.old.network.spoiling }
-        ensures draws { self.new.network.generator ≡ after_draws self.old.network.generator }
+        ensures offers { Offers Out self.old.network to bytes.now now result self.new.network }
     {
         self.note(to, bytes, now);
         self.network.offer(Way::Out, to, bytes, now)

@@ -1,7 +1,8 @@
-use Rattle.std.proofs.Common.{ℕ, sym, ap}
+use Rattle.std.proofs.Common.{ℕ, [], refl, sym, ap}
 use Rattle.live_gateway.specs.declared.desk.Desk.{Desk}
 use Rattle.live_gateway.specs.Example.{found}
 use Rattle.live_gateway.proofs.CountingLemmas.{nobody_looked, heard_given, strange_kept}
+use Rattle.live_gateway.proofs.SendingLemmas.{nobody_sends}
 use Rattle.live_gateway.proofs.turning_examples.what_an_exchange_gives_has_examples.Goals as goal
 
 pub returns-clause-unlooked : goal.returns-clause-unlooked
@@ -15,3 +16,18 @@ returns-clause-heard c = λ admission may. sym (heard_given admission found may)
 
 pub returns-clause-strange : goal.returns-clause-strange
 returns-clause-strange c = λ admission other. sym (strange_kept admission found other)
+
+pub returns-clause-unsent : goal.returns-clause-unsent
+returns-clause-unsent c = λ was is none sends. nobody_sends was is found.0 [] sends.0 none sends.1
+
+pub returns-clause-unlost : goal.returns-clause-unlost
+returns-clause-unlost c = λ same. cc
+
+pub returns-clause-marks : goal.returns-clause-marks
+returns-clause-marks c = refl
+
+pub returns-clause-losses : goal.returns-clause-losses
+returns-clause-losses c = refl
+
+pub returns-clause-clock : goal.returns-clause-clock
+returns-clause-clock c = refl
