@@ -21,7 +21,13 @@ use Rattle.live_journal.specs.declared.trace.Trace.{Trace}
 use Rattle.live_telephones.specs.Losses.{counts_text}
 use Rattle.live_gateway.specs.declared.desk.Desk.{Desk}
 use Rattle.live_gateway.specs.declared.exchange.Exchange.{Exchange}
-use Rattle.live_gateway.specs.Ending.{EndsAt, WroteTimes, is_record_refused, IsCounted, EndsWith}
+use Rattle.live_gateway.specs.Ending.{EndsAt, WroteTimes, AsksForEnd, is_record_refused, IsCounted, EndsWith, OnlyEnds}
+use Rattle.live_gateway.specs.Exchanging.{OnlyWrites}
+use Rattle.surroundings.specs.Hearing.{AnswersTo}
+use Rattle.surroundings.specs.declared.lines.Lines.{Lines}
+use Rattle.std.specs.declared.net.socket_addr.SocketAddr.{SocketAddr}
+use Rattle.live_journal.specs.declared.journal.Journal.{Journal}
+use Rattle.live_play.specs.declared.play.LivePlay.{LivePlay}
 
 pub ends_so : (end next : Option ℕ) (gateway after : GatewayState) (is_over : Bool) → next ≡ end → after ≡ gateway → EndsAt end gateway is_over
     → EndsAt next after is_over
@@ -76,3 +82,36 @@ pub counts_end : {S W : Type 0} (last : List ℕ) (desk : Desk S Trace) (was is 
     → (ending ≡ OutOfMemory) ⊎ IsCounted desk last
 counts_end last desk was is ending (inl none) = inl none.1
 counts_end last desk was is ending (inr told) = inr (subst (λ (words : List ℕ). IsCounted desk words) told.3 told.2)
+
+-- ---- what stays
+
+-- a play came to its end, and what was recorded was written; then who asked for the end was answered
+pub only_ends : {S T : Type 0} (old mid new : Desk S T) (play : LivePlay T) → play.gateway ≡ old.play.gateway → mid.play.gateway ≡ play.gateway
+    → OnlyWrites old.exchange mid.exchange → mid ≡ record old { play = mid.play; exchange = mid.exchange }
+    → new.exchange ≡ record mid.exchange { around = new.exchange.around }
+    → new ≡ record mid { exchange = new.exchange; lines = new.lines } → OnlyEnds old new
+only_ends {S} {T} old mid new play ended gateway written rest kept last = record {
+  gateway = ap (λ (d : Desk S T). d.play.gateway) last ∙ gateway ∙ ended;
+  exchange = kept
+      ∙ ap (λ (e : Exchange S). let x : Exchange S = record e { around = new.exchange.around } in x) written
+      ∙ ap (λ (j : Journal). let x : Exchange S = record old.exchange { around = new.exchange.around; journal = j; is_offering = mid.exchange.is_offering } in x)
+      (sym (ap (λ (e : Exchange S). e.journal) kept))
+      ∙ ap (λ (b : Bool). let x : Exchange S = record old.exchange { around = new.exchange.around; journal = new.exchange.journal; is_offering = b } in x)
+      (sym (ap (λ (e : Exchange S). e.is_offering) kept));
+  rest = last
+      ∙ ap (λ (d : Desk S T). let x : Desk S T = record d { exchange = new.exchange; lines = new.lines } in x) rest
+      ∙ ap (λ (p : LivePlay T). let x : Desk S T = record old { play = p; exchange = new.exchange; lines = new.lines } in x)
+      (sym (ap (λ (d : Desk S T). d.play) last));
+}
+
+-- nothing was answered before
+pub stopped_so : {S : Type 0} (answers : S → SocketAddr → List ℕ → S → Type 0) (was is : Lines) (before mid after : S) (said : List ℕ) → is ≡ was → mid ≡ before
+    → (AsksForEnd is → AnswersTo answers is.sender mid said after) → AsksForEnd was → AnswersTo answers was.sender before said after
+stopped_so {S} answers was is before mid after said lines around stops =
+    subst (λ (l : Lines). AsksForEnd l → AnswersTo answers l.sender before said after) lines
+    (subst (λ (s : S). AsksForEnd is → AnswersTo answers is.sender s said after) around stops)
+
+pub unasked_so : {S : Type 0} (was is : Lines) (before mid after : S) → is ≡ was → mid ≡ before → ((AsksForEnd is → ⊥) → after ≡ mid)
+    → (AsksForEnd was → ⊥) → after ≡ before
+unasked_so {S} was is before mid after lines around stays =
+    subst (λ (l : Lines). (AsksForEnd l → ⊥) → after ≡ before) lines (subst (λ (s : S). (AsksForEnd is → ⊥) → after ≡ s) around stays)

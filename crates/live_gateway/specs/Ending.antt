@@ -58,3 +58,14 @@ EndsWith ends desk was is ending =
     ((is ≡ was) × (ending ≡ OutOfMemory))
     ⊎ ((last : List ℕ) × (written : Written) × IsCounted desk last × ends last was written is
     × (ending ≡ served_ending (is_record_refused desk.play.teller desk.exchange.journal) (faults_in written)))
+
+-- What is around a desk that ends changes, its lines, and what is recorded and told of that. Nothing else does, but in its play; and the
+-- gateway of that stays.
+pub record OnlyEnds {S T : Type 0} (was is : Desk S T) : Type 0 where
+  pub gateway : is.play.gateway ≡ was.play.gateway
+  pub exchange : is.exchange ≡ record was.exchange {
+    around = is.exchange.around;
+    journal = is.exchange.journal;
+    is_offering = is.exchange.is_offering;
+  }
+  pub rest : is ≡ record was { play = is.play; exchange = is.exchange; lines = is.lines }

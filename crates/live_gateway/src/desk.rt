@@ -12,6 +12,7 @@ ghost use Rattle.rgw_scripts.specs.declared.step.ScriptLine.{ScriptLine};
 ghost use Rattle.surroundings.specs.Hearing.{AnswersTo};
 ghost use Rattle.live_gateway.specs.Desk.{at_desk, GoesOn};
 ghost use Rattle.live_gateway.specs.Ending.{EndsAt, WroteTimes, AsksForEnd};
+ghost use Rattle.live_gateway.specs.Exchanging.{OnlyWrites};
 ghost use Rattle.live_play.specs.Readable.{first_unread};
 ghost use Rattle.live_gateway.specs.Answering.{DoesLine, AnswersRequest};
 ghost use Rattle.live_gateway.specs.Turning.{Tries, LooksForOne, DoesLines, Does, DoesNext};
@@ -368,8 +369,8 @@ impl<S: Surroundings + Drop, T: Teller + Drop> Desk<S, T> {
         ensures end { self.new.end ≡ self.old.end }
         ensures gateway { self.new.play.gateway ≡ self.old.play.gateway }
         ensures wrote { W.writes recorder.old recorder.new }
-        ensures read { self.new.exchange.read ≡ self.old.exchange.read }
-        ensures faults { self.new.exchange.faults ≡ self.old.exchange.faults }
+        ensures teller { self.new.play ≡ record self.old.play { teller = self.new.play.teller } }
+        ensures exchange { OnlyWrites self.old.exchange self.new.exchange }
         ensures rest { self.new ≡ record self.old { play = self.new.play; exchange = self.new.exchange } }
     {
         let time = self.exchange.now.time;
