@@ -215,6 +215,7 @@ impl<S: Surroundings + Drop> Exchange<S> {
         ensures journal { self.new.journal ≡ self.old.journal }
         ensures read { self.new.read ≡ self.old.read }
         ensures turn { IsSameTurn self.old self.new }
+        ensures rest { self.new ≡ record self.old { around = self.new.around; faults = self.new.faults } }
     {
         let longest = if self.is_offering {
             longest.min(NEXT_OFFER)
