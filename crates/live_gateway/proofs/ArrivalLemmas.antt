@@ -1,15 +1,15 @@
 -- What is counted of datagrams that come.
-use Rattle.std.proofs.Common.{◌≡◌, ℕ, ◌+◌, Bool, true, false, Option, Some, None, refl, ◌∙◌, ap, arith}
+use Rattle.std.proofs.Common.{◌≡◌, ℕ, ◌+◌, Bool, true, false, cond, Option, Some, None, refl, sym, ◌∙◌, ap, arith}
 use Rattle.std.specs.Prelude.{nat_lt}
 use Rattle.std.specs.Global.{Box}
 use Rattle.std.specs.declared.net.socket_addr.SocketAddrV4.{SocketAddrV4}
 use Rattle.gateway_core.specs.Wire.{counted}
 use Rattle.live_journal.specs.declared.journal.Journal.{Journal}
-use Rattle.message_counts.specs.Tallying.{with_received}
+use Rattle.message_counts.specs.Tallying.{with_received, with_stranger}
 use Rattle.message_counts.specs.declared.message_tally.MessageTally.{MessageTally}
 use Rattle.live_gateway.specs.declared.admission.Admission.{Admission}
 use Rattle.live_gateway.specs.Admitting.{is_heard}
-use Rattle.live_gateway.specs.Noting.{TurnsAway, NotesArrival, with_strangers, with_found, CountsFound}
+use Rattle.live_gateway.specs.Noting.{TurnsAway, NotesArrival, with_looked, with_strangers, with_found, CountsFound}
 
 counted_none : (n : ℕ) → n ≡ counted n 0
 counted_none n = omega arith
@@ -81,6 +81,23 @@ arrives_strange admission was time source is strange turned = record {
   heard = λ may. absurd (not_both (is_heard admission source) may strange);
   strange = λ other. turned;
 }
+
+-- ---- at one look
+
+pub heard_looked : (admission : Admission) (was mid is : Journal) (time : ℕ) (found : SocketAddrV4 × ℕ) → mid ≡ was
+    → NotesArrival admission mid time found.0 is → is_heard admission found.0 ≡ true → is.tally.value ≡ with_looked admission (Some found) was.tally.value
+heard_looked admission was mid is time found same notes may =
+    notes.heard may ∙ ap (λ (journal : Journal). with_received journal.tally.value) same
+    ∙ sym (ap (λ (b : Bool). cond b (with_received was.tally.value) (cond (nat_lt 0 found.0.port) (with_stranger was.tally.value) was.tally.value)) may)
+
+pub strange_looked : (admission : Admission) (was mid is : Journal) (time : ℕ) (found : SocketAddrV4 × ℕ) → mid ≡ was
+    → NotesArrival admission mid time found.0 is → is_heard admission found.0 ≡ false → is.tally.value ≡ with_looked admission (Some found) was.tally.value
+strange_looked admission was mid is time found same notes other =
+    by_port (nat_lt 0 found.0.port) refl
+    ∙ sym (ap (λ (b : Bool). cond b (with_received was.tally.value) (cond (nat_lt 0 found.0.port) (with_stranger was.tally.value) was.tally.value)) other) where
+      by_port : (b : Bool) → nat_lt 0 found.0.port ≡ b → is.tally.value ≡ cond b (with_stranger was.tally.value) was.tally.value
+      by_port true port = ((notes.strange other).port port).tally ∙ ap (λ (journal : Journal). with_stranger journal.tally.value) same
+      by_port false none = ap (λ (journal : Journal). journal.tally.value) ((notes.strange other).portless none ∙ same)
 
 -- what was sent stays counted as it was
 with_found_keeps_sent : (found : Option (SocketAddrV4 × ℕ)) (tally : MessageTally) → (with_found found tally).sent ≡ tally.sent

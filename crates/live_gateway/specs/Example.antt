@@ -1,5 +1,5 @@
 -- What the worked examples speak of: a desk over surroundings that tell nothing, whose trace tells nothing either.
-use Rattle.std.specs.Prelude.{◌≡◌, ℕ, List, [], ◌∷◌, None, Result, Ok, Err}
+use Rattle.std.specs.Prelude.{◌≡◌, ℕ, false, List, [], ◌∷◌, None, Some, Result, Ok, Err}
 use Rattle.std.specs.declared.net.socket_addr.SocketAddrV4.{SocketAddrV4}
 use Rattle.bad_network.specs.declared.fate.Fate.{Fate}
 use Rattle.bad_network.specs.declared.fate.Fate.TheVariants.{Lost, Once}
@@ -7,15 +7,25 @@ use Rattle.live_ends.specs.declared.ending.CommonEnding.{CommonEnding}
 use Rattle.live_journal.specs.declared.trace.Trace.{Trace}
 use Rattle.surroundings.specs.Sending.{untold}
 use Rattle.surroundings.specs.declared.surroundings.Fault.{Fault}
+use Rattle.message_counts.specs.Tallying.{with_stranger}
+use Rattle.message_counts.specs.declared.message_tally.MessageTally.{MessageTally}
+use Rattle.live_gateway.specs.declared.admission.Admission.{Admission}
 use Rattle.live_gateway.specs.declared.desk.Desk.{Desk}
 use Rattle.live_gateway.specs.declared.exchange.Exchange.{Exchange}
+use Rattle.live_gateway.specs.Admitting.{is_heard}
 use Rattle.live_gateway.specs.Ending.{EndsWith}
 use Rattle.live_gateway.specs.Exchanging.{Becomes}
+use Rattle.live_gateway.specs.Noting.{with_looked}
 use Rattle.live_gateway.specs.Turning.{TriesFound, LooksForOne}
 
 -- a datagram of 5 bytes from 10.0.0.9:2727
 abbrev pub found : SocketAddrV4 × ℕ
 found = (record { ip = record { octets = 10 ∷ 0 ∷ 0 ∷ 9 ∷ [] }; port = 2727 }, 5)
+
+-- where who sent it isn't heard, a stranger is counted
+abbrev pub CountsStranger : Admission → Type 0
+CountsStranger admission =
+    (tally : MessageTally) → is_heard admission found.0 ≡ false → with_looked admission (Some found) tally ≡ with_stranger tally
 
 -- a desk looked for a datagram, where nobody looks for one
 abbrev pub LooksNowhere : Desk ℕ ℕ → Desk ℕ ℕ → Type 0

@@ -18,6 +18,7 @@ use Rattle.live_gateway.specs.declared.admission.Admission.{Admission}
 use Rattle.live_gateway.specs.declared.exchange.Exchange.{Exchange}
 use Rattle.live_gateway.specs.declared.spoilt_way.SpoiltWay.{SpoiltWay}
 use Rattle.live_gateway.specs.Admitting.{is_heard, HeardSince}
+use Rattle.live_gateway.specs.Noting.{with_looked}
 use Rattle.live_gateway.specs.Offering.{offered_by, came_over, Offers}
 
 -- where who takes it tells that: sockets in memory do, and a network that keeps what it is offered
@@ -163,12 +164,13 @@ abbrev pub heard_in : Admission → Option (SocketAddrV4 × ℕ) → Option (Soc
 heard_in admission None = None
 heard_in admission (Some found) = if is_heard admission found.0 then Some found else None
 
--- it was looked for a datagram of the socket, which is given where it is heard
+-- it was looked for a datagram of the socket, which is given where it is heard; and it is counted, or that a stranger's came
 abbrev pub LooksHere :
     {S : Type 0} → (S → Result (Option (SocketAddrV4 × ℕ)) Fault → List ℕ → S → Type 0)
     → Admission → Exchange S → Option (SocketAddrV4 × ℕ) → List ℕ → Exchange S → Type 0
 LooksHere receives admission was given room is =
     (found : Option (SocketAddrV4 × ℕ)) × LooksOnce receives was found room is × (given ≡ heard_in admission found)
+    × (is.journal.tally.value ≡ with_looked admission found was.journal.tally.value)
 
 -- it was, behind what the network before the socket sent, and before what it hands over then: that counts nothing
 abbrev pub LooksBetween :

@@ -1,5 +1,5 @@
 -- What a journal gets of a datagram that comes, of one that isn't heard, and of one that couldn't be sent.
-use Rattle.std.specs.Prelude.{◌≡◌, ⊤, ℕ, true, false, nat_lt, Option, Some, None, Result, Ok, Err}
+use Rattle.std.specs.Prelude.{◌≡◌, ⊤, ℕ, true, false, nat_lt, if◌then◌else◌, Option, Some, None, Result, Ok, Err}
 use Rattle.std.specs.declared.net.socket_addr.SocketAddrV4.{SocketAddrV4}
 use Rattle.gateway_core.specs.Wire.{counted}
 use Rattle.surroundings.specs.declared.surroundings.Fault.{Fault}
@@ -27,6 +27,12 @@ pub record TurnsAway (was : Journal) (time : ℕ) (source : SocketAddrV4) (is : 
 pub record NotesArrival (admission : Admission) (was : Journal) (time : ℕ) (source : SocketAddrV4) (is : Journal) : Type 0 where
   pub heard : is_heard admission source ≡ true → is.tally.value ≡ with_received was.tally.value
   pub strange : is_heard admission source ≡ false → TurnsAway was time source is
+
+-- of what one look at a socket found one is counted: the one that is heard, or a stranger's, unless it has no port
+abbrev pub with_looked : Admission → Option (SocketAddrV4 × ℕ) → MessageTally → MessageTally
+with_looked admission None tally = tally
+with_looked admission (Some found) tally =
+    if is_heard admission found.0 then with_received tally else (if nat_lt 0 found.0.port then with_stranger tally else tally)
 
 -- so many datagrams of strangers were counted
 abbrev pub with_strangers : ℕ → MessageTally → MessageTally

@@ -12,7 +12,7 @@ ghost use Rattle.live_gateway.specs.declared.exchange.Exchange.{Exchange};
 ghost use Rattle.live_gateway.specs.Admitting.{is_heard};
 ghost use Rattle.live_gateway.specs.Answering.{IsActAnswer};
 ghost use Rattle.live_gateway.specs.Ending.{is_record_refused, IsCounted};
-ghost use Rattle.live_gateway.specs.Example.{found, lost, comes, failed, LooksNowhere, FindsNothing, SendsNowhere, EndsSaying};
+ghost use Rattle.live_gateway.specs.Example.{found, lost, comes, failed, LooksNowhere, FindsNothing, SendsNowhere, EndsSaying, CountsStranger};
 ghost use Rattle.live_gateway.specs.Exchanging.{heard_in, mark_of, is_lost, faults_by, faultless, with_unreceived, LosesOver};
 ghost use Rattle.traces.specs.declared.telling.Mark.TheVariants.{Unsent, Lost};
 ghost use Rattle.live_gateway.specs.Turning.{ready_at};
@@ -58,6 +58,7 @@ pub fn what_an_exchange_gives_has_examples()
     ensures nothing { (looked : Exchange ℕ) (was is : Desk ℕ ℕ) → FindsNothing looked was is → is.exchange ≡ looked }
     ensures heard { (admission : Admission) → is_heard admission found.0 ≡ true → heard_in admission (Some found) ≡ Some found }
     ensures strange { (admission : Admission) → is_heard admission found.0 ≡ false → heard_in admission (Some found) ≡ None }
+    ensures counts { (admission : Admission) → CountsStranger admission }
     ensures unsent { (was is : Exchange ℕ) → was.network ≡ None → SendsNowhere was is → ⊥ }
     ensures unlost { LosesOver found.0 [] 5 true None None → ⊥ }
     ensures marks { (mark_of lost, (mark_of comes, mark_of failed)) ≡ (Some Lost, (None, Some Unsent)) }

@@ -1,4 +1,5 @@
-use Rattle.std.proofs.Common.{ℕ, [], refl, sym, ap}
+use Rattle.std.proofs.Common.{ℕ, Bool, cond, [], refl, sym, ap}
+use Rattle.message_counts.specs.Tallying.{with_received, with_stranger}
 use Rattle.live_gateway.specs.declared.desk.Desk.{Desk}
 use Rattle.live_gateway.specs.Example.{found}
 use Rattle.live_gateway.proofs.CountingLemmas.{nobody_looked, heard_given, strange_kept}
@@ -16,6 +17,9 @@ returns-clause-heard c = λ admission may. sym (heard_given admission found may)
 
 pub returns-clause-strange : goal.returns-clause-strange
 returns-clause-strange c = λ admission other. sym (strange_kept admission found other)
+
+pub returns-clause-counts : goal.returns-clause-counts
+returns-clause-counts c = λ admission tally other. ap (λ (b : Bool). cond b (with_received tally) (with_stranger tally)) other
 
 pub returns-clause-unsent : goal.returns-clause-unsent
 returns-clause-unsent c = λ was is none sends. nobody_sends was is found.0 [] sends.0 none sends.1

@@ -1,5 +1,5 @@
 use Rattle.std.proofs.Common.{None, Some, inl, refl, sym, ◌∙◌}
-use Rattle.live_gateway.proofs.ArrivalLemmas.{found_none, found_between, arrival_found, arrival_strange, tally_of}
+use Rattle.live_gateway.proofs.ArrivalLemmas.{found_none, found_between, arrival_found, arrival_strange, heard_looked, strange_looked, tally_of}
 use Rattle.live_gateway.proofs.HearingLemmas.{heard_still, hears_nothing, hears_one, passes_over}
 use Rattle.live_gateway.proofs.CountingLemmas.{looked_before, heard_given, strange_kept}
 use Rattle.live_gateway.proofs.exchange.Exchange.receive_directly.Goals as goal
@@ -18,7 +18,8 @@ returns-then-come-clause-came g c =
     (rw (c.come.ensures.network, c.come.ensures.around) refl)
 
 pub returns-in_err-source-clause-counts : goal.returns-in_err-source-clause-counts
-returns-in_err-source-clause-counts g c = inl (c.requires, (None, c.in_err-source.ensures.counts, c.from_residual.ensures))
+returns-in_err-source-clause-counts g c =
+    inl (c.requires, (None, c.in_err-source.ensures.counts, c.from_residual.ensures, tally_of _ _ c.read_socket.ensures.journal))
 
 pub returns-then-come-clause-counts : goal.returns-then-come-clause-counts
 returns-then-come-clause-counts g c =
@@ -28,6 +29,8 @@ returns-then-come-clause-counts g c =
         Some (c.in_ok-source.source, c.in_ok-source.len),
         looked_before _ _ _ _ _ _ c.in_ok-source.ensures.counts c.come.ensures.around c.come.ensures.read c.come.ensures.faults,
         heard_given c.args.admission.now (c.in_ok-source.source, c.in_ok-source.len) (sym c.come.ensures.heard ∙ c.if-come.true),
+        heard_looked c.args.admission.now _ _ _ _ (c.in_ok-source.source, c.in_ok-source.len) c.read_socket.ensures.journal c.come.ensures.noted
+            (sym c.come.ensures.heard ∙ c.if-come.true),
       ),
     )
 
@@ -50,6 +53,8 @@ returns-clause-counts g c =
         Some (c.in_ok-source.source, c.in_ok-source.len),
         looked_before _ _ _ _ _ _ c.in_ok-source.ensures.counts c.come.ensures.around c.come.ensures.read c.come.ensures.faults,
         strange_kept c.args.admission.now (c.in_ok-source.source, c.in_ok-source.len) (sym c.come.ensures.heard ∙ c.if-come.false),
+        strange_looked c.args.admission.now _ _ _ _ (c.in_ok-source.source, c.in_ok-source.len) c.read_socket.ensures.journal c.come.ensures.noted
+            (sym c.come.ensures.heard ∙ c.if-come.false),
       ),
     )
 
