@@ -1,4 +1,5 @@
 pub mod Computing
+pub mod CopyLemmas
 pub mod FlightLemmas
 pub mod EndedLemmas
 pub mod IssueLemmas

@@ -1,8 +1,9 @@
 -- What a line of a board is sent: which command its duty and the exchange make of that, and who issues it.
-use Rattle.std.specs.Prelude.{◌≡◌, ◌⊎◌, ℕ, false, List, [], ◌∷◌, ◌++◌, Option, Some, None, IsSomeAnd, Result, Ok, IfOk, is_ok, slice_get}
+use Rattle.std.specs.Prelude.{◌≡◌, ◌⊎◌, ℕ, false, List, [], ◌∷◌, ◌++◌, Option, Some, None, IsSomeAnd, Result, Ok, IfOk, is_ok, slice_get, take}
 use Rattle.std.specs.Global.{Box}
 use Rattle.endpoint_names.specs.declared.route.Route.TheVariants.{One}
 use Rattle.outbound.specs.Flight.{sent_first}
+use Rattle.transmission.specs.Texts.{largest_datagram}
 use Rattle.call_agent.specs.declared.issuing.Issued.{Issued}
 use Rattle.call_agent.specs.declared.issuing.IssueFault.{IssueFault}
 use Rattle.call_agent.specs.AgentStands.{AgentTook}
@@ -20,11 +21,12 @@ abbrev pub ordered_in : ℕ → Option (Box Office) → Option Shown
 ordered_in line None = None
 ordered_in line (Some office) = ordered (slice_get office.value.cares.items line) office.value.exchange line office.value.map
 
--- a command that was issued is in flight at a gateway, behind the others: to a line, or to none where it was typed
+-- A command that was issued is in flight at a gateway from the moment of its clock on, behind the others: to a line, or to none where it
+-- was typed. Its text is kept as far as a datagram may be long.
 abbrev pub Flies : Option ℕ → Issued → Gateway → Gateway → Type 0
 Flies line issued was is =
     (flight : Flight) × (flight.line ≡ line) × (flight.pending
-    ≡ sent_first issued.id (One issued.datagram.to) issued.datagram.bytes issued.datagram.moment)
+    ≡ sent_first issued.id (One was.address) (take largest_datagram issued.datagram.bytes) was.ticked)
     × (is.flights.items ≡ was.flights.items ++ flight ∷ [])
 
 -- the agent of a gateway issues a command under a name, with this verb and this behind its line; it is in flight to this line

@@ -1,21 +1,12 @@
 //! A command that is in flight.
-ghost use Rattle.std.specs.Prelude.{◌≡◌, IfOk};
-ghost use Rattle.endpoint_names.specs.declared.route.Route.TheVariants as routes;
-ghost use Rattle.outbound.specs.Flight.{sent_first};
+ghost use Rattle.std.specs.Prelude.{◌≡◌, take};
+ghost use Rattle.transmission.specs.Texts.{largest_datagram};
 ghost use Rattle.live_agent.specs.Flights.{most_steps, fallen, behind, falls, answered_by, over_by};
 
+use crate::own_copy::{END_OF_TIME, OwnCopy, Room};
 use call_agent::Issued;
-use endpoint_names::Route;
-use mg_bytes::OutOfMemory;
 use mgcp_text::TransactionId;
-use outbound::{Pending, Repeat, Reply};
-use std::alloc::{AllocError, Global};
-
-// Moments are below this (in ms), as those of an agent are.
-const END_OF_TIME: u64 = 1 << 62;
-
-// The greatest transaction id (RFC 3435, 3.2.1.2).
-const GREATEST_ID: u32 = 999_999_999;
+use outbound::{Repeat, Reply};
 
 // A command is repeated less often than this, and then given up.
 const MOST_STEPS: u8 = 8;
@@ -24,13 +15,13 @@ const MOST_STEPS: u8 = 8;
 /// known when the agent gives it up.
 #[derive(Drop)]
 pub(crate) struct Flight {
-    pub(crate) pending: Pending,
+    pub(crate) pending: OwnCopy,
     /// The place of the line that an exchange sent it to; none where it was typed.
     pub(crate) line: Option<usize>,
 }
 
 // What falls due first of a command by a moment (in ms): what is done with it then, if anything does.
-fn fall(pending: &mut Pending, moment: u64) -> Option<Repeat>
+fn fall(pending: &mut OwnCopy, moment: u64) -> Option<Repeat>
     ensures done { result ≡ fallen pending.old moment }
     ensures pending { pending.new ≡ behind pending.old moment }
 {
@@ -43,7 +34,7 @@ fn fall(pending: &mut Pending, moment: u64) -> Option<Repeat>
 }
 
 // What falls due of a command by a moment (in ms): whether it is given up.
-fn is_given_up(pending: &mut Pending, moment: u64) -> bool
+fn is_given_up(pending: &mut OwnCopy, moment: u64) -> bool
     ensures { (result, pending.new) ≡ falls most_steps pending.old moment }
 {
     for _ in 0..MOST_STEPS {
@@ -57,7 +48,7 @@ fn is_given_up(pending: &mut Pending, moment: u64) -> bool
 }
 
 // A response with this id and return code comes at a moment (in ms): whether it answers a command.
-fn is_answered(pending: &mut Pending, id: TransactionId, code: u16, moment: u64) -> bool
+fn is_answered(pending: &mut OwnCopy, id: TransactionId, code: u16, moment: u64) -> bool
     ensures { (result, pending.new) ≡ answered_by id code pending.old moment }
 {
     if moment >= END_OF_TIME {
@@ -70,25 +61,16 @@ fn is_answered(pending: &mut Pending, id: TransactionId, code: u16, moment: u64)
 }
 
 impl Flight {
-    /// A command that was issued just now. An error is for want of memory only.
-    pub(crate) fn begin(
-        alloc: Global,
-        issued: &Issued,
-        line: Option<usize>,
-    ) -> Result<Flight, OutOfMemory>
-        ensures pending { IfOk result (λ flight. flight.pending
-            ≡ sent_first issued.now.id (routes.One issued.now.datagram.to) issued.now.datagram.bytes issued.now.datagram.moment) }
-        ensures line { IfOk result (λ flight. flight.line ≡ line) }
+    /// A command that was issued just now, in the room that there is for it. This takes no memory.
+    pub(crate) fn begin(room: Room, issued: &Issued, line: Option<usize>) -> Flight
+        ensures pending { result.pending
+            ≡ record room { id = issued.now.id; text = take largest_datagram issued.now.datagram.bytes } }
+        ensures line { result.line ≡ line }
     {
-        let moment = issued.datagram.moment;
-        if moment >= END_OF_TIME || issued.id < 1 || issued.id > GREATEST_ID {
-            return Err(AllocError);
+        Flight {
+            pending: room.filled(issued),
+            line,
         }
-        let id = TransactionId::of(issued.id);
-        let to = Route::One(issued.datagram.to);
-        let text = issued.datagram.bytes.as_bytes();
-        let pending = Pending::begin(alloc, id, to, text, moment)?;
-        Ok(Flight { pending, line })
     }
 
     /// Whether it is over at a moment (in ms): answered by a response with this id and return code; without a response, given up.

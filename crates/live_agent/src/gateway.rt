@@ -1,8 +1,10 @@
 //! A gateway that a call agent works with.
-ghost use Rattle.std.specs.Prelude.{◌≡◌, ◌≤◌, [], ◌∷◌, ◌++◌, None, IfOk, OnOk, OnErr, length, remove, slice_get};
+ghost use Rattle.std.specs.Prelude.{◌≡◌, ◌<◌, ◌≤◌, [], ◌∷◌, ◌++◌, None, IfOk, OnOk, OnErr, length, remove, slice_get, vec_len};
+ghost use Rattle.std.specs.Vec.{vec_capacity};
 ghost use Rattle.endpoint_names.specs.declared.route.Route.TheVariants as routes;
 ghost use Rattle.plain_machine.specs.Event.{tick};
 ghost use Rattle.call_agent.specs.Hearing.{hears, issues};
+ghost use Rattle.outbound.specs.Flight.{sent_first};
 ghost use Rattle.call_agent.specs.AgentStands.{AgentStands, AgentTook, AgentStays};
 ghost use Rattle.live_agent.specs.AgentClock.{first_id, tick_to};
 ghost use Rattle.live_agent.specs.Announcing.{is_new, last_new};
@@ -12,6 +14,7 @@ ghost use Rattle.live_agent.specs.Issuing.{Flies};
 ghost use Rattle.live_agent.specs.Wakes.{first_moment, first_woken, behind_woken};
 
 use crate::flight::Flight;
+use crate::own_copy::Room;
 use agent_texts::copied;
 use call_agent::{Agent, IssueFault, Issued};
 use endpoint_names::Route;
@@ -98,6 +101,21 @@ fn agent_of(
         Ok(agent) => Ok(agent),
         Err(_) => Err(AllocError),
     }
+}
+
+// Room for one more command among those in flight, which is first sent to this address at this moment, in ms.
+fn room_among(
+    alloc: Global,
+    flights: &mut Vec<Flight>,
+    to: SocketAddrV4,
+    moment: u64,
+) -> Result<Room, OutOfMemory>
+    ensures room { IfOk result (λ room. room ≡ sent_first 1 (routes.One to) [] moment) }
+    ensures free { OnOk result (vec_len flights.new < vec_capacity flights.new) }
+    ensures flights { flights.new.items ≡ flights.old.items }
+{
+    flights.reserve(1)?;
+    Room::new(alloc, to, moment)
 }
 
 // Whether an announcement under this id is new at a moment, in ms, behind the last one that was.
@@ -207,7 +225,8 @@ impl Gateway {
         })
     }
 
-    /// Issues a command; to the line at this place, where an exchange sends it. After an error nothing is to be sent.
+    /// Issues a command; to the line at this place, where an exchange sends it. It is in flight from now on, and this is sent. After an
+    /// error nothing was issued, and nothing is to be sent: room for what is in flight is made before.
     pub(crate) fn issue(
         &mut self,
         alloc: Global,
@@ -219,14 +238,18 @@ impl Gateway {
         ensures took { IfOk result (λ issued. AgentTook self.old.agent.value (issues verb.now name.now rest.now) self.new.agent.value
             (issued.datagram ∷ [])) }
         ensures flight { IfOk result (λ issued. Flies line issued self.old self.new) }
+        ensures err { OnErr result (AgentStays self.old.agent.value self.new.agent.value) }
+        ensures none_flies { OnErr result (self.new.flights.items ≡ self.old.flights.items) }
         ensures others { self.new ≡ record self.old { agent = self.new.agent; flights = self.new.flights } }
     {
+        let room = match room_among(alloc, &mut self.flights, self.address, self.ticked) {
+            Ok(room) => room,
+            Err(_) => return Err(IssueFault::OutOfMemory),
+        };
         let issued = self.agent.issue(verb, name, rest)?;
-        let flight = Flight::begin(alloc, &issued, line)?;
-        match self.flights.push(flight) {
-            Ok(()) => Ok(issued),
-            Err(_) => Err(IssueFault::OutOfMemory),
-        }
+        let flight = Flight::begin(room, &issued, line);
+        self.flights.push_reserved(flight);
+        Ok(issued)
     }
 
     /// The clock goes on to this moment (in ms), but by no more than a second: what is sent.

@@ -16,6 +16,7 @@ mod hooks;
 mod loading;
 mod naming;
 mod office;
+mod own_copy;
 mod recorder;
 mod responses;
 mod serving;

@@ -1,7 +1,7 @@
 //! Worked examples of what a step of a board does, as theorems.
 #![tactic(auto, unfolding(crate::proofs::Computing::on_examples))]
 
-ghost use Rattle.std.specs.Prelude.{◌≡◌, [], ◌∷◌, ℕ, Bool, true, false, List, Option, Some, None, Err};
+ghost use Rattle.std.specs.Prelude.{◌≡◌, [], ◌∷◌, ℕ, Bool, true, false, List, Option, Some, None, Err, take};
 ghost use Rattle.std.specs.Global.{Box};
 ghost use Rattle.call_routing.specs.Exchange.{ExchangeState, opening, sent_to, told, answered};
 ghost use Rattle.live_agent.specs.declared.gateway.Gateway.{Gateway};
@@ -12,6 +12,7 @@ ghost use Rattle.live_agent.specs.declared.care.Duty.TheVariants as duties;
 ghost use Rattle.live_agent.specs.declared.flight.Flight.{Flight};
 ghost use Rattle.endpoint_names.specs.declared.route.Route.TheVariants as routes;
 ghost use Rattle.outbound.specs.Flight.{InFlight, sent_first};
+ghost use Rattle.transmission.specs.Texts.{largest_datagram};
 ghost use Rattle.call_agent.specs.declared.issuing.Issued.{Issued};
 ghost use Rattle.call_agent.specs.declared.issuing.IssueFault.{IssueFault};
 ghost use Rattle.call_agent.specs.AgentStands.{AgentStands};
@@ -141,7 +142,7 @@ pub fn what_a_line_is_sent_has_examples()
     ensures no_gateway { (order : Shown) (fault : IssueFault) (station : Station) → IssuesTo 0 order (Err fault) (Some station) [] [] }
     // It is in flight to its line, behind the others.
     ensures in_flight { (issued : Issued) (flight other : Flight) (was is : Gateway) → flight.line ≡ Some 3 →
-        flight.pending ≡ sent_first issued.id (routes.One issued.datagram.to) issued.datagram.bytes issued.datagram.moment →
+        flight.pending ≡ sent_first issued.id (routes.One was.address) (take largest_datagram issued.datagram.bytes) was.ticked →
         was.flights.items ≡ other ∷ [] → is.flights.items ≡ other ∷ flight ∷ [] → Flies (Some 3) issued was is }
     ensures none_settled { (board : Switchboard) → IssuesSettled None None board board }
     // All other gateways are as they were.
