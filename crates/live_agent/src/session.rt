@@ -13,7 +13,7 @@ use agent_texts::count;
 use bad_network::Way;
 use call_agent::Issued;
 use live_ends::{DONE, NO_MEMORY, STOP_FROM_AFAR};
-use mg_bytes::{Draft, OutOfMemory};
+use mg_bytes::{OutOfMemory, put_decimal};
 use plain_machine::{Outputs, Refusal};
 use std::alloc::Global;
 use std::net::SocketAddrV4;
@@ -26,6 +26,9 @@ const ROOM: usize = 4001;
 
 // By a clock that is further behind, in ms, no command is issued: it would be sent again too early, and given up.
 const LONGEST_LAG: u64 = 100;
+
+// The answer to a command that is issued is no longer: `issued `, an id (RFC 3435, 3.2.1.2), and a line end.
+const ISSUED_ROOM: usize = 17;
 
 // A command was issued.
 fn send_issued<S: Surroundings + Drop>(wire: &mut Wire<S>, issued: &Issued)
@@ -163,31 +166,33 @@ fn fault_text(fault: TypedFault) -> &'static [u8] {
     }
 }
 
-// What is answered where a command is issued.
-fn issued_text(alloc: Global, id: u32) -> Result<Vec<u8>, OutOfMemory> {
-    let mut text = Draft::new(alloc);
-    text.put(b"issued ");
-    text.put_decimal(u64::from(id));
-    text.put_byte(b'\n');
-    text.end()
+// What is answered where a command is issued, in the room that there is for it.
+fn issued_text(alloc: Global, mut room: Vec<u8>, id: u32) -> Result<Vec<u8>, OutOfMemory> {
+    room.extend_from_slice(b"issued ")?;
+    put_decimal(alloc, &mut room, u64::from(id))?;
+    room.extend_from_slice(b"\n")?;
+    Ok(room)
 }
 
-// Issues a command that was typed, and answers that.
+// Issues a command that was typed, and answers that. Room for the answer is made before, so that none is refused for a command that goes
+// out.
 fn answer_typed<S: Surroundings + Drop>(
     alloc: Global,
     board: &mut Switchboard,
     wire: &mut Wire<S>,
     text: &[u8],
 ) {
-    match board.issue_typed(text) {
-        Ok(issued) => {
-            send_issued(wire, &issued);
-            match issued_text(alloc, issued.id) {
-                Ok(text) => wire.answer_all(text.as_slice()),
-                Err(_) => wire.answer_all(NO_MEMORY),
-            }
-        }
-        Err(fault) => wire.answer_all(fault_text(fault)),
+    let Ok(room) = Vec::with_capacity(alloc, ISSUED_ROOM) else {
+        return wire.answer_all(NO_MEMORY);
+    };
+    let issued = match board.issue_typed(text) {
+        Ok(issued) => issued,
+        Err(fault) => return wire.answer_all(fault_text(fault)),
+    };
+    send_issued(wire, &issued);
+    match issued_text(alloc, room, issued.id) {
+        Ok(text) => wire.answer_all(text.as_slice()),
+        Err(_) => wire.answer_all(NO_MEMORY),
     }
 }
 
