@@ -1,10 +1,13 @@
 -- How a call agent ends that served.
-use Rattle.std.specs.Prelude.{ℕ, Bool, ◌||◌, if◌then◌else◌}
+use Rattle.std.specs.Prelude.{◌≡◌, ◌⊎◌, ℕ, Bool, ◌||◌, if◌then◌else◌, List, ◌++◌}
 use Rattle.agent_texts.specs.declared.journal.Journal.{Journal}
+use Rattle.agent_texts.specs.Counts.{counts_text}
 use Rattle.live_ends.specs.declared.ending.CommonEnding.{CommonEnding}
-use Rattle.live_ends.specs.declared.ending.CommonEnding.TheVariants.{Clock}
+use Rattle.live_ends.specs.declared.ending.CommonEnding.TheVariants.{Clock, OutOfMemory}
+use Rattle.live_ends.specs.declared.written.Written.{Written}
 use Rattle.live_ends.specs.Ending.{served_ending}
 use Rattle.live_ends.specs.Recording.{is_refused}
+use Rattle.live_ends.specs.Written.{faults_in, written_line}
 
 -- memory was refused for something that is recorded: for what is told, the log or the capture
 abbrev pub is_record_refused : Journal → Bool
@@ -14,3 +17,15 @@ is_record_refused journal =
 -- the clock failed; else it is as what was recorded is written
 abbrev pub ending_of : Bool → Bool → ℕ → CommonEnding
 ending_of has_failed is_refused faults = if has_failed then Clock else served_ending is_refused faults
+
+-- what was counted, as text
+abbrev pub counted_in : Journal → List ℕ
+counted_in journal = counts_text journal.tally ++ written_line journal.written journal.capture_name.items
+
+-- What was recorded is written to its end by who was told what was counted as last words, and so it ends; or memory was refused for these,
+-- and nobody is told any.
+abbrev pub EndsWith : {W : Type 0} → (List ℕ → W → Written → W → Type 0) → Bool → Journal → W → CommonEnding → Type 0
+EndsWith {W} ends has_failed journal is ending =
+    (ending ≡ OutOfMemory)
+    ⊎ ((between : W) × (written : Written) × ends (counted_in journal) between written is
+    × (ending ≡ ending_of has_failed (is_record_refused journal) (faults_in written)))

@@ -1,6 +1,6 @@
 //! Serves a call agent from its opening to its end.
 ghost use Rattle.std.specs.Prelude.{◌≡◌, IfOk};
-ghost use Rattle.live_agent.specs.Ending.{is_record_refused, ending_of};
+ghost use Rattle.live_agent.specs.Ending.{is_record_refused, ending_of, EndsWith};
 ghost use Rattle.live_ends.specs.Written.{faults_in};
 
 use crate::recorder::Recorder;
@@ -146,7 +146,9 @@ fn finish<R: Clock, W: Recorder + Finisher>(
     recorder: &mut W,
     time: u64,
     has_failed: bool,
-) -> CommonEnding {
+) -> CommonEnding
+    ensures { EndsWith W.ends has_failed journal.new recorder.new result }
+{
     recorder.write(journal, time);
     let Ok(counts) = journal.counts() else {
         return CommonEnding::OutOfMemory;
