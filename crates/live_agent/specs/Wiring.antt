@@ -1,5 +1,6 @@
 -- What calls of a wire give and leave.
-use Rattle.std.specs.Prelude.{◌≡◌, ℕ, ◌+◌, ◌-◌, ◌^◌, Bool, true, false, ◌||◌, not, min, nat_lt, if◌then◌else◌, Option, Some, None, Result, Ok, Err}
+use Rattle.std.specs.Prelude.{◌≡◌, ℕ, ◌+◌, ◌-◌, ◌^◌, Bool, true, false, ◌||◌, not, min, max, nat_lt, if◌then◌else◌, List, Option, Some, None, Result, Ok, Err}
+use Rattle.std.specs.Global.{Box}
 use Rattle.std.specs.declared.net.socket_addr.SocketAddrV4.{SocketAddrV4}
 use Rattle.bad_network.specs.declared.network.BadNetwork.{BadNetwork}
 use Rattle.bad_network.specs.Waiting.{first_due}
@@ -7,14 +8,18 @@ use Rattle.mg_bytes.specs.Lists.{is_empty}
 use Rattle.surroundings.specs.Typing.{left_of}
 use Rattle.surroundings.specs.declared.surroundings.Fault.{Fault}
 use Rattle.surroundings.specs.declared.surroundings.Told.{Told}
-use Rattle.turns.specs.Clock.{has_come}
+use Rattle.turns.specs.Clock.{earlier, has_come}
 use Rattle.turns.specs.Runs.{is_end}
 use Rattle.turns.specs.Schedule.{next_of}
 use Rattle.turns.specs.declared.circle.Ready.{Ready}
 use Rattle.turns.specs.declared.schedule.Schedule.{Schedule}
 use Rattle.turns.specs.declared.situation.Situation.{Situation}
 use Rattle.turns.specs.declared.turn.Turn.{Turn}
+use Rattle.live_agent.specs.declared.gateway.Gateway.{Gateway}
+use Rattle.live_agent.specs.declared.loading.Load.{Load}
+use Rattle.live_agent.specs.declared.switchboard.Switchboard.{Switchboard}
 use Rattle.live_agent.specs.declared.wire.Wire.{Wire}
+use Rattle.live_agent.specs.Dues.{FallsDue}
 
 -- one more; a number of 64 bits goes no further than its last
 abbrev pub one_more : ℕ → ℕ
@@ -55,21 +60,48 @@ ready_by told is_line_left network clock = record {
   visitors = false;
 }
 
--- how things stand over a wire
-pub record IsSituation {S : Type 0} (passes : S → Result ℕ Fault → Type 0) (tells : S → Told → Type 0) (wire : Wire S) (at : Situation)
+-- What falls due next
+
+-- over a wire: when the network hands something out, or something is to be done of a load, where one is made
+abbrev pub FallsDueOver : Option (Box Load) → Option ℕ → Option ℕ → Type 0
+FallsDueOver None network due = due ≡ network
+FallsDueOver (Some load) network due = (moment : ℕ) × (due ≡ earlier network (Some moment))
+
+-- so, or at the gateways, whichever is earlier
+abbrev pub FallsDueFirst : List Gateway → Option (Box Load) → Option ℕ → Option ℕ → Type 0
+FallsDueFirst gateways load network due =
+    (own other : Option ℕ) × FallsDue gateways own × FallsDueOver load network other × (due ≡ earlier own other)
+
+-- where anything is there nothing is waited for, and so nobody is asked
+abbrev pub IsWaitedFor : Bool → List Gateway → Option (Box Load) → Option ℕ → Option ℕ → Type 0
+IsWaitedFor true gateways load network due = due ≡ None
+IsWaitedFor false gateways load network due = FallsDueFirst gateways load network due
+
+-- so long it is waited at most until a moment, in ms, where it is now another: no longer than to what falls due
+abbrev pub ms_until : ℕ → ℕ → ℕ
+ms_until until moment = max (until - moment) 1
+
+abbrev pub longest_until : ℕ → Option ℕ → ℕ → ℕ
+longest_until until None moment = ms_until until moment
+longest_until until (Some due) moment = ms_until (min until due) moment
+
+-- how things stand at a board and over a wire
+pub record IsSituation {S : Type 0} (passes : S → Result ℕ Fault → Type 0) (tells : S → Told → Type 0) (board : Switchboard) (wire : Wire S) (at : Situation)
     : Type 0 where
   pub told : Told
   pub told_so : tells wire.around told
   pub read_so : passes wire.around (Ok at.moment)
   pub ticked : at.ticked ≡ wire.now.clock
+  pub due : IsWaitedFor (at.ready.commands || at.ready.datagrams) board.gateways.items wire.load (due_of wire.network) at.due
   pub end : at.end ≡ wire.end
   pub read : at.read ≡ wire.read
   pub ready : at.ready ≡ ready_by told (not (is_empty (left_of wire.lines))) (due_of wire.network) wire.now.clock
 
 -- what comes next by a schedule, as things stand, has its turn, until that is the end; and the schedule behind that is the next
-pub record AsksNext {S : Type 0} (passes : S → Result ℕ Fault → Type 0) (tells : S → Told → Type 0) (wire : Wire S) (schedule : Schedule) (goes_on : Bool) (next : Schedule) : Type 0 where
+pub record AsksNext {S : Type 0} (passes : S → Result ℕ Fault → Type 0) (tells : S → Told → Type 0) (board : Switchboard) (wire : Wire S) (schedule : Schedule) (goes_on : Bool) (next : Schedule)
+    : Type 0 where
   pub at : Situation
   pub turn : Turn
-  pub situation : IsSituation passes tells wire at
+  pub situation : IsSituation passes tells board wire at
   pub comes : (turn, next) ≡ next_of schedule at
   pub goes : goes_on ≡ not (is_end turn)

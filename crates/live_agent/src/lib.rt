@@ -8,6 +8,7 @@
 #![tactic(auto)]
 
 mod care;
+pub mod desk_examples;
 pub mod examples;
 mod flight;
 mod gateway;

@@ -1,4 +1,6 @@
 //! Makes a load: calls at a rate between the telephones of gateways, which another call agent serves, or this program's own exchange.
+ghost use Rattle.live_agent.specs.Wiring.{due_of, FallsDueOver};
+
 use crate::recorder::Recorder;
 use crate::serving::{MICROSECONDS, WireSettings, open_wire, serve_config};
 use crate::wire::Wire;
@@ -121,7 +123,9 @@ fn report(load: &mut Load, out: &mut Vec<u8>, file: &str, agent: &str) -> LoadEn
 
 impl<S: Surroundings + Drop> Wire<S> {
     /// The moment at which something is to be done though nothing comes, in ms, where it is now this one.
-    pub(crate) fn due(&self, moment: u64) -> Option<u64> {
+    pub(crate) fn due(&self, moment: u64) -> Option<u64>
+        ensures { FallsDueOver self.entry.now.load (due_of self.entry.now.network) result }
+    {
         match &self.load {
             Some(load) => earlier(self.network_due(), Some(load.bench.due(moment))),
             None => self.network_due(),

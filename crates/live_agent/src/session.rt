@@ -1,8 +1,8 @@
 //! Serves gateways and whoever types commands, a turn at a time, as a schedule says what comes next.
-ghost use Rattle.std.specs.Prelude.{◌≡◌, false, IfOk, IfErr};
+ghost use Rattle.std.specs.Prelude.{◌≡◌, ◌||◌, ℕ, false, Option, Err, IfOk, IfErr};
 ghost use Rattle.live_agent.specs.Clock.{is_behind};
 ghost use Rattle.live_agent.specs.Tallying.{with_command, CountsSent};
-ghost use Rattle.live_agent.specs.Wiring.{IsSituation, AsksNext};
+ghost use Rattle.live_agent.specs.Wiring.{due_of, ms_until, longest_until, IsSituation, IsWaitedFor, FallsDueFirst, AsksNext};
 
 use crate::loading::count_came;
 use crate::recorder::Recorder;
@@ -19,7 +19,7 @@ use std::alloc::Global;
 use std::net::SocketAddrV4;
 use surroundings::{Fault, Lines, Surroundings};
 use transmission::texts;
-use turns::{Schedule, Situation, Turn, earlier};
+use turns::{Ready, Schedule, Situation, Turn, earlier};
 
 // The room for a datagram: one byte more than any that is taken (RFC 3435, 3.5.4).
 const ROOM: usize = 4001;
@@ -314,23 +314,53 @@ fn tick<S: Surroundings + Drop>(board: &mut Switchboard, wire: &mut Wire<S>, to:
     wake_all(board, wire);
 }
 
+// Whether something may be there of who types, or of the network.
+fn is_there(ready: Ready) -> bool
+    ensures { result ≡ ready.commands || ready.datagrams }
+{
+    ready.commands || ready.datagrams
+}
+
+// The moment at which something falls due next, at a gateway or over a wire, in ms, where it is now this one.
+fn first_due<S: Surroundings + Drop>(
+    board: &Switchboard,
+    wire: &Wire<S>,
+    moment: u64,
+) -> Option<u64>
+    ensures { FallsDueFirst board.now.gateways.items wire.entry.now.load (due_of wire.entry.now.network) result }
+{
+    earlier(board.next_due(), wire.due(moment))
+}
+
+// What is waited for: that moment; nothing where anything is there, and so the agents of all gateways aren't asked.
+fn waited_for<S: Surroundings + Drop>(
+    board: &Switchboard,
+    wire: &Wire<S>,
+    is_any: bool,
+    moment: u64,
+) -> Option<u64>
+    ensures { IsWaitedFor is_any board.now.gateways.items wire.entry.now.load (due_of wire.entry.now.network) result }
+{
+    if is_any {
+        return None;
+    }
+    first_due(board, wire, moment)
+}
+
 // How things stand. An error is of the clock.
 fn situation<S: Surroundings + Drop>(
     board: &Switchboard,
     wire: &Wire<S>,
 ) -> Result<Situation, Fault>
-    ensures { IfOk result (λ at. IsSituation S.passes S.tells wire.entry.now at) }
+    ensures stands { IfOk result (λ at. IsSituation S.passes S.tells board.now wire.entry.now at) }
+    ensures failed { IfErr result (λ fault. S.passes wire.entry.now.around (Err fault)) }
 {
-    let Ok(moment) = wire.around.moment() else {
-        return Err(Fault);
+    let moment = match wire.around.moment() {
+        Ok(moment) => moment,
+        Err(fault) => return Err(fault),
     };
     let ready = wire.ready();
-    // Where anything is there nothing is waited for, and so the agents of all gateways aren't asked.
-    let due = if ready.commands || ready.datagrams {
-        None
-    } else {
-        earlier(board.next_due(), wire.due(moment))
-    };
+    let due = waited_for(board, wire, is_there(ready), moment);
     Ok(Situation {
         moment,
         ticked: wire.now.clock,
@@ -341,6 +371,23 @@ fn situation<S: Surroundings + Drop>(
     })
 }
 
+// How long it is until this moment, in ms, where it is now that one.
+fn ms_until(until: u64, moment: u64) -> u64
+    ensures { result ≡ ms_until until moment }
+{
+    until.saturating_sub(moment).max(1)
+}
+
+// How long it is so, but no longer than to what falls due.
+fn longest_until(until: u64, due: Option<u64>, moment: u64) -> u64
+    ensures { result ≡ longest_until until due moment }
+{
+    match due {
+        Some(due) => ms_until(until.min(due), moment),
+        None => ms_until(until, moment),
+    }
+}
+
 // How long is waited at most until this moment, in ms, where it is now that one: no longer than to what falls due of what was issued
 // since it was asked what comes next.
 fn longest_wait<S: Surroundings + Drop>(
@@ -348,12 +395,12 @@ fn longest_wait<S: Surroundings + Drop>(
     wire: &Wire<S>,
     until: u64,
     moment: u64,
-) -> u64 {
-    let until = match earlier(board.next_due(), wire.due(moment)) {
-        Some(due) => until.min(due),
-        None => until,
-    };
-    until.saturating_sub(moment).max(1)
+) -> u64
+    ensures { (due : Option ℕ) × FallsDueFirst board.now.gateways.items wire.entry.now.load (due_of wire.entry.now.network) due
+        × (result ≡ longest_until until due moment) }
+{
+    let due = first_due(board, wire, moment);
+    longest_until(until, due, moment)
 }
 
 // A turn of somebody's, or a wait, where it is now this moment.
@@ -393,8 +440,9 @@ fn turn<S: Surroundings + Drop>(
     wire: &mut Wire<S>,
     schedule: &mut Schedule,
 ) -> Result<bool, Fault>
-    ensures next { IfOk result (λ goes_on. AsksNext S.passes S.tells wire.old schedule.old goes_on schedule.new) }
+    ensures next { IfOk result (λ goes_on. AsksNext S.passes S.tells board.old wire.old schedule.old goes_on schedule.new) }
     ensures ended { IfOk result (λ goes_on. goes_on ≡ false → (wire.new ≡ wire.old) × (board.new ≡ board.old)) }
+    ensures failed { IfErr result (λ fault. S.passes wire.old.around (Err fault)) }
     ensures fault { IfErr result (λ _. (wire.new ≡ wire.old) × (board.new ≡ board.old) × (schedule.new ≡ schedule.old)) }
 {
     let at = match situation(board, wire) {

@@ -1,0 +1,8 @@
+use Rattle.std.proofs.Common.{inl, inr, refl}
+use Rattle.live_agent.proofs.desk_examples.how_a_desk_ends_has_examples.Goals as goal
+
+pub returns-clause-refused : goal.returns-clause-refused
+returns-clause-refused c = λ journal recorder. inl refl
+
+pub returns-clause-counted : goal.returns-clause-counted
+returns-clause-counted c = λ journal written recorder. inr (recorder, written, (refl, refl), refl)
