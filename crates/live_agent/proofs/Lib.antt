@@ -9,6 +9,7 @@ pub mod TakingLemmas
 pub mod TallyingLemmas
 pub mod ShowingLemmas
 pub mod TurnLemmas
+pub mod TypingLemmas
 pub mod WaitingLemmas
 pub mod AnnounceLemmas
 pub mod StepExampleLemmas

@@ -13,6 +13,7 @@ pub mod Typed
 pub mod Example
 pub mod Clock
 pub mod Wiring
+pub mod Turning
 pub mod Announcing
 pub mod Meaning
 pub mod Steps

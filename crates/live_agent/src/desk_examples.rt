@@ -1,17 +1,22 @@
 //! Worked examples of what a desk waits for, of what its turns leave, and of how it ends, as theorems.
 #![tactic(auto)]
 
-ghost use Rattle.std.specs.Prelude.{◌≡◌, [], ◌∷◌, ℕ, true, false, List, Option, Some, None};
+ghost use Rattle.std.specs.Prelude.{◌≡◌, [], ◌∷◌, ℕ, true, false, List, Option, Some, None, codes};
 ghost use Rattle.std.specs.Global.{Box};
 ghost use Rattle.agent_texts.specs.declared.journal.Journal.{Journal};
 ghost use Rattle.live_ends.specs.declared.written.Written.{Written};
 ghost use Rattle.live_agent.specs.declared.gateway.Gateway.{Gateway};
 ghost use Rattle.live_agent.specs.declared.loading.Load.{Load};
+ghost use Rattle.live_agent.specs.declared.session.Request.TheVariants as requests;
+ghost use Rattle.live_agent.specs.declared.switchboard.Switchboard.{Switchboard};
+ghost use Rattle.live_agent.specs.declared.wire.Wire.{Wire};
 ghost use Rattle.live_agent.specs.Dues.{FallsDueAt};
 ghost use Rattle.live_agent.specs.Ending.{counted_in, EndsWith};
+ghost use Rattle.live_agent.specs.Turning.{line_request, first_request, DoesRequest, DoesTurn, TakesTyped, TellsCounts};
 ghost use Rattle.live_agent.specs.Wiring.{longest_until, FallsDueFirst, IsWaitedFor};
 
 use live_ends::CommonEnding;
+use turns::Turn;
 
 /// What is waited for, and how long.
 pub fn what_is_waited_for_has_examples()
@@ -38,4 +43,36 @@ pub fn how_a_desk_ends_has_examples()
         EndsWith (λ last was written is. ⊥) true journal recorder CommonEnding.OutOfMemory }
     ensures counted { (journal : Journal) (written : Written) (recorder : ℕ) →
         EndsWith (λ last was became is. (last ≡ counted_in journal) × (became ≡ written)) true journal recorder CommonEnding.Clock }
+{}
+
+/// What is typed, and what is done then.
+pub fn what_is_typed_has_examples()
+    ensures counts { line_request false (codes "counts") ≡ requests.Counts }
+    ensures stop { line_request true (codes "stop") ≡ requests.Stop }
+    ensures quit { line_request true (codes "quit") ≡ requests.Stop }
+    ensures afar { line_request false (codes "quit") ≡ requests.StopFromAfar }
+    ensures command { line_request true (codes "AUEP aaln/1") ≡ requests.Command }
+    ensures first { first_request true (codes "counts\r\n" ∷ codes "stop\n" ∷ []) ≡ requests.Counts }
+    ensures nothing { first_request true [] ≡ requests.Nothing }
+    ensures told { (journal : Journal) (text : List ℕ) → text ≡ counted_in journal → TellsCounts journal text }
+    ensures nothing_done { (answers : _) (board now : Switchboard) (was is : Wire ℕ) →
+        DoesRequest answers requests.Nothing board now was is → is ≡ was }
+    ensures ends { (answers : _) (board now : Switchboard) (was is : Wire ℕ) →
+        DoesRequest answers requests.Stop board now was is → is.end ≡ Some 0 }
+    ensures goes_on { (answers : _) (board now : Switchboard) (was is : Wire ℕ) →
+        DoesRequest answers requests.StopFromAfar board now was is → is.end ≡ was.end }
+{}
+
+/// What turns leave of the board.
+pub fn what_turns_leave_has_examples()
+    ensures looks { (sockets hears answers : _) (board now : Switchboard) (was is : Wire ℕ) →
+        DoesTurn sockets hears answers Turn.Look board now was is → now ≡ board }
+    ensures waits { (sockets hears answers : _) (board now : Switchboard) (was is : Wire ℕ) →
+        DoesTurn sockets hears answers (Turn.Wait 700) board now was is → now ≡ board }
+    ensures visits { (sockets hears answers : _) (board now : Switchboard) (was is : Wire ℕ) →
+        DoesTurn sockets hears answers Turn.Visit board now was is → (now ≡ board) × (is ≡ was) }
+    ensures ends { (sockets hears answers : _) (board now : Switchboard) (was is : Wire ℕ) →
+        DoesTurn sockets hears answers Turn.End board now was is → (now ≡ board) × (is ≡ was) }
+    ensures load { (sockets hears answers : _) (load : Box Load) (board now : Switchboard) (was is : Wire ℕ) →
+        TakesTyped sockets hears answers (Some load) board now was is → now ≡ board }
 {}

@@ -1,4 +1,5 @@
 //! Makes a load: calls at a rate between the telephones of gateways, which another call agent serves, or this program's own exchange.
+ghost use Rattle.std.specs.Prelude.{◌≡◌, false, is_some};
 ghost use Rattle.live_agent.specs.Wiring.{due_of, FallsDueOver};
 
 use crate::recorder::Recorder;
@@ -145,7 +146,10 @@ impl<S: Surroundings + Drop> Wire<S> {
     }
 
     /// Takes a datagram of telephones at this moment, in ms, where a load is made: whether one is.
-    pub(crate) fn hear_telephones(&mut self, alloc: Global, moment: u64) -> bool {
+    pub(crate) fn hear_telephones(&mut self, alloc: Global, moment: u64) -> bool
+        ensures made { result ≡ is_some self.old.load }
+        ensures none { result ≡ false → self.new ≡ self.old }
+    {
         let Some(load) = &mut self.load else {
             return false;
         };

@@ -1,7 +1,8 @@
 //! Serves gateways and whoever types commands, a turn at a time, as a schedule says what comes next.
-ghost use Rattle.std.specs.Prelude.{◌≡◌, ◌||◌, ℕ, false, Option, Err, IfOk, IfErr};
+ghost use Rattle.std.specs.Prelude.{◌≡◌, ◌||◌, ℕ, false, List, Option, Err, IfOk, IfErr};
 ghost use Rattle.live_agent.specs.Clock.{is_behind};
 ghost use Rattle.live_agent.specs.Tallying.{with_command, CountsSent};
+ghost use Rattle.live_agent.specs.Turning.{stop_request, line_request, AsksFirst, AnswersWith, TellsCounts, DoesRequest, AnswersFirst, TakesTyped, DoesTurn};
 ghost use Rattle.live_agent.specs.Wiring.{due_of, ms_until, longest_until, IsSituation, IsWaitedFor, FallsDueFirst, AsksNext};
 
 use crate::loading::count_came;
@@ -197,7 +198,9 @@ fn answer_typed<S: Surroundings + Drop>(
 }
 
 // Answers what was counted so far.
-fn answer_counts<S: Surroundings + Drop>(wire: &mut Wire<S>) {
+fn answer_counts<S: Surroundings + Drop>(wire: &mut Wire<S>)
+    ensures { (text : List ℕ) × TellsCounts wire.old.journal.value text × AnswersWith S.answers text wire.old wire.new }
+{
     match wire.journal.counts() {
         Ok(text) => wire.answer(text.as_slice()),
         Err(_) => wire.answer(NO_MEMORY),
@@ -215,20 +218,40 @@ enum Request {
     Command,
 }
 
-fn request_in(lines: &Lines) -> Request {
-    let Some(line) = lines.line() else {
-        return Request::Nothing;
-    };
+fn stop_request(is_near: bool) -> Request
+    ensures { result ≡ stop_request is_near }
+{
+    if is_near {
+        Request::Stop
+    } else {
+        Request::StopFromAfar
+    }
+}
+
+// What a line asks for.
+fn line_request(is_near: bool, line: &[u8]) -> Request
+    ensures { result ≡ line_request is_near line.now }
+{
     if line == b"counts".as_slice() {
         return Request::Counts;
     }
-    if line == b"stop".as_slice() || line == b"quit".as_slice() {
-        if lines.is_from_loopback() {
-            return Request::Stop;
-        }
-        return Request::StopFromAfar;
+    if line == b"stop".as_slice() {
+        return stop_request(is_near);
+    }
+    if line == b"quit".as_slice() {
+        return stop_request(is_near);
     }
     Request::Command
+}
+
+fn request_in(lines: &Lines) -> Request
+    ensures { AsksFirst lines.now result }
+{
+    let is_near = lines.is_from_loopback();
+    match lines.line() {
+        Some(line) => line_request(is_near, line),
+        None => Request::Nothing,
+    }
 }
 
 // The command that is typed next, as it is issued; empty where nothing is.
@@ -251,13 +274,16 @@ fn answer_command<S: Surroundings + Drop>(
     }
 }
 
-// Answers what is typed next, if anything is.
-fn answer_request<S: Surroundings + Drop>(
+// Does what is asked for, and answers that.
+fn do_request<S: Surroundings + Drop>(
     alloc: Global,
     board: &mut Switchboard,
     wire: &mut Wire<S>,
-) {
-    match request_in(&wire.lines) {
+    request: Request,
+)
+    ensures { DoesRequest S.answers request board.old board.new wire.old wire.new }
+{
+    match request {
         Request::Nothing => {}
         Request::Counts => answer_counts(wire),
         Request::Stop => {
@@ -267,6 +293,34 @@ fn answer_request<S: Surroundings + Drop>(
         Request::StopFromAfar => wire.answer(STOP_FROM_AFAR),
         Request::Command => answer_command(alloc, board, wire),
     }
+}
+
+// Answers what is typed next, if anything is.
+fn answer_request<S: Surroundings + Drop>(
+    alloc: Global,
+    board: &mut Switchboard,
+    wire: &mut Wire<S>,
+)
+    ensures { AnswersFirst S.answers board.old board.new wire.old wire.new }
+{
+    let request = request_in(&wire.lines);
+    do_request(alloc, board, wire, request);
+}
+
+// Hears telephones, where a load is made; else answers what is typed next, where it is now this moment.
+fn take_line<S: Surroundings + Drop>(
+    alloc: Global,
+    board: &mut Switchboard,
+    wire: &mut Wire<S>,
+    moment: u64,
+)
+    ensures { TakesTyped S.sockets S.hears S.answers wire.old.load board.old board.new wire.old wire.new }
+{
+    if wire.hear_telephones(alloc, moment) {
+        return;
+    }
+    wire.hear_lines();
+    answer_request(alloc, board, wire);
 }
 
 // What is given up by now of the commands to a gateway.
@@ -410,18 +464,15 @@ fn do_turn<S: Surroundings + Drop>(
     wire: &mut Wire<S>,
     turn: Turn,
     moment: u64,
-) {
+)
+    ensures { DoesTurn S.sockets S.hears S.answers turn board.old board.new wire.old wire.new }
+{
     match turn {
         Turn::Tick { moment: to } => {
             tick(board, wire, to, moment);
             wire.pass_load(alloc, moment);
         }
-        Turn::Command => {
-            if !wire.hear_telephones(alloc, moment) {
-                wire.hear_lines();
-                answer_request(alloc, board, wire);
-            }
-        }
+        Turn::Command => take_line(alloc, board, wire, moment),
         Turn::Datagram => take_datagram(board, wire),
         Turn::Look => wire.wait(0),
         Turn::Wait { until } => {
@@ -429,7 +480,8 @@ fn do_turn<S: Surroundings + Drop>(
             wire.wait(longest);
         }
         Turn::Note { pause } => wire.note_pause(pause),
-        Turn::Visit | Turn::End => {}
+        Turn::Visit => {}
+        Turn::End => {}
     }
 }
 

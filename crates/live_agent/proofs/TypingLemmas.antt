@@ -1,0 +1,34 @@
+-- What is typed, and whose turn it is.
+use Rattle.std.proofs.Common.{◌≡◌, ℕ, Bool, true, false, List, [], ◌∷◌, Option, Some, None, sym, ap, subst, ◌∙◌, true≢false}
+use Rattle.std.specs.Prelude.{is_some}
+use Rattle.std.specs.Global.{Box}
+use Rattle.std.specs.declared.net.socket_addr.SocketAddr.{SocketAddr}
+use Rattle.std.specs.declared.net.socket_addr.SocketAddrV4.{SocketAddrV4}
+use Rattle.mg_bytes.specs.Lines.{line_of}
+use Rattle.live_agent.specs.declared.loading.Load.{Load}
+use Rattle.live_agent.specs.declared.session.Request.{Request}
+use Rattle.live_agent.specs.declared.session.Request.TheVariants.{Nothing}
+use Rattle.live_agent.specs.declared.switchboard.Switchboard.{Switchboard}
+use Rattle.live_agent.specs.declared.wire.Wire.{Wire}
+use Rattle.live_agent.specs.Turning.{line_request, first_request, AnswersFirst, HearsTyped, TakesTyped}
+
+pub asks_nothing : (is_near : Bool) (left : List (List ℕ)) → left ≡ [] → Nothing ≡ first_request is_near left
+asks_nothing is_near left none = sym (ap (first_request is_near) none)
+
+pub asks_for : (is_near : Bool) (left behind : List (List ℕ)) (piece line : List ℕ) (request : Request) → left ≡ piece ∷ behind
+    → line ≡ line_of piece → request ≡ line_request is_near line → request ≡ first_request is_near left
+asks_for is_near left behind piece line request first line_is is =
+    is ∙ ap (line_request is_near) line_is ∙ sym (ap (first_request is_near) first)
+
+module _ {S : Type 0} (sockets : S → List SocketAddrV4) (hears : S → Option (SocketAddr × ℕ) → List ℕ → S → Type 0) (answers : S → SocketAddr → List ℕ → S → Type 0) where
+  pub telephones_heard : (load : Option (Box Load)) (made : Bool) (board now : Switchboard) (was is : Wire S) → made ≡ is_some load → made ≡ true
+      → now ≡ board → TakesTyped sockets hears answers load board now was is
+  telephones_heard (Some load) made board now was is made_is yes same = same
+  telephones_heard None made board now was is made_is yes same = absurd (true≢false (sym yes ∙ made_is))
+
+  pub line_answered : (load : Option (Box Load)) (made : Bool) (board now : Switchboard) (was between heard is : Wire S) → made ≡ is_some load
+      → made ≡ false → between ≡ was → HearsTyped sockets hears between heard → AnswersFirst answers board now heard is
+      → TakesTyped sockets hears answers load board now was is
+  line_answered (Some load) made board now was between heard is made_is no same heard_so answered = absurd (true≢false (sym made_is ∙ no))
+  line_answered None made board now was between heard is made_is no same heard_so answered =
+      (heard, subst (λ (wire : Wire S). HearsTyped sockets hears wire heard) same heard_so, answered)

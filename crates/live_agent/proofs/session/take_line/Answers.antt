@@ -1,0 +1,14 @@
+use Rattle.std.proofs.Common.{refl, rules}
+use Rattle.live_agent.proofs.TypingLemmas.{line_answered, telephones_heard}
+use Rattle.live_agent.proofs.session.take_line.Goals as goal
+
+pub returns-then-hear_telephones : goal.returns-then-hear_telephones
+returns-then-hear_telephones g c =
+    telephones_heard g.S.Surroundings.sockets g.S.Surroundings.hears g.S.Surroundings.answers _ _ _ _ _ _
+    c.hear_telephones.ensures.made c.if-hear_telephones.true refl
+
+pub returns : goal.returns
+returns g c =
+    line_answered g.S.Surroundings.sockets g.S.Surroundings.hears g.S.Surroundings.answers _ _ _ _ _ _ _ _
+    c.hear_telephones.ensures.made c.if-hear_telephones.false (c.hear_telephones.ensures.none c.if-hear_telephones.false)
+    c.hear_lines.ensures c.answer_request.ensures
