@@ -1,16 +1,17 @@
 -- What is typed, and whose turn it is.
 use Rattle.std.proofs.Common.{◌≡◌, ℕ, Bool, true, false, List, [], ◌∷◌, Option, Some, None, sym, ap, subst, ◌∙◌, true≢false}
 use Rattle.std.specs.Prelude.{is_some}
-use Rattle.std.specs.Global.{Box}
+use Rattle.std.specs.Global.{Box, Vec}
 use Rattle.std.specs.declared.net.socket_addr.SocketAddr.{SocketAddr}
 use Rattle.std.specs.declared.net.socket_addr.SocketAddrV4.{SocketAddrV4}
 use Rattle.mg_bytes.specs.Lines.{line_of}
+use Rattle.live_agent.specs.declared.gateway.Gateway.{Gateway}
 use Rattle.live_agent.specs.declared.loading.Load.{Load}
 use Rattle.live_agent.specs.declared.session.Request.{Request}
 use Rattle.live_agent.specs.declared.session.Request.TheVariants.{Nothing}
 use Rattle.live_agent.specs.declared.switchboard.Switchboard.{Switchboard}
 use Rattle.live_agent.specs.declared.wire.Wire.{Wire}
-use Rattle.live_agent.specs.Turning.{line_request, first_request, AnswersFirst, HearsTyped, TakesTyped}
+use Rattle.live_agent.specs.Turning.{line_request, first_request, AnswersFirst, HearsTyped, SettlesLines, TakesTyped}
 
 pub asks_nothing : (is_near : Bool) (left : List (List ℕ)) → left ≡ [] → Nothing ≡ first_request is_near left
 asks_nothing is_near left none = sym (ap (first_request is_near) none)
@@ -19,6 +20,17 @@ pub asks_for : (is_near : Bool) (left behind : List (List ℕ)) (piece line : Li
     → line ≡ line_of piece → request ≡ line_request is_near line → request ≡ first_request is_near left
 asks_for is_near left behind piece line request first line_is is =
     is ∙ ap (line_request is_near) line_is ∙ sym (ap (first_request is_near) first)
+
+-- the exchange alone has changed
+pub by_office : (was is : Switchboard) → is ≡ record was { office = is.office } → SettlesLines was is
+by_office was is next =
+    next
+    ∙ ap (λ (gateways : Vec Gateway). record was { gateways = gateways; office = is.office }) (sym (ap (λ (one : Switchboard). one.gateways) next))
+
+-- more lines are settled
+pub settled_more : (board was is : Switchboard) → SettlesLines board was → SettlesLines was is → SettlesLines board is
+settled_more board was is so_far next =
+    next ∙ ap (λ (one : Switchboard). record one { gateways = is.gateways; office = is.office }) so_far
 
 module _ {S : Type 0} (sockets : S → List SocketAddrV4) (hears : S → Option (SocketAddr × ℕ) → List ℕ → S → Type 0) (answers : S → SocketAddr → List ℕ → S → Type 0) where
   pub telephones_heard : (load : Option (Box Load)) (made : Bool) (board now : Switchboard) (was is : Wire S) → made ≡ is_some load → made ≡ true

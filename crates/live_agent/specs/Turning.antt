@@ -1,5 +1,5 @@
 -- What a turn does at a board and over a wire: of what is typed exactly, but for a command; of the other turns what stays as it was.
-use Rattle.std.specs.Prelude.{◌≡◌, ◌⊎◌, ◌↔◌, ⊤, ℕ, Bool, if◌then◌else◌, codes, List, [], ◌∷◌, Option, Some, None, IsTrue, IsSomeAnd}
+use Rattle.std.specs.Prelude.{◌≡◌, ◌⊎◌, ◌↔◌, ⊤, ℕ, Bool, if◌then◌else◌, codes, List, [], ◌∷◌, Option, Some, None, Result, IsTrue, IsSomeAnd}
 use Rattle.std.specs.Global.{Box}
 use Rattle.std.specs.Net.Addr.{IsLoopbackV4, IsLoopbackV6, MatchIp}
 use Rattle.std.specs.Net.Socket.{socket_ip}
@@ -11,6 +11,11 @@ use Rattle.surroundings.specs.Hearing.{AnswersTo, Hears}
 use Rattle.surroundings.specs.Requests.{requests_from}
 use Rattle.surroundings.specs.Typing.{left_of, behind}
 use Rattle.surroundings.specs.declared.lines.Lines.{Lines}
+use Rattle.surroundings.specs.declared.surroundings.Fault.{Fault}
+use Rattle.surroundings.specs.declared.surroundings.Told.{Told}
+use Rattle.turns.specs.Schedule.{next_of}
+use Rattle.turns.specs.declared.schedule.Schedule.{Schedule}
+use Rattle.turns.specs.declared.situation.Situation.{Situation}
 use Rattle.turns.specs.declared.turn.Turn.{Turn}
 use Rattle.turns.specs.declared.turn.Turn.TheVariants as turns
 use Rattle.agent_texts.specs.declared.journal.Journal.{Journal}
@@ -20,7 +25,7 @@ use Rattle.live_agent.specs.declared.session.Request.TheVariants.{Nothing, Count
 use Rattle.live_agent.specs.declared.switchboard.Switchboard.{Switchboard}
 use Rattle.live_agent.specs.declared.wire.Wire.{Wire}
 use Rattle.live_agent.specs.Ending.{counted_in}
-use Rattle.live_agent.specs.Wiring.{with_read}
+use Rattle.live_agent.specs.Wiring.{with_read, IsSituation}
 
 -- What a line asks for
 
@@ -100,3 +105,20 @@ DoesTurn sockets hears answers turns.Command board now was is = TakesTyped socke
 DoesTurn sockets hears answers turns.Datagram board now was is = ⊤
 DoesTurn sockets hears answers turns.Visit board now was is = (now ≡ board) × (is ≡ was)
 DoesTurn sockets hears answers (turns.Note pause) board now was is = now ≡ board
+
+-- Lines to which something has happened are settled: of a board that changes the gateways and the exchange alone.
+abbrev pub SettlesLines : Switchboard → Switchboard → Type 0
+SettlesLines was is = is ≡ record was { gateways = is.gateways; office = is.office }
+
+-- what comes next by a schedule, as things stand, is done, once lines are settled
+pub record DoesNext {S : Type 0}
+    (sockets : S → List SocketAddrV4) (passes : S → Result ℕ Fault → Type 0) (tells : S → Told → Type 0)
+    (hears : S → Option (SocketAddr × ℕ) → List ℕ → S → Type 0) (answers : S → SocketAddr → List ℕ → S → Type 0)
+    (board now : Switchboard) (was is : Wire S) (schedule : Schedule)
+    : Type 0 where
+  pub at : Situation
+  pub settled : Switchboard
+  pub begun : Wire S
+  pub situation : IsSituation passes tells board was at
+  pub settles : SettlesLines board settled
+  pub does : DoesTurn sockets hears answers (next_of schedule at).0 settled now begun is

@@ -12,7 +12,7 @@ ghost use Rattle.live_agent.specs.declared.switchboard.Switchboard.{Switchboard}
 ghost use Rattle.live_agent.specs.declared.wire.Wire.{Wire};
 ghost use Rattle.live_agent.specs.Dues.{FallsDueAt};
 ghost use Rattle.live_agent.specs.Ending.{counted_in, EndsWith};
-ghost use Rattle.live_agent.specs.Turning.{line_request, first_request, DoesRequest, DoesTurn, TakesTyped, TellsCounts};
+ghost use Rattle.live_agent.specs.Turning.{line_request, first_request, DoesRequest, DoesTurn, SettlesLines, TakesTyped, TellsCounts};
 ghost use Rattle.live_agent.specs.Wiring.{longest_until, FallsDueFirst, IsWaitedFor};
 
 use live_ends::CommonEnding;
@@ -75,4 +75,6 @@ pub fn what_turns_leave_has_examples()
         DoesTurn sockets hears answers Turn.End board now was is → (now ≡ board) × (is ≡ was) }
     ensures load { (sockets hears answers : _) (load : Box Load) (board now : Switchboard) (was is : Wire ℕ) →
         TakesTyped sockets hears answers (Some load) board now was is → now ≡ board }
+    ensures settles { (board now : Switchboard) → SettlesLines board now →
+        (now.stations ≡ board.stations) × (now.notifying ≡ board.notifying) }
 {}

@@ -1,8 +1,8 @@
 //! Serves gateways and whoever types commands, a turn at a time, as a schedule says what comes next.
-ghost use Rattle.std.specs.Prelude.{◌≡◌, ◌||◌, ℕ, false, List, Option, Err, IfOk, IfErr};
+ghost use Rattle.std.specs.Prelude.{◌≡◌, ◌||◌, ℕ, true, false, List, Option, Err, IfOk, IfErr};
 ghost use Rattle.live_agent.specs.Clock.{is_behind};
 ghost use Rattle.live_agent.specs.Tallying.{with_command, CountsSent};
-ghost use Rattle.live_agent.specs.Turning.{stop_request, line_request, AsksFirst, AnswersWith, TellsCounts, DoesRequest, AnswersFirst, TakesTyped, DoesTurn};
+ghost use Rattle.live_agent.specs.Turning.{stop_request, line_request, AsksFirst, AnswersWith, TellsCounts, DoesRequest, AnswersFirst, TakesTyped, SettlesLines, DoesTurn, DoesNext};
 ghost use Rattle.live_agent.specs.Wiring.{due_of, ms_until, longest_until, IsSituation, IsWaitedFor, FallsDueFirst, AsksNext};
 
 use crate::loading::count_came;
@@ -46,9 +46,23 @@ fn is_behind(moment: u64, ticked: u64) -> bool
     LONGEST_LAG < moment.saturating_sub(ticked)
 }
 
+// Sends the line that is settled so many behind the first what it is to be sent.
+fn send_next<S: Surroundings + Drop>(board: &mut Switchboard, wire: &mut Wire<S>, index: usize)
+    ensures { SettlesLines board.old board.new }
+{
+    match board.issue_next(index) {
+        Ok(Some(issued)) => send_issued(wire, &issued),
+        Ok(None) => {}
+        Err(_) => count(&mut wire.journal.tally.refused),
+    }
+}
+
 // Tells how the lines to which something has happened stand, and sends them what they are to be sent. Where the clock is behind they go
 // on waiting.
-fn settle<S: Surroundings + Drop>(board: &mut Switchboard, wire: &mut Wire<S>) {
+fn settle<S: Surroundings + Drop>(board: &mut Switchboard, wire: &mut Wire<S>)
+    ensures settles { SettlesLines board.old board.new }
+    ensures waits { wire.old.is_behind ≡ true → (board.new ≡ board.old) × (wire.new ≡ wire.old) }
+{
     if wire.is_behind {
         return;
     }
@@ -58,11 +72,7 @@ fn settle<S: Surroundings + Drop>(board: &mut Switchboard, wire: &mut Wire<S>) {
         board.show(&mut wire.journal, index);
     }
     for index in 0..lines {
-        match board.issue_next(index) {
-            Ok(Some(issued)) => send_issued(wire, &issued),
-            Ok(None) => {}
-            Err(_) => count(&mut wire.journal.tally.refused),
-        }
+        send_next(board, wire, index);
     }
 }
 
@@ -493,6 +503,8 @@ fn turn<S: Surroundings + Drop>(
     schedule: &mut Schedule,
 ) -> Result<bool, Fault>
     ensures next { IfOk result (λ goes_on. AsksNext S.passes S.tells board.old wire.old schedule.old goes_on schedule.new) }
+    ensures does { IfOk result (λ goes_on. goes_on ≡ true → DoesNext S.sockets S.passes S.tells S.hears S.answers
+        board.old board.new wire.old wire.new schedule.old) }
     ensures ended { IfOk result (λ goes_on. goes_on ≡ false → (wire.new ≡ wire.old) × (board.new ≡ board.old)) }
     ensures failed { IfErr result (λ fault. S.passes wire.old.around (Err fault)) }
     ensures fault { IfErr result (λ _. (wire.new ≡ wire.old) × (board.new ≡ board.old) × (schedule.new ≡ schedule.old)) }
