@@ -1,4 +1,4 @@
--- How the program ends by words that are refused, by a configuration that is, and by what can't be done.
+-- How the program ends by a configuration that is refused, and by what can't be done.
 use Rattle.std.specs.Prelude.{◌≡◌, ◌≢◌, ◌⊎◌, ℕ, codes, decimal, List, ◌++◌}
 use Rattle.std.specs.declared.io.ErrorKind.TheVariants as kinds
 use Rattle.std.specs.declared.net.socket_addr.SocketAddrV4.{SocketAddrV4}
@@ -6,12 +6,6 @@ use Rattle.agent_texts.specs.declared.config_fault.ConfigRefusal.{ConfigRefusal}
 use Rattle.agent_texts.specs.declared.config_fault.ConfigRefusal.TheVariants as refusals
 use Rattle.live_ends.specs.declared.address_words.AddressWord.TheVariants.{Own}
 use Rattle.live_ends.specs.declared.ending.CommonEnding.TheVariants as endings
-use Rattle.rgca.specs.declared.words.WordFault.{WordFault}
-use Rattle.rgca.specs.declared.words.WordFault.TheVariants as faults
-use Rattle.rgca.specs.declared.phone_words.PhoneWordFault.{PhoneWordFault}
-use Rattle.rgca.specs.declared.phone_words.PhoneWordFault.TheVariants as phone_faults
-use Rattle.rgca.specs.declared.load_words.LoadWordFault.{LoadWordFault}
-use Rattle.rgca.specs.declared.load_words.LoadWordFault.TheVariants as number_faults
 use Rattle.live_checks.specs.declared.check_fault.CheckFault.{CheckFault}
 use Rattle.live_checks.specs.declared.check_fault.CheckFault.TheVariants as check_faults
 use Rattle.live_checks.specs.declared.phones.Played.{Played as Play}
@@ -25,31 +19,8 @@ use Rattle.phone_scripts.specs.declared.failure.Failure.TheVariants as failures
 use Rattle.phone_scripts.specs.Wording.{failure_lines}
 use Rattle.rgca.specs.declared.phone_files.FileFault.{FileFault}
 use Rattle.rgca.specs.declared.phone_files.FileFault.TheVariants as file_faults
-use Rattle.rgca.specs.declared.ending.Ending.{Ending}
-use Rattle.rgca.specs.declared.ending.Ending.TheVariants.{Common, OfCheck, OfPhones, OfLoads, Played, Unexpected, Unplayed, BadScript, Loaded, BadNumber, Untold, NoLines, NoAnswer, NotServing, NoSuchLine, InUse, System, BadGateway, BadLine, SameLine, NoCheck, Config}
-
-abbrev pub word_ending : WordFault → Ending
-word_ending (faults.Common ending) = Common ending
-word_ending (faults.BadLine is_other) = BadLine is_other
-word_ending faults.SameLine = SameLine
-word_ending faults.NoCheck = NoCheck
-
--- by words behind `check`, which have a usage and a help of their own
-abbrev pub check_ending : WordFault → Ending
-check_ending (faults.Common ending) = OfCheck ending
-check_ending (faults.BadLine is_other) = BadLine is_other
-check_ending faults.SameLine = SameLine
-check_ending faults.NoCheck = NoCheck
-
--- by words behind `phones`, likewise
-abbrev pub phone_ending : PhoneWordFault → Ending
-phone_ending (phone_faults.Common ending) = OfPhones ending
-phone_ending (phone_faults.BadGateway word) = BadGateway
-
--- by words behind `load`, likewise
-abbrev pub load_word_ending : LoadWordFault → Ending
-load_word_ending (number_faults.Common ending) = OfLoads ending
-load_word_ending (number_faults.BadNumber number) = BadNumber number
+use Rattle.rgca_words.specs.declared.ending.Ending.{Ending}
+use Rattle.rgca_words.specs.declared.ending.Ending.TheVariants.{Common, Played, Unexpected, Unplayed, BadScript, Loaded, Untold, NoLines, NoAnswer, NotServing, NoSuchLine, InUse, System, Config}
 
 -- where no load is made
 abbrev pub unmade_by : LoadFault → Ending

@@ -1,5 +1,1 @@
-pub mod Statuses
 pub mod Endings
-pub mod Texts
-pub mod Names
-pub mod Words

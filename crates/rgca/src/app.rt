@@ -1,16 +1,15 @@
 //! The program: reads its words and its configuration, and serves, checks, plays or makes a load.
 ghost use Rattle.std.specs.Prelude.{◌≡◌, [], None, is_some, IfOk, IfSome};
-ghost use Rattle.rgca.specs.Names.{name_of, Says};
+ghost use Rattle.rgca_words.specs.Names.{name_of, Says};
 
 use crate::checks::checked;
-use crate::configs::config_of;
-use crate::ending::{Ending, Named, Said, config_ending, word_ending};
+use crate::configs::{config_ending, config_of};
 use crate::loads::loaded;
 use crate::phones::played;
-use crate::words::{Settings, read_words};
 use agent_texts::AgentConfig;
 use live_agent::{WireSettings, serve_agent};
 use live_ends::{AddressWord, CommonEnding, Outlets, SocketWanted, begin, end, read_file};
+use rgca_words::{Ending, Named, Said, Settings, read_words, word_ending};
 use rgw_scripts::LIMIT;
 use std::alloc::Global;
 use std::net::Net;

@@ -1,16 +1,16 @@
 //! Checks a gateway as words ask, or tells which checks there are.
 ghost use Rattle.std.specs.Prelude.{[], IfOk};
-ghost use Rattle.rgca.specs.Names.{name_of, Says};
+ghost use Rattle.rgca.specs.Endings.{Unchecked};
+ghost use Rattle.rgca_words.specs.Names.{name_of, Says};
 
-use crate::check_words::{CheckWords, read_check_words};
-use crate::ending::{Ending, Named, Said, check_words_ending, unchecked_ending};
-use live_checks::{Checked, check_gateway, check_list, fault_text};
-use live_ends::{CommonEnding, Outlet, Outlets};
+use live_checks::{CheckFault, Checked, check_gateway, check_list, fault_text};
+use live_ends::{AddressWord, CommonEnding, Outlet, Outlets};
 use mg_bytes::OutOfMemory;
+use rgca_words::{CheckWords, Ending, Named, Said, check_words_ending, read_check_words};
 use std::alloc::Global;
 use std::fs::File;
 use std::io::{self, Write};
-use std::net::Net;
+use std::net::{Net, SocketAddrV4};
 use std::rt::{Clock, Files};
 
 // A new file with this text, or in place of what it had.
@@ -43,6 +43,24 @@ fn failed<F: Write + Drop>(
         out.offer();
     }
     ending
+}
+
+// How the program ends where the gateway at this address can't be checked from that one.
+fn unchecked_ending(fault: CheckFault, gateway: SocketAddrV4, own: SocketAddrV4) -> Ending
+    ensures { Unchecked gateway own fault result }
+{
+    match fault {
+        CheckFault::Unbound { kind } => {
+            Ending::Common(CommonEnding::unbound(AddressWord::Own, own, kind))
+        }
+        CheckFault::NoSuchLine { is_other } => Ending::NoSuchLine { is_other },
+        CheckFault::InUse { is_other } => Ending::InUse { is_other },
+        CheckFault::NoAnswer => Ending::NoAnswer { address: gateway },
+        CheckFault::NotServing => Ending::NotServing { address: gateway },
+        CheckFault::System => Ending::System,
+        CheckFault::Write => Ending::Common(CommonEnding::Write),
+        CheckFault::OutOfMemory => Ending::Common(CommonEnding::OutOfMemory),
+    }
 }
 
 // Keeps the report of this check in its file, where one is asked for: how the program ends then.

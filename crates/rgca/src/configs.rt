@@ -1,5 +1,10 @@
 //! Reads a configuration, and what is missing there for what is asked.
+ghost use Rattle.std.specs.Prelude.{◌≡◌};
+ghost use Rattle.rgca.specs.Endings.{config_by};
+
 use agent_texts::{AgentConfig, ConfigRefusal, Place, missing, read_config, too_long};
+use live_ends::CommonEnding;
+use rgca_words::Ending;
 use rgw_scripts::LIMIT;
 use std::alloc::Global;
 
@@ -36,4 +41,14 @@ pub fn bench_refusal(alloc: Global, config: &AgentConfig) -> Option<ConfigRefusa
         }
     }
     None
+}
+
+/// How the program ends by a configuration that is refused.
+pub fn config_ending(refusal: ConfigRefusal) -> Ending
+    ensures { result ≡ config_by refusal }
+{
+    match refusal {
+        ConfigRefusal::OutOfMemory => Ending::Common(CommonEnding::OutOfMemory),
+        ConfigRefusal::Told { line } => Ending::Config { line },
+    }
 }

@@ -1,17 +1,33 @@
 //! Makes a load of calls as words ask.
-ghost use Rattle.std.specs.Prelude.{[], IfOk};
-ghost use Rattle.rgca.specs.Names.{Says};
+ghost use Rattle.std.specs.Prelude.{◌≡◌, [], IfOk};
+ghost use Rattle.rgca.specs.Endings.{load_by};
+ghost use Rattle.rgca_words.specs.Names.{Says};
 
-use crate::configs::{bench_refusal, config_of};
-use crate::ending::{Ending, Named, Said, config_ending, load_ending, load_words_ending};
-use crate::load_words::read_load_words;
-use live_agent::load_agent;
+use crate::configs::{bench_refusal, config_ending, config_of};
+use live_agent::{LoadEnding, load_agent};
 use live_ends::{CommonEnding, Outlets, read_file};
-use load_bench::LoadSettings;
+use load_bench::{LoadFault, LoadSettings};
+use rgca_words::{Ending, Named, Said, load_words_ending, read_load_words};
 use rgw_scripts::LIMIT;
 use std::alloc::Global;
 use std::net::Net;
 use std::rt::{Clock, Files};
+
+// How the program ends by a load.
+fn load_ending(ending: LoadEnding) -> Ending
+    ensures { result ≡ load_by ending }
+{
+    match ending {
+        LoadEnding::Common(ending) => Ending::Common(ending),
+        LoadEnding::Made { is_enough } => Ending::Loaded { is_enough },
+        LoadEnding::Unmade(fault) => match fault {
+            LoadFault::OutOfMemory => Ending::Common(CommonEnding::OutOfMemory),
+            LoadFault::NoAnswer { address } => Ending::NoAnswer { address },
+            LoadFault::Unwatched { address } => Ending::Untold { address },
+            LoadFault::NoLines => Ending::NoLines,
+        },
+    }
+}
 
 // Makes a load by the configuration in this text, which a file of this name has.
 fn load_by<R: Files + Net + Clock>(

@@ -1,12 +1,12 @@
 -- What an ending names: files, and a word that should say a gateway.
 use Rattle.std.specs.Prelude.{◌≡◌, ℕ, List, [], Option, None, Some}
 use Rattle.std.specs.Borrow.{Bor}
-use Rattle.rgca.specs.declared.ending.Abouts.{Abouts}
-use Rattle.rgca.specs.declared.ending.Named.{Named}
-use Rattle.rgca.specs.declared.ending.Ending.{Ending}
-use Rattle.rgca.specs.declared.phone_words.PhoneWordFault.{PhoneWordFault}
-use Rattle.rgca.specs.declared.phone_words.PhoneWordFault.TheVariants.{Common, BadGateway}
-use Rattle.rgca.specs.Texts.{ending_text}
+use Rattle.rgca_words.specs.declared.ending.Abouts.{Abouts}
+use Rattle.rgca_words.specs.declared.ending.Named.{Named}
+use Rattle.rgca_words.specs.declared.ending.Ending.{Ending}
+use Rattle.rgca_words.specs.declared.phone_words.PhoneWordFault.{PhoneWordFault}
+use Rattle.rgca_words.specs.declared.phone_words.PhoneWordFault.TheVariants.{Common, BadGateway}
+use Rattle.rgca_words.specs.Texts.{ending_text}
 
 -- a file that isn't asked for has no name
 abbrev pub name_of : Option (Bor (List ℕ)) → List ℕ

@@ -2,8 +2,8 @@
 ghost use Rattle.std.specs.Prelude.{◌≡◌, [], Some, None, Ok, IfOk, IfErr, IfSome, codes, option_map};
 ghost use Rattle.std.specs.Net.Grammar.{IsSocketV4Text};
 ghost use Rattle.clap.specs.Matches.{found_of, first_value, one_text};
-ghost use Rattle.rgca.specs.Names.{name_of, HasNames};
-ghost use Rattle.rgca.specs.Words.{IsBehind, SaysFlag};
+ghost use Rattle.rgca_words.specs.Names.{name_of, HasNames};
+ghost use Rattle.rgca_words.specs.Words.{IsBehind, SaysFlag};
 
 use crate::ending::Named;
 use crate::help::{CONTROL, USAGE};
@@ -38,7 +38,7 @@ pub struct Settings<'a> {
 
 impl<'a> Settings<'a> {
     /// What an ending names: the program reads its configuration, and writes a capture.
-    pub(crate) fn named(&self) -> Named<'a>
+    pub fn named(&self) -> Named<'a>
         ensures { HasNames self.now.config.now (name_of self.now.capture) [] result }
     {
         Named::of_files(self.config, self.capture.unwrap_or(""))

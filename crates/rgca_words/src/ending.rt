@@ -2,21 +2,18 @@
 ghost use Rattle.std.specs.Prelude.{◌≡◌, ℕ, List, ◌++◌, ◌∷◌, [], codes, OnOk, IfOk};
 ghost use Rattle.std.specs.Net.Text.{socket_v4_text};
 ghost use Rattle.live_ends.specs.Wording.{joined};
-ghost use Rattle.rgca.specs.Statuses.{load_status, status_of, is_asked};
-ghost use Rattle.rgca.specs.Endings.{word_ending, check_ending, phone_ending, load_word_ending, load_by, config_by, Unchecked};
-ghost use Rattle.rgca.specs.Texts.{line_word, number_text, ending_text};
-ghost use Rattle.rgca.specs.Names.{gateway_of, HasNames, Says};
+ghost use Rattle.rgca_words.specs.Statuses.{load_status, status_of, is_asked};
+ghost use Rattle.rgca_words.specs.Endings.{word_ending, check_ending, phone_ending, load_word_ending};
+ghost use Rattle.rgca_words.specs.Texts.{line_word, number_text, ending_text};
+ghost use Rattle.rgca_words.specs.Names.{gateway_of, HasNames, Says};
 
 use crate::help::of_all;
 use crate::load_words::LoadWordFault;
 use crate::phone_words::PhoneWordFault;
 use crate::words::WordFault;
-use agent_texts::ConfigRefusal;
 use exchange_log::peer_text;
-use live_agent::LoadEnding;
-use live_checks::CheckFault;
-use live_ends::{About, AddressWord, CommonEnding, FileNames, put_pieces};
-use load_bench::{LoadFault, LoadNumber};
+use live_ends::{About, CommonEnding, FileNames, put_pieces};
+use load_bench::LoadNumber;
 use mg_bytes::{OutOfMemory, Text};
 use std::alloc::Global;
 use std::net::SocketAddrV4;
@@ -64,14 +61,14 @@ pub struct Named<'a> {
 
 impl<'a> Named<'a> {
     /// Nothing is named.
-    pub(crate) fn nothing() -> Named<'a>
+    pub fn nothing() -> Named<'a>
         ensures { HasNames [] [] [] result }
     {
         Named::of_files("", "")
     }
 
     /// The program reads this file, and writes that one.
-    pub(crate) fn of_files(read_from: &'a str, written_to: &'a str) -> Named<'a>
+    pub fn of_files(read_from: &'a str, written_to: &'a str) -> Named<'a>
         ensures { HasNames read_from.now written_to.now [] result }
     {
         Named {
@@ -245,7 +242,7 @@ impl Ending {
     }
 
     /// What is said, where this is what it names.
-    pub(crate) fn text(&self, alloc: Global, named: Named<'_>) -> Result<Vec<u8>, OutOfMemory>
+    pub fn text(&self, alloc: Global, named: Named<'_>) -> Result<Vec<u8>, OutOfMemory>
         ensures { (read written gateway : List ℕ) → HasNames read written gateway named.entry
             → IfOk result (λ text. Says read written gateway self.now text.items) }
     {
@@ -257,7 +254,7 @@ impl Ending {
     }
 
     /// The program ends so, and says what is said where this is what it names.
-    pub(crate) fn said(self, alloc: Global, named: Named<'_>) -> Said
+    pub fn said(self, alloc: Global, named: Named<'_>) -> Said
         ensures ending { result.ending ≡ self }
         ensures text { (read written gateway : List ℕ) → HasNames read written gateway named.entry
             → IfOk result.text (λ text. Says read written gateway result.ending text.items) }
@@ -302,15 +299,15 @@ fn named_by<'a>(fault: PhoneWordFault<'a>) -> Named<'a>
 }
 
 /// How the program ends by words behind `phones`, and what it says then, which names the word that should say a gateway.
-pub(crate) fn phone_words_said(alloc: Global, fault: PhoneWordFault<'_>) -> Said
+pub fn phone_words_said(alloc: Global, fault: PhoneWordFault<'_>) -> Said
     ensures ending { result.ending ≡ phone_ending fault.entry }
     ensures text { IfOk result.text (λ text. Says [] [] (gateway_of fault.entry) result.ending text.items) }
 {
     phone_words_ending(fault).said(alloc, named_by(fault))
 }
 
-/// How the program ends by words behind `phones`.
-pub fn phone_words_ending(fault: PhoneWordFault<'_>) -> Ending
+// How the program ends by words behind `phones`.
+fn phone_words_ending(fault: PhoneWordFault<'_>) -> Ending
     ensures { result ≡ phone_ending fault.entry }
 {
     match fault {
@@ -326,22 +323,6 @@ pub fn load_words_ending(fault: LoadWordFault) -> Ending
     match fault {
         LoadWordFault::Common(ending) => Ending::OfLoads(ending),
         LoadWordFault::BadNumber { number } => Ending::BadNumber { number },
-    }
-}
-
-/// How the program ends by a load.
-pub fn load_ending(ending: LoadEnding) -> Ending
-    ensures { result ≡ load_by ending }
-{
-    match ending {
-        LoadEnding::Common(ending) => Ending::Common(ending),
-        LoadEnding::Made { is_enough } => Ending::Loaded { is_enough },
-        LoadEnding::Unmade(fault) => match fault {
-            LoadFault::OutOfMemory => Ending::Common(CommonEnding::OutOfMemory),
-            LoadFault::NoAnswer { address } => Ending::NoAnswer { address },
-            LoadFault::Unwatched { address } => Ending::Untold { address },
-            LoadFault::NoLines => Ending::NoLines,
-        },
     }
 }
 
@@ -363,38 +344,6 @@ fn line_word(is_other: bool) -> &'static str
     ensures { result.now ≡ line_word is_other }
 {
     if is_other { "--more-lines" } else { "--line" }
-}
-
-/// How the program ends where the gateway at this address can't be checked from that one.
-pub(crate) fn unchecked_ending(
-    fault: CheckFault,
-    gateway: SocketAddrV4,
-    own: SocketAddrV4,
-) -> Ending
-    ensures { Unchecked gateway own fault result }
-{
-    match fault {
-        CheckFault::Unbound { kind } => {
-            Ending::Common(CommonEnding::unbound(AddressWord::Own, own, kind))
-        }
-        CheckFault::NoSuchLine { is_other } => Ending::NoSuchLine { is_other },
-        CheckFault::InUse { is_other } => Ending::InUse { is_other },
-        CheckFault::NoAnswer => Ending::NoAnswer { address: gateway },
-        CheckFault::NotServing => Ending::NotServing { address: gateway },
-        CheckFault::System => Ending::System,
-        CheckFault::Write => Ending::Common(CommonEnding::Write),
-        CheckFault::OutOfMemory => Ending::Common(CommonEnding::OutOfMemory),
-    }
-}
-
-/// How the program ends by a configuration that is refused.
-pub fn config_ending(refusal: ConfigRefusal) -> Ending
-    ensures { result ≡ config_by refusal }
-{
-    match refusal {
-        ConfigRefusal::OutOfMemory => Ending::Common(CommonEnding::OutOfMemory),
-        ConfigRefusal::Told { line } => Ending::Config { line },
-    }
 }
 
 // The configuration in this file has a fault, which a line tells.

@@ -1,8 +1,8 @@
 //! Reads the words behind `check`.
 ghost use Rattle.std.specs.Prelude.{◌≡◌, [], Some, is_some, IfOk, codes, option_map};
 ghost use Rattle.clap.specs.Matches.{found_of, first_value, one_text};
-ghost use Rattle.rgca.specs.Names.{name_of, HasNames};
-ghost use Rattle.rgca.specs.Words.{IsBehind, SaysFlag, IsWorked};
+ghost use Rattle.rgca_words.specs.Names.{name_of, HasNames};
+ghost use Rattle.rgca_words.specs.Words.{IsBehind, SaysFlag, IsWorked};
 
 use crate::ending::Named;
 use crate::help::CHECK_USAGE;
@@ -148,7 +148,7 @@ pub struct CheckWords<'a> {
 
 impl<'a> CheckWords<'a> {
     /// What an ending names: the program writes the report.
-    pub(crate) fn named(&self) -> Named<'a>
+    pub fn named(&self) -> Named<'a>
         ensures { HasNames [] (name_of self.now.junit) [] result }
     {
         Named::of_files("", self.junit.unwrap_or(""))

@@ -6,10 +6,10 @@ use Rattle.live_ends.specs.Wording.{joined}
 use Rattle.live_ends.specs.Ending.{ending_text as common_text}
 use Rattle.load_bench.specs.declared.settings.LoadNumber.{LoadNumber}
 use Rattle.load_bench.specs.declared.settings.LoadNumber.TheVariants.{Rate, Length, Hold, Seed, Success}
-use Rattle.rgca.specs.declared.ending.Abouts.{Abouts}
-use Rattle.rgca.specs.declared.ending.Named.{Named}
-use Rattle.rgca.specs.declared.ending.Ending.{Ending}
-use Rattle.rgca.specs.declared.ending.Ending.TheVariants.{Common, OfCheck, OfPhones, OfLoads, Checked, Played, Loaded, Unexpected, Unplayed, BadScript, BadGateway, BadNumber, Untold, NoLines, BadLine, SameLine, NoCheck, Config, NoAnswer, NotServing, NoSuchLine, InUse, System}
+use Rattle.rgca_words.specs.declared.ending.Abouts.{Abouts}
+use Rattle.rgca_words.specs.declared.ending.Named.{Named}
+use Rattle.rgca_words.specs.declared.ending.Ending.{Ending}
+use Rattle.rgca_words.specs.declared.ending.Ending.TheVariants.{Common, OfCheck, OfPhones, OfLoads, Checked, Played, Loaded, Unexpected, Unplayed, BadScript, BadGateway, BadNumber, Untold, NoLines, BadLine, SameLine, NoCheck, Config, NoAnswer, NotServing, NoSuchLine, InUse, System}
 
 -- the word that names the line to be checked, or the other one
 abbrev pub line_word : Bool → List ℕ

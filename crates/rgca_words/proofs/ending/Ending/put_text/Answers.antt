@@ -1,5 +1,5 @@
-use Rattle.rgca.specs.Texts.{ending_text}
-use Rattle.rgca.proofs.ending.Ending.put_text.Goals as goal
+use Rattle.rgca_words.specs.Texts.{ending_text}
+use Rattle.rgca_words.proofs.ending.Ending.put_text.Goals as goal
 
 pub returns-in-Common : goal.returns-in-Common
 unfolding ending_text

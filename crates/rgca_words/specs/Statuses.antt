@@ -1,8 +1,8 @@
 -- The exit statuses, and what is said because words ask for it.
 use Rattle.std.specs.Prelude.{ℕ, Bool, false, if◌then◌else◌}
 use Rattle.live_ends.specs.Ending.{status_of as common_status, is_asked as is_commonly_asked}
-use Rattle.rgca.specs.declared.ending.Ending.{Ending}
-use Rattle.rgca.specs.declared.ending.Ending.TheVariants.{Common, OfCheck, OfPhones, OfLoads, Checked, Played, Loaded, Unexpected, Unplayed, BadScript, BadGateway, BadNumber, Untold, NoLines, BadLine, SameLine, NoCheck, Config, NoAnswer, NotServing, NoSuchLine, InUse, System}
+use Rattle.rgca_words.specs.declared.ending.Ending.{Ending}
+use Rattle.rgca_words.specs.declared.ending.Ending.TheVariants.{Common, OfCheck, OfPhones, OfLoads, Checked, Played, Loaded, Unexpected, Unplayed, BadScript, BadGateway, BadNumber, Untold, NoLines, BadLine, SameLine, NoCheck, Config, NoAnswer, NotServing, NoSuchLine, InUse, System}
 
 -- of a load, by whether enough of its calls came to rest
 abbrev pub load_status : Bool → ℕ

@@ -1,7 +1,6 @@
 //! Reads the words behind `phones`.
 ghost use Rattle.std.specs.Prelude.{◌≡◌, ◌∷◌, IfOk, string_bytes};
 
-use agent_texts::copied;
 use live_ends::CommonEnding;
 use mg_bytes::Text;
 use std::alloc::{AllocError, Global};
@@ -102,7 +101,8 @@ impl Gateways {
 
     // A gateway is named so, and its telephones are there.
     fn add(&mut self, alloc: Global, name: &str, address: SocketAddrV4) -> Result<(), AllocError> {
-        self.names.push(copied(alloc, name.as_bytes())?)?;
+        let name = Vec::from_slice(alloc, name.as_bytes())?;
+        self.names.push(Text::of(name))?;
         self.addresses.push(address)?;
         Ok(())
     }

@@ -160,7 +160,7 @@ The status is 0 where enough calls came to rest, 1 where too few did, 2 for othe
 static LOADS_HELP: [&str; 3] = ["usage: ", LOADS_USAGE, LOADS_BELOW];
 
 /// What the program says of itself, of its checks, of its scripts of telephones, and of its loads.
-pub(crate) fn of_all() -> Abouts {
+pub fn of_all() -> Abouts {
     let version = VERSIONS.as_slice();
     Abouts {
         program: About {

@@ -1,0 +1,5 @@
+pub mod Statuses
+pub mod Endings
+pub mod Texts
+pub mod Names
+pub mod Words

@@ -1,0 +1,21 @@
+//! The words of the program `rgca`: what they ask for, how the program is used, how it ends, and what it says then. It opens nothing,
+//! serves nothing and checks nothing.
+#![tactic(auto)]
+
+mod check_words;
+mod ending;
+pub mod examples;
+mod help;
+mod load_words;
+mod phone_words;
+mod words;
+
+pub use crate::check_words::{CheckWords, read_check_words};
+pub use crate::ending::{
+    Abouts, Ending, Named, Said, check_words_ending, load_words_ending, phone_words_said,
+    word_ending,
+};
+pub use crate::help::of_all;
+pub use crate::load_words::{LoadWordFault, read_load_words};
+pub use crate::phone_words::{PhoneSettings, PhoneWordFault, read_phone_words};
+pub use crate::words::{Settings, WordFault, read_words};
