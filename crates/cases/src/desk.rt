@@ -1,4 +1,4 @@
-//! Stories of `rgca`: its loop, from its configuration on. Its words are read here, as far as the loop asks for them.
+//! Stories of `rgca`: its loop, from its words and its configuration on.
 //!
 //! Their lines are those of `live`, but for these:
 //!
@@ -9,15 +9,16 @@
 //! - `read print` what is printed is read from here on, and `read print 1048413` so many bytes wait for that from the start; where the log
 //!   is read late, nobody reads that without it.
 //! - `refused print` memory is refused for what is printed, from the start.
-use crate::loads::{asked_in, play_load};
+use crate::loads::{load_line, play_load};
 use crate::stories::{
-    Clocks, EndClock, LateRecord, Machine, Place, Program, Records, Story, Transcript, Words, told,
-    words_in,
+    Clocks, EndClock, LateRecord, Machine, Place, Program, Records, Story, Transcript, line_of,
+    told, unread_outlet,
 };
 use agent_texts::{AgentConfig, ConfigRefusal, Journal, read_config};
 use live_agent::{Recorder, Wire, WireSettings, serve_over, wire_over};
-use live_ends::{AddressWord, SocketWanted};
+use live_ends::{AddressWord, CommonEnding, SocketWanted};
 use mg_bytes::OutOfMemory;
+use rgca_words::{Settings, WordFault, read_words};
 use scenario_files::{Report, Titled};
 use std::alloc::{AllocError, Global};
 use std::net::{Ipv4Addr, Net, SocketAddrV4};
@@ -63,38 +64,49 @@ pub(crate) fn config_in(alloc: Global, settings: &str) -> Result<Option<AgentCon
     }
 }
 
+// What a command line asks for, read as the program reads it; nothing where its words are wrong.
+fn settings_by<'a>(
+    alloc: Global,
+    line: &'a [String],
+) -> Result<Option<Box<Settings<'a>>>, OutOfMemory> {
+    let mut said = unread_outlet(alloc)?;
+    let settings = match read_words(alloc, line, &mut said) {
+        Ok(settings) => settings,
+        Err(WordFault::Common(CommonEnding::OutOfMemory)) => return Err(AllocError),
+        Err(_) => return Ok(None),
+    };
+    Ok(Some(settings))
+}
+
 // What is asked of a wire, which ends behind what comes where no word says when.
-fn settings_of(words: &Words, story: &Story) -> WireSettings {
+fn wire_settings(settings: &Settings<'_>, config: &AgentConfig, story: &Story) -> WireSettings {
+    let end = story.moment.saturating_add(1);
     WireSettings {
         listen: SocketWanted {
-            word: AddressWord::OwnKey,
-            address: words.own[0],
+            word: AddressWord::Listen,
+            address: settings.listen.unwrap_or(config.own),
         },
         control: SocketWanted {
             word: AddressWord::Control,
-            address: words.own[1],
+            address: settings.control,
         },
-        network: words.network,
-        has_log: words.has_log,
-        has_capture: words.capture.is_some(),
-        end: Some(words.stop_after.unwrap_or(story.moment.saturating_add(1))),
+        network: settings.network,
+        has_log: settings.log,
+        has_capture: settings.capture.is_some(),
+        end: Some(settings.stop_after.unwrap_or(end)),
     }
 }
 
 /// What a call agent stands on, over what a story has of sockets and a clock.
 pub(crate) fn wire_of<'c>(
     alloc: Global,
-    words: &Words,
+    settings: WireSettings,
     story: &mut Story,
     clocks: &'c Rc<Clocks>,
 ) -> Result<Box<Wire<Machine<'c>>>, OutOfMemory> {
-    let settings = settings_of(words, story);
-    let around = story.take_machine(words.own, clocks)?;
-    let mut wire = wire_over(alloc, around, words.own[0], settings)?;
-    if let Some(file) = &words.capture {
-        wire.journal.name_capture(file.as_str())?;
-    }
-    Ok(wire)
+    let here = settings.listen.address;
+    let around = story.take_machine([here, settings.control.address], clocks)?;
+    wire_over(alloc, around, here, settings)
 }
 
 // Memory is refused for the record of this name.
@@ -130,25 +142,29 @@ fn run(
 // Plays a story with a call agent of this configuration.
 fn play_with(
     alloc: Global,
-    words: &Words,
+    settings: &Settings<'_>,
     config: &AgentConfig,
     story: &mut Story,
     given: &mut Transcript,
 ) -> Result<bool, OutOfMemory> {
     let clocks = story.clocks.clone()?;
-    let mut wire = wire_of(alloc, words, story, &clocks)?;
-    run(alloc, config, words.is_routed, &mut wire, story, given)
+    let asked = wire_settings(settings, config, story);
+    let mut wire = wire_of(alloc, asked, story, &clocks)?;
+    if let Some(file) = settings.capture {
+        wire.journal.name_capture(file)?;
+    }
+    run(alloc, config, settings.route, &mut wire, story, given)
 }
 
 // Plays a story where the program is called with these words.
 fn play_asked(
     alloc: Global,
-    words: &Words,
+    settings: &Settings<'_>,
     story: &mut Story,
     given: &mut Transcript,
 ) -> Result<bool, OutOfMemory> {
     match config_in(alloc, story.settings.as_str())? {
-        Some(config) => play_with(alloc, words, &config, story, given),
+        Some(config) => play_with(alloc, settings, &config, story, given),
         None => Ok(false),
     }
 }
@@ -170,11 +186,12 @@ impl Program for CallAgent {
         given: &mut Transcript,
     ) -> Result<bool, OutOfMemory> {
         let alloc = rt.alloc();
-        if let Some(settings) = asked_in(story.words.as_slice()) {
-            return play_load(alloc, settings, story, given);
+        if let Some(line) = load_line(alloc, story.words.as_slice())? {
+            return play_load(alloc, line.as_slice(), story, given);
         }
-        match words_in(alloc, story.words.as_slice(), CallAgent::place().own)? {
-            Some(words) => play_asked(alloc, &words, story, given),
+        let line = line_of(alloc, "rgca", "agent.toml", story.words.as_slice())?;
+        match settings_by(alloc, line.as_slice())? {
+            Some(settings) => play_asked(alloc, &settings, story, given),
             None => Ok(false),
         }
     }

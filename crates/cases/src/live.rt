@@ -30,10 +30,11 @@ mod words;
 
 use crate::live::browsers::Browsers;
 use crate::live::telling::play_telling;
-use crate::live::words::{line_of, settings_by};
+use crate::live::words::settings_by;
 use crate::played::settings_with;
 use crate::stories::{
-    Clocks, EndClock, LateRecord, Machine, Place, Program, Records, Story, Transcript, told,
+    Clocks, EndClock, LateRecord, Machine, Place, Program, Records, Story, Transcript, line_of,
+    told,
 };
 use gateway_core::{ConfigFault, Gateway};
 use live_gateway::{Admission, Desk, DeskSettings, boxed, end_desk, open_desk, speakers_of};
@@ -264,7 +265,7 @@ impl Program for Live {
             return Ok(is_sent);
         }
         let alloc = rt.alloc();
-        let line = line_of(alloc, story.words.as_slice())?;
+        let line = line_of(alloc, "rgwd", "gateway.toml", story.words.as_slice())?;
         match settings_by(alloc, line.as_slice())? {
             Some(settings) => play_asked(alloc, &settings, story, given),
             None => Ok(false),

@@ -7,38 +7,44 @@
 //! - `answer 127.0.0.1:2428 watch 60` this goes there.
 //! - `log ..` a line of standard error, `print ..` one of the report, and `print status 0` the exit status.
 use crate::desk::{CallAgent, config_in, wire_of};
-use crate::stories::{Machine, Program, Records, Story, Transcript, words_in};
+use crate::stories::{Machine, Program, Records, Story, Transcript, line_of};
 use agent_texts::AgentConfig;
-use live_agent::{LoadEnding, Wire, load_over};
-use live_ends::{CommonEnding, Written};
+use live_agent::{LoadEnding, Wire, WireSettings, load_over};
+use live_ends::{AddressWord, CommonEnding, SocketWanted, Written};
 use load_bench::{LoadFault, LoadSettings};
 use mg_bytes::OutOfMemory;
-use scenario_files::parted;
+use rgca_words::read_load_words;
 use std::alloc::{AllocError, Global};
 
-// Whether a word is this one. Asked by a call: two texts that are compared in place are some twenty steps of each function that does.
-fn is_word(word: &str, name: &str) -> bool {
-    word == name
+/// The words of a load, of which the first is `load`, as the program's own reader is given them; nothing where words ask for none.
+pub fn load_line(alloc: Global, words: &[String]) -> Result<Option<Vec<String>>, OutOfMemory> {
+    let [first, rest @ ..] = words else {
+        return Ok(None);
+    };
+    if first.as_str() != "load" {
+        return Ok(None);
+    }
+    let line = line_of(alloc, "load", "agent.toml", rest)?;
+    Ok(Some(line))
 }
 
-/// What words ask of a load, if they ask for one.
-pub fn asked_in(words: &[String]) -> Option<LoadSettings> {
-    let [first, rest @ ..] = words else {
-        return None;
-    };
-    if !is_word(first.as_str(), "load") {
-        return None;
+// What is asked of the wire of a load: nothing of it is recorded but what the load says itself, and it ends with the load.
+fn wire_settings() -> WireSettings {
+    let own = CallAgent::place().own;
+    WireSettings {
+        listen: SocketWanted {
+            word: AddressWord::OwnKey,
+            address: own[0],
+        },
+        control: SocketWanted {
+            word: AddressWord::Phones,
+            address: own[1],
+        },
+        network: None,
+        has_log: false,
+        has_capture: false,
+        end: None,
     }
-    let mut settings = LoadSettings::USUAL;
-    for word in rest {
-        let (name, value) = parted(word.as_str(), " ");
-        if is_word(name, "--route") {
-            settings.is_routed = true;
-        } else if settings.take(name, value).is_err() {
-            return None;
-        }
-    }
-    Some(settings)
 }
 
 // How it ends: why no load is made, and the exit status.
@@ -64,6 +70,7 @@ fn is_refused(ending: LoadEnding) -> bool {
 // Makes a load over a wire of a story, and puts what is given.
 fn run(
     alloc: Global,
+    file: &str,
     settings: LoadSettings,
     config: &AgentConfig,
     wire: &mut Wire<Machine<'_>>,
@@ -71,7 +78,7 @@ fn run(
     given: &mut Transcript,
 ) -> Result<bool, OutOfMemory> {
     let mut records = Records::new(alloc, story.clocks.clone()?, Written::ALL);
-    let ending = load_over(alloc, config, "agent.toml", settings, wire, &mut records);
+    let ending = load_over(alloc, config, file, settings, wire, &mut records);
     // Played again by who refused memory.
     if is_refused(ending) {
         return Err(AllocError);
@@ -82,31 +89,32 @@ fn run(
     Ok(true)
 }
 
-// Plays a load by a configuration.
+// Plays a load by a configuration in a file of this name.
 fn play_by(
     alloc: Global,
+    file: &str,
     settings: LoadSettings,
     config: &AgentConfig,
     story: &mut Story,
     given: &mut Transcript,
 ) -> Result<bool, OutOfMemory> {
-    let Some(words) = words_in(alloc, &[], CallAgent::place().own)? else {
-        return Ok(false);
-    };
     let clocks = story.clocks.clone()?;
-    let mut wire = wire_of(alloc, &words, story, &clocks)?;
-    run(alloc, settings, config, &mut wire, story, given)
+    let mut wire = wire_of(alloc, wire_settings(), story, &clocks)?;
+    run(alloc, file, settings, config, &mut wire, story, given)
 }
 
-/// Puts what a load gives to what comes in a story: whether it runs.
+/// Puts what the load that these words ask for gives to what comes in a story: whether it runs.
 pub fn play_load(
     alloc: Global,
-    settings: LoadSettings,
+    line: &[String],
     story: &mut Story,
     given: &mut Transcript,
 ) -> Result<bool, OutOfMemory> {
+    let Ok((file, settings)) = read_load_words(line) else {
+        return Ok(false);
+    };
     match config_in(alloc, story.settings.as_str())? {
-        Some(config) => play_by(alloc, settings, &config, story, given),
+        Some(config) => play_by(alloc, file, settings, &config, story, given),
         None => Ok(false),
     }
 }

@@ -19,7 +19,7 @@ pub use crate::stories::records::Records;
 use crate::stories::story::read_story;
 pub use crate::stories::story::{Place, Story, Visit};
 pub use crate::stories::transcript::Transcript;
-pub use crate::stories::words::{Words, words_in};
+pub use crate::stories::words::{line_of, unread_outlet};
 use crate::unlike::tell_unlike;
 use mg_bytes::OutOfMemory;
 use scenario_files::Report;
