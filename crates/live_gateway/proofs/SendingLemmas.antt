@@ -1,9 +1,10 @@
 -- What becomes of datagrams that go over a network, or aren't to, from what its calls say.
-use Rattle.std.proofs.Common.{◌≡◌, ℕ, Bool, true, false, List, Option, None, Some, sym, ap, subst}
-use Rattle.std.specs.Prelude.{⊤, is_some, Result, Ok, Err}
+use Rattle.std.proofs.Common.{◌≡◌, ℕ, Bool, true, false, List, Option, None, Some, refl, sym, subst}
+use Rattle.std.specs.Prelude.{⊤, Result, Ok, Err}
 use Rattle.std.specs.Global.{Box}
 use Rattle.std.specs.declared.net.socket_addr.SocketAddrV4.{SocketAddrV4}
 use Rattle.bad_network.specs.declared.fate.Fate.{Fate}
+use Rattle.bad_network.specs.declared.fate.Fate.TheVariants.{Lost, Once, Twice}
 use Rattle.bad_network.specs.declared.network.BadNetwork.{BadNetwork}
 use Rattle.bad_network.specs.declared.packet.Packet.{Packet}
 use Rattle.bad_network.specs.declared.packet.Way.{Way}
@@ -42,6 +43,11 @@ sent_directly sends was is to bytes became sent none still sends' so =
     subst (λ (o : Option (Box SpoiltWay)). SendsOver sends to bytes was.now.clock became o was.around is.network is.around) (sym none)
     (subst (λ (o : Option (Box SpoiltWay)). SendsOver sends to bytes was.now.clock became None was.around o is.around) (sym still) (sent, sends', so))
 
+-- what goes out late went as the surroundings say, behind which nothing is asked of them
+pub late_so : {S : Type 0} (sends : S → SocketAddrV4 → List ℕ → Result ⊤ Fault → S → Type 0) (before mid after : S) (to : SocketAddrV4) (bytes : List ℕ)
+    (sent : Result ⊤ Fault) → after ≡ mid → sends before to bytes sent mid → sends before to bytes sent after
+late_so {S} sends before mid after to bytes sent same went = subst (λ (s : S). sends before to bytes sent s) (sym same) went
+
 -- nothing becomes of what isn't handed to a socket
 
 nobody_over : {S : Type 0} (to : SocketAddrV4) (bytes : List ℕ) (now : ℕ) (became : Result Fate Fault) (next : Option (Box SpoiltWay)) (before after : S)
@@ -70,6 +76,12 @@ pub lost_nowhere : (source : SocketAddrV4) (bytes : List ℕ) (now : ℕ) (lost 
 lost_nowhere source bytes now lost old new none still so =
     subst (λ (o : Option (Box SpoiltWay)). LosesOver source bytes now lost o new) (sym none)
     (subst (λ (o : Option (Box SpoiltWay)). LosesOver source bytes now lost None o) (sym still) so)
+
+-- what a network draws but that it is lost
+pub not_lost : {E : Type 0} (fate : Fate) → (fate ≡ Lost → ⊥) → false ≡ is_lost {E = E} (Ok fate)
+not_lost Lost other = absurd (other refl)
+not_lost (Once late) other = refl
+not_lost (Twice first second) other = refl
 
 -- ---- what is due
 

@@ -19,13 +19,13 @@ use Rattle.live_gateway.specs.Noting.{with_looked}
 use Rattle.live_gateway.specs.Turning.{TriesFound, LooksForOne}
 
 -- a datagram of 5 bytes from 10.0.0.9:2727
-abbrev pub found : SocketAddrV4 × ℕ
-found = (record { ip = record { octets = 10 ∷ 0 ∷ 0 ∷ 9 ∷ [] }; port = 2727 }, 5)
+abbrev pub one : SocketAddrV4 × ℕ
+one = (record { ip = record { octets = 10 ∷ 0 ∷ 0 ∷ 9 ∷ [] }; port = 2727 }, 5)
 
 -- where who sent it isn't heard, a stranger is counted
 abbrev pub CountsStranger : Admission → Type 0
 CountsStranger admission =
-    (tally : MessageTally) → is_heard admission found.0 ≡ false → with_looked admission (Some found) tally ≡ with_stranger tally
+    (tally : MessageTally) → is_heard admission one.0 ≡ false → with_looked admission (Some one) tally ≡ with_stranger tally
 
 -- a desk looked for a datagram, where nobody looks for one
 abbrev pub LooksNowhere : Desk ℕ ℕ → Desk ℕ ℕ → Type 0
@@ -40,15 +40,15 @@ abbrev pub EndsSaying : List ℕ → Desk ℕ Trace → CommonEnding → Type 0
 EndsSaying last desk ending = EndsWith (λ words before written after. words ≡ last) desk 0 0 ending
 
 -- a network loses it, or it comes; the surroundings failed
-abbrev pub lost : Result Fate ℕ
-lost = Ok Lost
+abbrev pub lost_one : Result Fate ℕ
+lost_one = Ok Lost
 
-abbrev pub comes : Result Fate ℕ
-comes = Ok (Once 0)
+abbrev pub once : Result Fate ℕ
+once = Ok (Once 0)
 
 abbrev pub failed : {A : Type 0} → Result A ℕ
 failed = Err 0
 
 -- something became of a datagram, where nobody sends one
 abbrev pub SendsNowhere : Exchange ℕ → Exchange ℕ → Type 0
-SendsNowhere was is = (became : Result Fate Fault) × Becomes (λ before to bytes sent after. ⊥) was found.0 [] became is
+SendsNowhere was is = (became : Result Fate Fault) × Becomes (λ before to bytes sent after. ⊥) was one.0 [] became is

@@ -1,7 +1,7 @@
 //! Worked examples of what a turn does, as theorems.
 #![tactic(auto)]
 
-ghost use Rattle.std.specs.Prelude.{◌≡◌, ◌⊎◌, codes, true, false, ℕ, List, [], Some, None, is_some, Result, Ok, Err};
+ghost use Rattle.std.specs.Prelude.{◌≡◌, ◌⊎◌, ◌∷◌, codes, true, false, ℕ, List, [], Some, None, is_some, Result, Ok, Err};
 ghost use Rattle.gateway_rules.specs.declared.refusal.Refusal.{Refusal as Why};
 ghost use Rattle.live_ends.specs.declared.ending.CommonEnding.{CommonEnding};
 ghost use Rattle.live_ends.specs.declared.ending.CommonEnding.TheVariants.{OutOfMemory};
@@ -12,7 +12,7 @@ ghost use Rattle.live_gateway.specs.declared.exchange.Exchange.{Exchange};
 ghost use Rattle.live_gateway.specs.Admitting.{is_heard};
 ghost use Rattle.live_gateway.specs.Answering.{IsActAnswer};
 ghost use Rattle.live_gateway.specs.Ending.{is_record_refused, IsCounted};
-ghost use Rattle.live_gateway.specs.Example.{found, lost, comes, failed, LooksNowhere, FindsNothing, SendsNowhere, EndsSaying, CountsStranger};
+ghost use Rattle.live_gateway.specs.Example.{one, lost_one, once, failed, LooksNowhere, FindsNothing, SendsNowhere, EndsSaying, CountsStranger};
 ghost use Rattle.live_gateway.specs.Exchanging.{heard_in, mark_of, is_lost, faults_by, faultless, with_unreceived, LosesOver};
 ghost use Rattle.traces.specs.declared.telling.Mark.TheVariants.{Unsent, Lost};
 ghost use Rattle.live_gateway.specs.Turning.{ready_at};
@@ -56,12 +56,12 @@ pub fn a_desk_ends_as_its_records_and_counts_say()
 pub fn what_an_exchange_gives_has_examples()
     ensures unlooked { (was is : Desk ℕ ℕ) → is_some was.exchange.network ≡ false → LooksNowhere was is → ⊥ }
     ensures nothing { (looked : Exchange ℕ) (was is : Desk ℕ ℕ) → FindsNothing looked was is → is.exchange ≡ looked }
-    ensures heard { (admission : Admission) → is_heard admission found.0 ≡ true → heard_in admission (Some found) ≡ Some found }
-    ensures strange { (admission : Admission) → is_heard admission found.0 ≡ false → heard_in admission (Some found) ≡ None }
+    ensures heard { (admission : Admission) → is_heard admission one.0 ≡ true → heard_in admission (Some one) ≡ Some one }
+    ensures strange { (admission : Admission) → is_heard admission one.0 ≡ false → heard_in admission (Some one) ≡ None }
     ensures counts { (admission : Admission) → CountsStranger admission }
     ensures unsent { (was is : Exchange ℕ) → was.network ≡ None → SendsNowhere was is → ⊥ }
-    ensures unlost { LosesOver found.0 [] 5 true None None → ⊥ }
-    ensures marks { (mark_of lost, (mark_of comes, mark_of failed)) ≡ (Some Lost, (None, Some Unsent)) }
-    ensures losses { (is_lost lost, (is_lost comes, is_lost failed)) ≡ (true, (false, true)) }
-    ensures clock { (faults_by {E = ℕ} (Ok 5) faultless, faults_by failed faultless) ≡ (faultless, with_unreceived faultless) }
+    ensures unlost { LosesOver one.0 [] 5 true None None → ⊥ }
+    ensures marks { mark_of lost_one ∷ mark_of once ∷ mark_of failed ∷ [] ≡ Some Lost ∷ None ∷ Some Unsent ∷ [] }
+    ensures losses { is_lost lost_one ∷ is_lost once ∷ is_lost failed ∷ [] ≡ true ∷ false ∷ true ∷ [] }
+    ensures clock { faults_by {E = ℕ} (Ok 5) faultless ∷ faults_by failed faultless ∷ [] ≡ faultless ∷ with_unreceived faultless ∷ [] }
 {}

@@ -1,7 +1,7 @@
 use Rattle.std.proofs.Common.{ℕ, Bool, cond, [], refl, sym, ap}
 use Rattle.message_counts.specs.Tallying.{with_received, with_stranger}
 use Rattle.live_gateway.specs.declared.desk.Desk.{Desk}
-use Rattle.live_gateway.specs.Example.{found}
+use Rattle.live_gateway.specs.Example.{one}
 use Rattle.live_gateway.proofs.CountingLemmas.{nobody_looked, heard_given, strange_kept}
 use Rattle.live_gateway.proofs.SendingLemmas.{nobody_sends}
 use Rattle.live_gateway.proofs.turning_examples.what_an_exchange_gives_has_examples.Goals as goal
@@ -13,16 +13,16 @@ pub returns-clause-nothing : goal.returns-clause-nothing
 returns-clause-nothing c = λ looked was is tries. ap (λ (desk : Desk ℕ ℕ). desk.exchange) tries.0
 
 pub returns-clause-heard : goal.returns-clause-heard
-returns-clause-heard c = λ admission may. sym (heard_given admission found may)
+returns-clause-heard c = λ admission may. sym (heard_given admission one may)
 
 pub returns-clause-strange : goal.returns-clause-strange
-returns-clause-strange c = λ admission other. sym (strange_kept admission found other)
+returns-clause-strange c = λ admission other. sym (strange_kept admission one other)
 
 pub returns-clause-counts : goal.returns-clause-counts
 returns-clause-counts c = λ admission tally other. ap (λ (b : Bool). cond b (with_received tally) (with_stranger tally)) other
 
 pub returns-clause-unsent : goal.returns-clause-unsent
-returns-clause-unsent c = λ was is none sends. nobody_sends was is found.0 [] sends.0 none sends.1
+returns-clause-unsent c = λ was is none sends. nobody_sends was is one.0 [] sends.0 none sends.1
 
 pub returns-clause-unlost : goal.returns-clause-unlost
 returns-clause-unlost c = λ same. cc

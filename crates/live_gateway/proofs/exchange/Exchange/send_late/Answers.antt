@@ -1,4 +1,5 @@
 use Rattle.std.proofs.Common.{◌∙◌, ap}
+use Rattle.live_gateway.proofs.SendingLemmas.{late_so}
 use Rattle.live_gateway.proofs.exchange.Exchange.send_late.Goals as goal
 
 pub returns-clause-network : goal.returns-clause-network
@@ -18,5 +19,8 @@ pub returns-clause-turn : goal.returns-clause-turn
 returns-clause-turn g c = (ap (λ e. e.now) c.note_late.ensures.rest, ap (λ e. e.is_offering) c.note_late.ensures.rest)
 
 pub returns-clause-noted : goal.returns-clause-noted
-returns-clause-noted g c =
-    (c.send-sent.result, rw (ap (λ e. e.around) c.note_late.ensures.rest) c.send-sent.ensures.handed, c.note_late.ensures.noted)
+returns-clause-noted g c = (
+  c.send-sent.result,
+  late_so g.S.Surroundings.sends _ _ _ _ _ _ (ap (λ e. e.around) c.note_late.ensures.rest) c.send-sent.ensures.handed,
+  c.note_late.ensures.noted,
+)
