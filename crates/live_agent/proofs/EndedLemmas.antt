@@ -28,13 +28,13 @@ module _ (response : Option (ℕ × ℕ)) (moment : ℕ) where
   passed_one : (place : ℕ) (flights : List Flight) (flight : Flight) → slice_get flights place ≡ Some flight
       → is_ended response moment flight ≡ false
       → passed (take (suc place) (slice_set flights place (asked response moment flight)))
-        (ended_of response moment (drop (suc place) (slice_set flights place (asked response moment flight))))
+      (ended_of response moment (drop (suc place) (slice_set flights place (asked response moment flight))))
       ≡ passed (take place flights) (ended_of response moment (drop place flights))
   unfolding ended_of
   passed_one place [] flight there on = absurd (none-some flight there)
   passed_one zero (first ∷ more) flight there on =
       subst (λ (f : Flight). passed (asked response moment f ∷ []) (ended_of response moment more)
-        ≡ passed [] (ended_next (is_ended response moment first) (asked response moment first) more (ended_of response moment more)))
+      ≡ passed [] (ended_next (is_ended response moment first) (asked response moment first) more (ended_of response moment more)))
       (same_Some first flight there)
       (goes_on (is_ended response moment first) (asked response moment first) more (ended_of response moment more)
       (subst (λ (f : Flight). is_ended response moment f ≡ false) (sym (same_Some first flight there)) on))
@@ -56,13 +56,13 @@ module _ (response : Option (ℕ × ℕ)) (moment : ℕ) where
   taken_one : (place : ℕ) (flights : List Flight) (flight : Flight) → slice_get flights place ≡ Some flight
       → is_ended response moment flight ≡ true
       → found_with (slice_get (slice_set flights place (asked response moment flight)) place)
-        (remove (slice_set flights place (asked response moment flight)) place)
+      (remove (slice_set flights place (asked response moment flight)) place)
       ≡ passed (take place flights) (ended_of response moment (drop place flights))
   unfolding ended_of
   taken_one place [] flight there over = absurd (none-some flight there)
   taken_one zero (first ∷ more) flight there over =
       subst (λ (f : Flight). found_with (Some (asked response moment f)) more
-        ≡ passed [] (ended_next (is_ended response moment first) (asked response moment first) more (ended_of response moment more)))
+      ≡ passed [] (ended_next (is_ended response moment first) (asked response moment first) more (ended_of response moment more)))
       (same_Some first flight there)
       (ends (is_ended response moment first) (asked response moment first) more (ended_of response moment more)
       (subst (λ (f : Flight). is_ended response moment f ≡ true) (sym (same_Some first flight there)) over))
@@ -100,7 +100,7 @@ module _ (response : Option (ℕ × ℕ)) (moment : ℕ) where
   taken_at place flights mid over (Some flight) ended left there so is mid_so ended_so left_so =
       ap (λ (one : Option Flight). found_with one left) (ended_so ∙ ap (λ (xs : List Flight). slice_get xs place) mid_so)
       ∙ ap (λ (xs : List Flight). found_with (slice_get (slice_set flights place (asked response moment flight)) place) xs)
-        (left_so ∙ ap (λ (xs : List Flight). remove xs place) mid_so)
+      (left_so ∙ ap (λ (xs : List Flight). remove xs place) mid_so)
       ∙ taken_one place flights flight there (sym so ∙ is)
 
   -- as many are there as before

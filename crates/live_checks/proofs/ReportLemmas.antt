@@ -51,5 +51,5 @@ pub made_of : (check : Check) (verdict : Option Verdict) (due : List ℕ) (value
     → value ≡ check_data check verdict due said came → said ≡ lines → came ≡ messages → value ≡ check_data check verdict due lines messages
 made_of check verdict due value said came lines messages is said_is came_is =
     is
-    ∙ ap (λ (data : Data). check_data check verdict due data came) said_is
-    ∙ ap (λ (data : Data). check_data check verdict due lines data) came_is
+    ∙ ap (λ (told : Data). check_data check verdict due told came) said_is
+    ∙ ap (λ (told : Data). check_data check verdict due lines told) came_is

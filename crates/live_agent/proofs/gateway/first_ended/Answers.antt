@@ -5,7 +5,7 @@ use Rattle.live_agent.proofs.EndedLemmas.{all_passed, asked_count, passed_at, ta
 use Rattle.live_agent.proofs.gateway.first_ended.Goals as goal
 
 pub loop-place-init : goal.loop-place-init
-loop-place-init c = record { count = refl; left = refl; }
+loop-place-init c = record { count = refl; left = refl }
 
 pub loop-place-preserved : goal.loop-place-preserved
 loop-place-preserved c = record {
@@ -20,9 +20,9 @@ loop-place-preserved c = record {
 pub returns-then-is_ended_at : goal.returns-then-is_ended_at
 returns-then-is_ended_at c =
     let all = taken_at c.args.response.now c.args.moment c.loop-place.place c.loop-place.flights.items _ _
-        (slice_get c.loop-place.flights.items c.loop-place.place) _ _ refl
-        c.is_ended_at.ensures.over c.if-is_ended_at.true c.is_ended_at.ensures.flights c.taken_at.ensures.taken c.taken_at.ensures.left
-        ∙ c.loop-place.invariant.left in
+    (slice_get c.loop-place.flights.items c.loop-place.place) _ _ refl
+    c.is_ended_at.ensures.over c.if-is_ended_at.true c.is_ended_at.ensures.flights c.taken_at.ensures.taken c.taken_at.ensures.left
+    ∙ c.loop-place.invariant.left in
     record {
       ended = ap (λ (found : Option Flight × List Flight). found.0) all;
       left = ap (λ (found : Option Flight × List Flight). found.1) all;

@@ -12,5 +12,5 @@ loop-line-preserved c =
 pub returns : goal.returns
 returns c =
     let all = YieldsList-end (YieldsList-from_lines c.args.text.now c.lines.ensures.rest) c.loop-line.yielded _ c.loop-line.yielded_by _ _
-        c.in-None.is c.next.ensures.steps in
+    c.in-None.is c.next.ensures.steps in
     c.loop-line.invariant ∙ ap (map string) all.0
