@@ -400,12 +400,13 @@ fn first_due<S: Surroundings + Drop>(
 fn waited_for<S: Surroundings + Drop>(
     board: &Switchboard,
     wire: &Wire<S>,
-    is_any: bool,
+    ready: Ready,
     moment: u64,
 ) -> Option<u64>
-    ensures { IsWaitedFor is_any board.now.gateways.items wire.entry.now.load (due_of wire.entry.now.network) result }
+    ensures { IsWaitedFor (ready.commands || ready.datagrams) board.now.gateways.items wire.entry.now.load
+        (due_of wire.entry.now.network) result }
 {
-    if is_any {
+    if is_there(ready) {
         return None;
     }
     first_due(board, wire, moment)
@@ -424,7 +425,7 @@ fn situation<S: Surroundings + Drop>(
         Err(fault) => return Err(fault),
     };
     let ready = wire.ready();
-    let due = waited_for(board, wire, is_there(ready), moment);
+    let due = waited_for(board, wire, ready, moment);
     Ok(Situation {
         moment,
         ticked: wire.now.clock,

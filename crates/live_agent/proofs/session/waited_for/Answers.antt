@@ -1,8 +1,14 @@
-use Rattle.std.proofs.Common.{refl}
+use Rattle.std.proofs.Common.{Bool, None, refl, sym, subst, ◌∙◌}
+use Rattle.live_agent.specs.Wiring.{due_of, IsWaitedFor}
 use Rattle.live_agent.proofs.session.waited_for.Goals as goal
 
-pub returns-then-is_any : goal.returns-then-is_any
-returns-then-is_any g c = rw (c.if-is_any.true) refl
+pub returns-then-is_there : goal.returns-then-is_there
+returns-then-is_there g c =
+    subst (λ (is_any : Bool). IsWaitedFor is_any c.args.board.now.gateways.items c.args.wire.now.load (due_of c.args.wire.now.network) None)
+    (sym (sym c.is_there.ensures ∙ c.if-is_there.true)) refl
 
 pub returns : goal.returns
-returns g c = rw (c.if-is_any.false) c.first_due.ensures
+returns g c =
+    subst (λ (is_any : Bool). IsWaitedFor is_any c.args.board.now.gateways.items c.args.wire.now.load (due_of c.args.wire.now.network)
+    c.first_due.result)
+    (sym (sym c.is_there.ensures ∙ c.if-is_there.false)) c.first_due.ensures
