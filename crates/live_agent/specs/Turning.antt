@@ -79,11 +79,12 @@ pub record AnswersFirst {S : Type 0} (answers : S → SocketAddr → List ℕ �
   pub asks : AsksFirst was.lines request
   pub does : DoesRequest answers request board now was is
 
--- a datagram of lines is taken, where none is left
+-- a datagram of lines is taken, where none is left; nothing else of the wire has changed
 abbrev pub HearsTyped :
     {S : Type 0} → (S → List SocketAddrV4) → (S → Option (SocketAddr × ℕ) → List ℕ → S → Type 0) → Wire S → Wire S → Type 0
 HearsTyped sockets hears was is =
     (taken : Bool) × Hears sockets hears was.around was.lines taken is.around is.lines × (is.read ≡ with_read taken was.read)
+    × (is ≡ record was { around = is.around; lines = is.lines; read = is.read })
 
 -- where a load is made, its telephones are heard, and the board stays as it was; else the line that is answered next is answered
 abbrev pub TakesTyped :
@@ -93,18 +94,22 @@ TakesTyped sockets hears answers (Some load) board now was is = now ≡ board
 TakesTyped {S} sockets hears answers None board now was is =
     (heard : Wire S) × HearsTyped sockets hears was heard × AnswersFirst answers board now heard is
 
--- What a turn of a kind does: a tick, a command that was typed and a datagram alone change the board.
+-- a wait changes what is around a wire, and what failed is counted
+abbrev pub Waits : {S : Type 0} → Wire S → Wire S → Type 0
+Waits was is = is ≡ record was { around = is.around; journal = is.journal }
+
+-- What a turn of a kind does: a tick, a command that was typed and a datagram alone change the board. A pause is noted in the journal.
 abbrev pub DoesTurn :
     {S : Type 0} → (S → List SocketAddrV4) → (S → Option (SocketAddr × ℕ) → List ℕ → S → Type 0)
     → (S → SocketAddr → List ℕ → S → Type 0) → Turn → Switchboard → Switchboard → Wire S → Wire S → Type 0
 DoesTurn sockets hears answers turns.End board now was is = (now ≡ board) × (is ≡ was)
-DoesTurn sockets hears answers turns.Look board now was is = now ≡ board
-DoesTurn sockets hears answers (turns.Wait until) board now was is = now ≡ board
+DoesTurn sockets hears answers turns.Look board now was is = (now ≡ board) × Waits was is
+DoesTurn sockets hears answers (turns.Wait until) board now was is = (now ≡ board) × Waits was is
 DoesTurn sockets hears answers (turns.Tick moment) board now was is = ⊤
 DoesTurn sockets hears answers turns.Command board now was is = TakesTyped sockets hears answers was.load board now was is
 DoesTurn sockets hears answers turns.Datagram board now was is = ⊤
 DoesTurn sockets hears answers turns.Visit board now was is = (now ≡ board) × (is ≡ was)
-DoesTurn sockets hears answers (turns.Note pause) board now was is = now ≡ board
+DoesTurn sockets hears answers (turns.Note pause) board now was is = (now ≡ board) × (is ≡ record was { journal = is.journal })
 
 -- Lines to which something has happened are settled: of a board that changes the gateways and the exchange alone.
 abbrev pub SettlesLines : Switchboard → Switchboard → Type 0

@@ -66,9 +66,11 @@ pub fn what_is_typed_has_examples()
 /// What turns leave of the board.
 pub fn what_turns_leave_has_examples()
     ensures looks { (sockets hears answers : _) (board now : Switchboard) (was is : Wire ℕ) →
-        DoesTurn sockets hears answers Turn.Look board now was is → now ≡ board }
+        DoesTurn sockets hears answers Turn.Look board now was is → (now ≡ board) × (is.lines ≡ was.lines) }
     ensures waits { (sockets hears answers : _) (board now : Switchboard) (was is : Wire ℕ) →
-        DoesTurn sockets hears answers (Turn.Wait 700) board now was is → now ≡ board }
+        DoesTurn sockets hears answers (Turn.Wait 700) board now was is → (now ≡ board) × (is.end ≡ was.end) }
+    ensures notes { (sockets hears answers pause : _) (board now : Switchboard) (was is : Wire ℕ) →
+        DoesTurn sockets hears answers (Turn.Note pause) board now was is → (now ≡ board) × (is.around ≡ was.around) }
     ensures visits { (sockets hears answers : _) (board now : Switchboard) (was is : Wire ℕ) →
         DoesTurn sockets hears answers Turn.Visit board now was is → (now ≡ board) × (is ≡ was) }
     ensures ends { (sockets hears answers : _) (board now : Switchboard) (was is : Wire ℕ) →

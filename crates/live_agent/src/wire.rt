@@ -217,8 +217,9 @@ impl<S: Surroundings + Drop> Wire<S> {
 
     /// Takes a datagram of lines, where one has come and none is left of the one before.
     pub(crate) fn hear_lines(&mut self)
-        ensures { (taken : Bool) × Hears S.sockets S.hears self.old.around self.old.lines taken self.new.around self.new.lines
+        ensures heard { (taken : Bool) × Hears S.sockets S.hears self.old.around self.old.lines taken self.new.around self.new.lines
             × (self.new.read ≡ with_read taken self.old.read) }
+        ensures rest { self.new ≡ record self.old { around = self.new.around; lines = self.new.lines; read = self.new.read } }
     {
         if self.lines.hear(&mut self.around) {
             self.read = self.read.saturating_add(1);
@@ -322,7 +323,9 @@ impl<S: Surroundings + Drop> Wire<S> {
     }
 
     /// The program was stopped, and goes on: that is noted in the log.
-    pub(crate) fn note_pause(&mut self, pause: Pause) {
+    pub(crate) fn note_pause(&mut self, pause: Pause)
+        ensures { self.new ≡ record self.old { journal = self.new.journal } }
+    {
         let log = &mut self.journal.log;
         let Pause { lateness, read } = pause;
         if log.is_on()
@@ -340,7 +343,9 @@ impl<S: Surroundings + Drop> Wire<S> {
     }
 
     /// Waits until something comes, but no longer than this, in ms, nor than until what waits to be taken is offered again.
-    pub(crate) fn wait(&mut self, longest: u64) {
+    pub(crate) fn wait(&mut self, longest: u64)
+        ensures { self.new ≡ record self.old { around = self.new.around; journal = self.new.journal } }
+    {
         let longest = if self.is_offering {
             longest.min(NEXT_OFFER)
         } else {

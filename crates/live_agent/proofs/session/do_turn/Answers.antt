@@ -1,3 +1,4 @@
+use Rattle.std.proofs.Common.{refl}
 use Rattle.live_agent.proofs.session.do_turn.Goals as goal
 
 pub returns-in-Command : goal.returns-in-Command
@@ -8,3 +9,12 @@ returns-in-Tick g c = rw (c.in-Tick.is) tt
 
 pub returns-in-Datagram : goal.returns-in-Datagram
 returns-in-Datagram g c = rw (c.in-Datagram.is) tt
+
+pub returns-in-Look : goal.returns-in-Look
+returns-in-Look g c = rw (c.in-Look.is) (refl, c.wait.ensures)
+
+pub returns-in-Wait : goal.returns-in-Wait
+returns-in-Wait g c = rw (c.in-Wait.is) (refl, c.wait-in-Wait.ensures)
+
+pub returns-in-Note : goal.returns-in-Note
+returns-in-Note g c = rw (c.in-Note.is) (refl, c.note_pause.ensures)

@@ -11,4 +11,5 @@ pub returns : goal.returns
 returns g c =
     line_answered g.S.Surroundings.sockets g.S.Surroundings.hears g.S.Surroundings.answers _ _ _ _ _ _ _ _
     c.hear_telephones.ensures.made c.if-hear_telephones.false (c.hear_telephones.ensures.none c.if-hear_telephones.false)
-    c.hear_lines.ensures c.answer_request.ensures
+    (c.hear_lines.ensures.heard.0, c.hear_lines.ensures.heard.1, c.hear_lines.ensures.heard.2, c.hear_lines.ensures.rest)
+    c.answer_request.ensures
