@@ -1,14 +1,16 @@
 -- What becomes of the desk's own copy of a command, as of the one that its agent has; and what an agent stands for that took nothing.
-use Rattle.std.proofs.Common.{◌≡◌, ◌⊎◌, inl, inr, ℕ, ◌<◌, ◌≤◌, Bool, true, List, length, take, take_all, refl, sym, ap, ◌∙◌, arith, if◌then◌else◌}
+use Rattle.std.proofs.Common.{◌≡◌, ◌⊎◌, inl, inr, ℕ, ◌<◌, ◌≤◌, Bool, true, List, [], length, take, take_all, refl, sym, ap, ◌∙◌, arith, if◌then◌else◌}
 use Rattle.std.specs.Prelude.{◌==◌}
 use Rattle.std.proofs.lemmas.Bool.{eq-eqb}
 use Rattle.std.proofs.lemmas.List.{length-take}
+use Rattle.std.specs.declared.net.socket_addr.SocketAddrV4.{SocketAddrV4}
+use Rattle.endpoint_names.specs.declared.route.Route.{Route}
 use Rattle.call_agent.specs.AgentStands.{AgentState, AgentStays}
 use Rattle.outbound.specs.declared.repeat.Repeat.{Repeat}
 use Rattle.outbound.specs.declared.repeat.Repeat.TheVariants.{Sent, GivenUp}
 use Rattle.outbound.specs.declared.reply.Reply.{Reply}
 use Rattle.outbound.specs.declared.reply.Reply.TheVariants.{Answered, Provisional, Stranger}
-use Rattle.outbound.specs.Flight.{InFlight, repeat_of, again_as, repeated, reply_by, reply_of, heard_as, heard}
+use Rattle.outbound.specs.Flight.{InFlight, sent_first, repeat_of, again_as, repeated, reply_by, reply_of, heard_as, heard}
 
 pub as_it_was : (a : AgentState) → AgentStays a a
 as_it_was a = record { setup = refl; stands = λ before stands. stands }
@@ -85,3 +87,8 @@ hears_so id other text was is message is_own code moment message_is own_is is_so
     ∙ heard_dressed (if is_own then reply_by code else Stranger) id text was moment
     ∙ ap (λ (b : Bool). heard_as (if b then reply_by code else Stranger) (dressed id text was) moment) own_is
     ∙ ap (λ (m : InFlight). heard_as (reply_of m other code) m moment) message_is
+
+-- a copy in room for one that is first sent so is first sent so
+pub first_so : (room copy : InFlight) (id : ℕ) (to : Route SocketAddrV4) (text : List ℕ) (moment : ℕ) → room ≡ sent_first 1 to [] moment
+    → copy ≡ dressed id text room → copy ≡ sent_first id to text moment
+first_so room copy id to text moment room_is is = is ∙ ap (λ (m : InFlight). dressed id text m) room_is
