@@ -7,10 +7,12 @@ use Rattle.std.specs.declared.net.socket_addr.SocketAddrV4.{SocketAddrV4}
 use Rattle.mg_bytes.specs.Lines.{line_of}
 use Rattle.live_agent.specs.declared.gateway.Gateway.{Gateway}
 use Rattle.live_agent.specs.declared.loading.Load.{Load}
+use Rattle.live_agent.specs.declared.office.Office.{Office}
 use Rattle.live_agent.specs.declared.session.Request.{Request}
 use Rattle.live_agent.specs.declared.session.Request.TheVariants.{Nothing}
 use Rattle.live_agent.specs.declared.switchboard.Switchboard.{Switchboard}
 use Rattle.live_agent.specs.declared.wire.Wire.{Wire}
+use Rattle.live_agent.specs.GivingUp.{GivesUp}
 use Rattle.live_agent.specs.Turning.{line_request, first_request, AnswersFirst, HearsTyped, SettlesLines, TakesTyped}
 
 pub asks_nothing : (is_near : Bool) (left : List (List ℕ)) → left ≡ [] → Nothing ≡ first_request is_near left
@@ -27,10 +29,21 @@ by_office was is next =
     next
     ∙ ap (λ (gateways : Vec Gateway). record was { gateways = gateways; office = is.office }) (sym (ap (λ (one : Switchboard). one.gateways) next))
 
+-- so have the gateways
+pub by_gateways : (was is : Switchboard) → is ≡ record was { gateways = is.gateways } → SettlesLines was is
+by_gateways was is next =
+    next
+    ∙ ap (λ (office : Option (Box Office)). record was { gateways = is.gateways; office = office }) (sym (ap (λ (one : Switchboard). one.office) next))
+
 -- more lines are settled
 pub settled_more : (board was is : Switchboard) → SettlesLines board was → SettlesLines was is → SettlesLines board is
 settled_more board was is so_far next =
     next ∙ ap (λ (one : Switchboard). record one { gateways = is.gateways; office = is.office }) so_far
+
+-- a command is given up
+pub gives_up : (place : ℕ) (was is : Switchboard) → GivesUp place was is → SettlesLines was is
+gives_up place was is given =
+    settled_more was given.0 is (by_gateways was given.0 given.1.2) (by_office given.0 is given.3)
 
 module _ {S : Type 0} (sockets : S → List SocketAddrV4) (hears : S → Option (SocketAddr × ℕ) → List ℕ → S → Type 0) (answers : S → SocketAddr → List ℕ → S → Type 0) where
   pub telephones_heard : (load : Option (Box Load)) (made : Bool) (board now : Switchboard) (was is : Wire S) → made ≡ is_some load → made ≡ true

@@ -98,6 +98,10 @@ TakesTyped {S} sockets hears answers None board now was is =
 abbrev pub Waits : {S : Type 0} → Wire S → Wire S → Type 0
 Waits was is = is ≡ record was { around = is.around; journal = is.journal }
 
+-- Lines to which something has happened are settled: of a board that changes the gateways and the exchange alone. So does a tick.
+abbrev pub SettlesLines : Switchboard → Switchboard → Type 0
+SettlesLines was is = is ≡ record was { gateways = is.gateways; office = is.office }
+
 -- What a turn of a kind does: a tick, a command that was typed and a datagram alone change the board. A pause is noted in the journal.
 abbrev pub DoesTurn :
     {S : Type 0} → (S → List SocketAddrV4) → (S → Option (SocketAddr × ℕ) → List ℕ → S → Type 0)
@@ -105,15 +109,11 @@ abbrev pub DoesTurn :
 DoesTurn sockets hears answers turns.End board now was is = (now ≡ board) × (is ≡ was)
 DoesTurn sockets hears answers turns.Look board now was is = (now ≡ board) × Waits was is
 DoesTurn sockets hears answers (turns.Wait until) board now was is = (now ≡ board) × Waits was is
-DoesTurn sockets hears answers (turns.Tick moment) board now was is = ⊤
+DoesTurn sockets hears answers (turns.Tick moment) board now was is = SettlesLines board now
 DoesTurn sockets hears answers turns.Command board now was is = TakesTyped sockets hears answers was.load board now was is
 DoesTurn sockets hears answers turns.Datagram board now was is = ⊤
 DoesTurn sockets hears answers turns.Visit board now was is = (now ≡ board) × (is ≡ was)
 DoesTurn sockets hears answers (turns.Note pause) board now was is = (now ≡ board) × (is ≡ record was { journal = is.journal })
-
--- Lines to which something has happened are settled: of a board that changes the gateways and the exchange alone.
-abbrev pub SettlesLines : Switchboard → Switchboard → Type 0
-SettlesLines was is = is ≡ record was { gateways = is.gateways; office = is.office }
 
 -- what comes next by a schedule, as things stand, is done, once lines are settled
 pub record DoesNext {S : Type 0}

@@ -71,6 +71,8 @@ pub fn what_turns_leave_has_examples()
         DoesTurn sockets hears answers (Turn.Wait 700) board now was is → (now ≡ board) × (is.end ≡ was.end) }
     ensures notes { (sockets hears answers pause : _) (board now : Switchboard) (was is : Wire ℕ) →
         DoesTurn sockets hears answers (Turn.Note pause) board now was is → (now ≡ board) × (is.around ≡ was.around) }
+    ensures ticks { (sockets hears answers : _) (board now : Switchboard) (was is : Wire ℕ) →
+        DoesTurn sockets hears answers (Turn.Tick 700) board now was is → now.notifying ≡ board.notifying }
     ensures visits { (sockets hears answers : _) (board now : Switchboard) (was is : Wire ℕ) →
         DoesTurn sockets hears answers Turn.Visit board now was is → (now ≡ board) × (is ≡ was) }
     ensures ends { (sockets hears answers : _) (board now : Switchboard) (was is : Wire ℕ) →

@@ -334,7 +334,9 @@ fn take_line<S: Surroundings + Drop>(
 }
 
 // What is given up by now of the commands to a gateway.
-fn give_up<S: Surroundings + Drop>(board: &mut Switchboard, wire: &mut Wire<S>, place: usize) {
+fn give_up<S: Surroundings + Drop>(board: &mut Switchboard, wire: &mut Wire<S>, place: usize)
+    ensures { SettlesLines board.old board.new }
+{
     for _ in 0..u16::MAX {
         if !board.give_up(&mut wire.journal, place, wire.now.time) {
             return;
@@ -344,14 +346,18 @@ fn give_up<S: Surroundings + Drop>(board: &mut Switchboard, wire: &mut Wire<S>, 
 }
 
 // The same of all gateways.
-fn give_up_all<S: Surroundings + Drop>(board: &mut Switchboard, wire: &mut Wire<S>) {
+fn give_up_all<S: Surroundings + Drop>(board: &mut Switchboard, wire: &mut Wire<S>)
+    ensures { SettlesLines board.old board.new }
+{
     for place in 0..board.gateways() {
         give_up(board, wire, place);
     }
 }
 
 // The lines of a gateway to which what was put off is sent again by now wait to be settled.
-fn wake(board: &mut Switchboard, place: usize) {
+fn wake(board: &mut Switchboard, place: usize)
+    ensures { SettlesLines board.old board.new }
+{
     for _ in 0..u16::MAX {
         if !board.wake(place) {
             return;
@@ -360,7 +366,9 @@ fn wake(board: &mut Switchboard, place: usize) {
 }
 
 // The same of all gateways, and they are settled.
-fn wake_all<S: Surroundings + Drop>(board: &mut Switchboard, wire: &mut Wire<S>) {
+fn wake_all<S: Surroundings + Drop>(board: &mut Switchboard, wire: &mut Wire<S>)
+    ensures { SettlesLines board.old board.new }
+{
     for place in 0..board.gateways() {
         wake(board, place);
     }
@@ -368,7 +376,9 @@ fn wake_all<S: Surroundings + Drop>(board: &mut Switchboard, wire: &mut Wire<S>)
 }
 
 // The clock goes on, that of each agent first: by one that was behind what is issued now would be sent again at once.
-fn tick<S: Surroundings + Drop>(board: &mut Switchboard, wire: &mut Wire<S>, to: u64, moment: u64) {
+fn tick<S: Surroundings + Drop>(board: &mut Switchboard, wire: &mut Wire<S>, to: u64, moment: u64)
+    ensures { SettlesLines board.old board.new }
+{
     wire.now.clock = to;
     for place in 0..board.gateways() {
         let _ = send_outputs(wire, board.tick(place, to), true);

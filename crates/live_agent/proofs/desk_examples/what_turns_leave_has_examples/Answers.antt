@@ -12,6 +12,9 @@ returns-clause-waits c = λ sockets hears answers board now was is does. (does.0
 pub returns-clause-notes : goal.returns-clause-notes
 returns-clause-notes c = λ sockets hears answers pause board now was is does. (does.0, ap (λ (wire : Wire ℕ). wire.around) does.1)
 
+pub returns-clause-ticks : goal.returns-clause-ticks
+returns-clause-ticks c = λ sockets hears answers board now was is does. ap (λ (one : Switchboard). one.notifying) does
+
 pub returns-clause-settles : goal.returns-clause-settles
 returns-clause-settles c = λ board now so.
     (ap (λ (one : Switchboard). one.stations) so, ap (λ (one : Switchboard). one.notifying) so)
