@@ -1,7 +1,6 @@
 -- What it is to a board that what a line told is taken.
-use Rattle.std.specs.Prelude.{◌≡◌, ℕ, Bool, true, false, not, List, drop, length, Option, Some, None, IsSomeAnd, slice_get, slice_set}
+use Rattle.std.specs.Prelude.{◌≡◌, ◌==◌, ℕ, Bool, true, false, not, List, drop, length, Option, Some, None, IsSomeAnd, slice_get, slice_set}
 use Rattle.std.specs.Global.{Box}
-use Rattle.mg_bytes.specs.Lists.{is_empty}
 use Rattle.event_values.specs.declared.observed.Observed.{Observed}
 use Rattle.call_agent.specs.Agent.{observed_on}
 use Rattle.call_agent.specs.AgentStands.{AgentStands}
@@ -37,22 +36,36 @@ abbrev pub with_taken : Bool → List Observed → Station → Station
 with_taken false observed station = station
 with_taken true observed station = record station { taken = length observed }
 
--- what wasn't taken of it yet is, where there is any; of all other lines as much is taken as before
-abbrev pub TakesBehind : ℕ → List Observed → Station → Bool → Switchboard → Switchboard → Type 0
-TakesBehind line observed station found was is =
-    (found ≡ not (is_empty (drop station.taken observed)))
-    × HearsIf found line (drop station.taken observed) was.office is.office
-    × (is.stations.items ≡ slice_set was.stations.items line (with_taken found observed station))
+-- what a line of a gateway told and wasn't taken yet is, if there is any: whether there is
+abbrev pub TakesFrom : ℕ → Gateway → Station → Bool → Option (Box Office) → Option (Box Office) → Station → Type 0
+TakesFrom line gateway station found was is after =
+    (observed : List Observed) × IsObserved station.line gateway observed
+    × (found ≡ not (length (drop station.taken observed) == 0))
+    × HearsIf found line (drop station.taken observed) was is
+    × (after ≡ with_taken found observed station)
 
--- nothing is taken where there is no such gateway, or no such line
+-- each line but the one at this place is as it was
+abbrev pub with_station : ℕ → Option Station → List Station → List Station
+with_station line None were = were
+with_station line (Some is) were = slice_set were line is
+
+abbrev pub OtherLinesStay : ℕ → List Station → List Station → Type 0
+OtherLinesStay line were are = are ≡ with_station line (slice_get are line) were
+
+-- nothing is taken
+abbrev pub TakesNone : Bool → Switchboard → Switchboard → Type 0
+TakesNone found was is = (found ≡ false) × (is.office ≡ was.office) × (is.stations.items ≡ was.stations.items)
+
+-- so it is where there is no such gateway, or no such line
 abbrev pub TakesTold : ℕ → Option Gateway → Option Station → Bool → Switchboard → Switchboard → Type 0
-TakesTold line None station found was is = (found ≡ false) × (is ≡ was)
-TakesTold line (Some gateway) None found was is = (found ≡ false) × (is ≡ was)
+TakesTold line None station found was is = TakesNone found was is
+TakesTold line (Some gateway) None found was is = TakesNone found was is
 TakesTold line (Some gateway) (Some station) found was is =
-    (observed : List Observed) × IsObserved station.line gateway observed × TakesBehind line observed station found was is
+    IsSomeAnd (slice_get is.stations.items line) (λ after. TakesFrom line gateway station found was.office is.office after)
+    × OtherLinesStay line was.stations.items is.stations.items
 
 abbrev pub TakesOf : ℕ → Option ℕ → Bool → Switchboard → Switchboard → Type 0
-TakesOf place None found was is = (found ≡ false) × (is ≡ was)
+TakesOf place None found was is = TakesNone found was is
 TakesOf place (Some line) found was is =
     TakesTold line (slice_get was.gateways.items place) (slice_get was.stations.items line) found was is
 

@@ -1,7 +1,7 @@
 //! The exchange in the program's hands: which command each line is sent, and what its answer means for the line's calls.
 //!
 //! Nothing goes over all lines but the opening: those to which something has happened wait, and are settled.
-ghost use Rattle.std.specs.Prelude.{◌≡◌, ◌≢◌, ◌⊎◌, ◌↔◌, ℕ, true, false, drop, length, replicate, Some, IfOk, IfSome, IsTrue, is_none, OnOk, OnErr, option_map, slice_get, slice_set};
+ghost use Rattle.std.specs.Prelude.{◌≡◌, ◌≢◌, ◌⊎◌, ◌↔◌, ℕ, true, false, length, replicate, Some, IfOk, IfSome, IsTrue, is_none, OnOk, OnErr, option_map, slice_get, slice_set};
 ghost use Rattle.call_routing.specs.Phases.{named_by};
 ghost use Rattle.call_routing.specs.declared.told.Told.TheVariants.{Flash};
 ghost use Rattle.call_routing.specs.declared.command.Outcome.TheVariants.{GivenUp};
@@ -15,7 +15,6 @@ ghost use Rattle.live_agent.specs.Orders.{shown, duty_of, flight_of, was_found_o
 ghost use Rattle.live_agent.specs.Showing.{shown_in, Shows};
 ghost use Rattle.live_agent.specs.Turns.{forsaken, heard_by, announced_by, outcome_with, told_by_audit, kept_behind, cleared_by, Routes, TakesAudit, AnswersAudit, TakesResponse, TakesAnswer};
 ghost use Rattle.live_agent.specs.Steps.{landed_if, Begins, Hears};
-ghost use Rattle.live_agent.specs.Taking.{HearsTold};
 ghost use Rattle.live_agent.specs.Waiting.{waits, settling, settled_at, Settles};
 
 use crate::care::{Care, Change, Duty, NEW_CARE, Shown, fixed_order};
@@ -458,30 +457,6 @@ fn tell_shown(
 {
     tell_standing(alloc, journal, stations, line, was.standing, is.standing);
     tell_refusals(alloc, journal, stations, line, was.refusals, is.refusals);
-}
-
-/// What was observed behind so many.
-pub(crate) fn behind(observed: &[Observed], taken: usize) -> &[Observed]
-    ensures { result.now ≡ drop taken observed.now }
-{
-    match observed.get(taken..) {
-        Some(told) => told,
-        None => &[],
-    }
-}
-
-/// The exchange, if there is one, is told this of a line.
-pub(crate) fn tell_office(
-    alloc: Global,
-    office: &mut Option<Box<Office>>,
-    line: usize,
-    told: &[Observed],
-)
-    ensures { HearsTold line told.now office.old office.new }
-{
-    if let Some(office) = office {
-        office.told(alloc, line, told);
-    }
 }
 
 impl Office {

@@ -5,7 +5,7 @@ ghost use Rattle.call_agent.specs.Hearing.{hears};
 ghost use Rattle.call_agent.specs.AgentStands.{AgentTook};
 ghost use Rattle.agent_texts.specs.Counts.{with_given_up, with_notification, with_strange_name};
 ghost use Rattle.live_agent.specs.AgentClock.{tick_to};
-ghost use Rattle.live_agent.specs.Boards.{is_at, settling_in, SettlesIn, taking_in, woken_at, WakesIn, Answers};
+ghost use Rattle.live_agent.specs.Boards.{is_at, settling_in, SettlesIn, taking_in, woken_at, WakesIn};
 ghost use Rattle.live_agent.specs.Dues.{FallsDue};
 ghost use Rattle.live_agent.specs.GivingUp.{ended_in, EndsAt, GivesUp};
 ghost use Rattle.live_agent.specs.Hearing.{is_new_to, is_strange, announcement_counted, command_counted, message_counted, response_counted};
@@ -24,7 +24,9 @@ use crate::gateway::{Gateway, Wake};
 use crate::naming::{
     has_domain, is_meant, is_unknown, line_behind, line_meant, method_of, whole_name,
 };
-use crate::office::{Office, Order, behind, tell_office};
+use crate::office::{Office, Order};
+use crate::orders::{answer_at, issue_by};
+use crate::taking::take_from;
 use crate::typed::{TypedFault, typed_in};
 use crate::worklist::Worklist;
 use agent_texts::{AgentConfig, Journal, Station, copied};
@@ -99,28 +101,6 @@ fn is_at(gateway: &Gateway, address: SocketAddrV4) -> bool
     ensures { result ≡ is_at address gateway.now }
 {
     same_address(gateway.address, address)
-}
-
-// The exchange's command to a line of a gateway was answered. Where memory is refused for keeping when it is sent again, it is so at once.
-fn answer_at(
-    alloc: Global,
-    gateway: &mut Gateway,
-    office: &mut Office,
-    line: usize,
-    code: u16,
-    text: &[u8],
-)
-    ensures answers { Answers line code text.now gateway.old office.old gateway.new office.new }
-    ensures rest { gateway.new ≡ record gateway.old { wakes = gateway.new.wakes } }
-{
-    let moment = gateway.ticked();
-    let Some(again) = office.answered(alloc, line, moment, code, text) else {
-        return;
-    };
-    match gateway.put_off(line, again) {
-        Ok(()) => {}
-        Err(_) => office.wake(line, again),
-    }
 }
 
 // A line is there again, or lost its agent, if a name means it.
@@ -378,9 +358,7 @@ impl Switchboard {
         let Some(gateway) = self.gateways.get_mut(station.gateway) else {
             return Err(IssueFault::BadCommand);
         };
-        let name = station.name.as_bytes();
-        let rest = order.rest.as_bytes();
-        gateway.issue(self.alloc, order.verb, name, rest, Some(line))
+        issue_by(self.alloc, gateway, station, order, line)
     }
 
     // The command in flight to a line was given up, or couldn't be issued.
@@ -784,14 +762,13 @@ impl Switchboard {
         let Some(station) = self.stations.get_mut(line) else {
             return false;
         };
-        let observed = gateway.agent.taken(station.line);
-        let told = behind(observed, station.taken);
-        if told.is_empty() {
-            return false;
-        }
-        station.taken = observed.len();
-        journal.tell_notification(station.name.as_bytes(), told);
-        tell_office(self.alloc, &mut self.office, line, told);
-        true
+        take_from(
+            self.alloc,
+            gateway,
+            station,
+            &mut self.office,
+            journal,
+            line,
+        )
     }
 }
