@@ -1,6 +1,7 @@
 use Rattle.std.proofs.Common.{None, Some, refl}
 use Rattle.std.specs.Prelude.{Ok, Err}
 use Rattle.std.specs.Box.{with_value}
+use Rattle.bad_network.specs.declared.fate.Fate.TheVariants.{Once}
 use Rattle.live_gateway.proofs.SendingLemmas.{offers_so, lacks_so, sent_over, sent_directly}
 use Rattle.live_gateway.proofs.exchange.Exchange.send.Goals as goal
 
@@ -18,10 +19,10 @@ returns-in-Err-clause-became g c =
 
 pub returns-in_err-send-clause-became : goal.returns-in_err-send-clause-became
 returns-in_err-send-clause-became g c =
-    sent_directly g.S.Surroundings.sends c.args.self.now (record c.args.self.now { around = c.send.new.self }) c.args.to c.args.bytes.now _ _
+    sent_directly g.S.Surroundings.sends c.args.self.now (record c.args.self.now { around = c.send.new.self }) c.args.to c.args.bytes.now c.from_residual.result _
     c.in_default.is c.in_default.is c.in_err-send.ensures.handed c.from_residual.ensures.0
 
 pub returns-clause-became : goal.returns-clause-became
 returns-clause-became g c =
-    sent_directly g.S.Surroundings.sends c.args.self.now (record c.args.self.now { around = c.send.new.self }) c.args.to c.args.bytes.now _ _
+    sent_directly g.S.Surroundings.sends c.args.self.now (record c.args.self.now { around = c.send.new.self }) c.args.to c.args.bytes.now (Ok (Once 0)) _
     c.in_default.is c.in_default.is c.in_ok-send.ensures.handed refl
