@@ -3,6 +3,7 @@ pub mod CameLemmas
 pub mod HearingLemmas
 pub mod CountingLemmas
 pub mod EndingLemmas
+pub mod FrameLemmas
 pub mod DeskLemmas
 pub mod AnsweringLemmas
 pub mod TurningLemmas

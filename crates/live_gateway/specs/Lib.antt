@@ -7,5 +7,6 @@ pub mod Admitting
 pub mod Naming
 pub mod Desk
 pub mod Ending
+pub mod Leaving
 pub mod Answering
 pub mod Turning

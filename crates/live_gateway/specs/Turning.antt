@@ -1,5 +1,5 @@
 -- What a turn does, by its kind.
-use Rattle.std.specs.Prelude.{◌≡◌, ◌⊎◌, ℕ, Bool, true, ◌||◌, not, List, [], take, Option, None, Some, option_map, Result}
+use Rattle.std.specs.Prelude.{◌≡◌, ◌⊎◌, ℕ, Bool, false, ◌||◌, not, List, [], take, Option, None, Some, option_map, Result}
 use Rattle.std.specs.declared.net.socket_addr.SocketAddr.{SocketAddr}
 use Rattle.std.specs.declared.net.socket_addr.SocketAddrV4.{SocketAddrV4}
 use Rattle.mg_bytes.specs.Lists.{is_empty}
@@ -21,13 +21,13 @@ use Rattle.turns.specs.declared.turn.Turn.{Turn}
 use Rattle.turns.specs.declared.turn.Turn.TheVariants.{End, Look, Wait, Tick, Command, Datagram, Visit, Note}
 use Rattle.turns.specs.Schedule.{next_of}
 use Rattle.live_play.specs.Running.{Ran, Takes}
-use Rattle.live_telephones.specs.Paging.{TakesAct}
 use Rattle.live_telephones.specs.Watching.{WatchesOn}
+use Rattle.live_gateway.specs.Leaving.{OnlyHears, TakesFromPage, Leaves}
 use Rattle.live_gateway.specs.declared.desk.Desk.{Desk}
 use Rattle.live_gateway.specs.declared.exchange.Exchange.{Exchange}
 use Rattle.live_gateway.specs.Answering.{DoesLine}
 use Rattle.live_gateway.specs.Desk.{Standing, at_desk, IsHeard}
-use Rattle.live_gateway.specs.Exchanging.{CountsReceived, FoundSince, came_by, next_due, moment_at}
+use Rattle.live_gateway.specs.Exchanging.{CountsReceived, FoundSince, came_by, next_due, moment_at, faults_by}
 
 -- the gateway took an event that came in so, as a play tells it; or refused it, which is counted, and nothing was told
 abbrev pub Tries : Input → GatewayEvent → Standing → Standing → Type 0
@@ -68,13 +68,10 @@ pub record DoesLines {S T : Type 0}
   pub done : Desk S T
   pub taken : Bool
   pub hearing : Hears sockets hears was.exchange.around was.lines taken heard.exchange.around heard.lines
-  pub before : heard ≡ record was { exchange = heard.exchange; lines = heard.lines }
-  pub same : at_desk told traffic heard ≡ at_desk told traffic was
+  pub before : OnlyHears taken was heard
+  pub kept : traffic heard.exchange.around ≡ traffic was.exchange.around
   pub line : DoesLine told traffic answers heard done
-  pub behind : at_desk told traffic is ≡ at_desk told traffic done
-  pub around : is.exchange.around ≡ done.exchange.around
-  pub page : (is.lines ≡ done.lines)
-      ⊎ ((is_empty (left_of done.lines) ≡ true) × TakesAct done.exchange.journal done.lines true is.exchange.journal is.lines)
+  pub behind : TakesFromPage false done is
 
 -- what a turn of this kind does
 abbrev pub Does :
@@ -135,10 +132,14 @@ pub record DoesNext {S T : Type 0}
   pub done : Desk S T
   pub situation : IsSituation passes tells was at
   pub next : (turn, is.schedule) ≡ next_of was.schedule at
-  pub before : begun ≡ record was { exchange = begun.exchange; schedule = begun.schedule }
-  pub same : at_desk told traffic begun ≡ at_desk told traffic was
-  pub around : begun.exchange.around ≡ was.exchange.around
+  pub before : begun ≡ record was {
+    exchange = record was.exchange { now = begun.exchange.now; faults = begun.exchange.faults };
+    schedule = begun.schedule;
+  }
+  pub clock : begun.exchange.now.clock ≡ at.ticked
+  pub faults : begun.exchange.faults ≡ faults_by situation.clock was.exchange.faults
   pub does : Does told traffic sockets receives hears answers turn begun done
+  pub leaves : Leaves traffic turn begun done
   pub behind : is ≡ record done { exchange = record done.exchange { around = is.exchange.around }; watch = is.watch }
   pub kept : traffic is.exchange.around ≡ traffic done.exchange.around
   pub watch : WatchesOn answers done.watch.watchers.places is.exchange.around is.watch.watchers.places

@@ -15,6 +15,7 @@ ghost use Rattle.live_gateway.specs.Ending.{EndsAt, WroteTimes, AsksForEnd};
 ghost use Rattle.live_gateway.specs.Exchanging.{OnlyWrites};
 ghost use Rattle.live_play.specs.Readable.{first_unread};
 ghost use Rattle.live_gateway.specs.Answering.{DoesLine, AnswersRequest};
+ghost use Rattle.live_gateway.specs.Leaving.{OnlyPlays, DoesVisit, Leaves};
 ghost use Rattle.live_gateway.specs.Turning.{Tries, LooksForOne, DoesLines, Does, DoesNext};
 ghost use Rattle.traces.specs.Writing.{passed};
 
@@ -135,7 +136,7 @@ impl<S: Surroundings + Drop, T: Teller + Drop> Desk<S, T> {
             → (plain self.old.play.gateway.value.setup events).now < moment) }
         ensures play { GoesOn T.told S.traffic self.old self.new }
         ensures tried { Tries (passed moment) (tick moment) (at_desk T.told S.traffic self.old) (at_desk T.told S.traffic self.new) }
-        ensures schedule { self.new.schedule ≡ self.old.schedule }
+        ensures rest { OnlyPlays self.old self.new }
     {
         self.exchange.begin(moment);
         let done = self.play.tick(&mut self.exchange, moment);
@@ -151,7 +152,7 @@ impl<S: Surroundings + Drop, T: Teller + Drop> Desk<S, T> {
     fn datagram(&mut self)
         ensures play { GoesOn T.told S.traffic self.old self.new }
         ensures looked { LooksForOne T.told S.traffic S.receives self.old self.new }
-        ensures schedule { self.new.schedule ≡ self.old.schedule }
+        ensures rest { OnlyPlays self.old self.new }
     {
         let mut room = [0u8; DATAGRAM_ROOM];
         let admission = &self.admission;
@@ -285,9 +286,7 @@ impl<S: Surroundings + Drop, T: Teller + Drop> Desk<S, T> {
 
     // A visitor is served, if one is there.
     fn visit<V: Visitors<S>>(&mut self, visitors: &mut Option<Box<V>>, moment: u64)
-        ensures play { at_desk T.told S.traffic self.new ≡ at_desk T.told S.traffic self.old }
-        ensures admission { self.new.admission ≡ self.old.admission }
-        ensures schedule { self.new.schedule ≡ self.old.schedule }
+        ensures { DoesVisit S.traffic self.old self.new }
     {
         let faults = self.exchange.faults;
         let behind = moment.saturating_sub(self.play.gateway.now());
@@ -315,8 +314,8 @@ impl<S: Surroundings + Drop, T: Teller + Drop> Desk<S, T> {
             → (plain self.old.play.gateway.value.setup events).now < to) }
         ensures play { GoesOn T.told S.traffic self.old self.new }
         ensures does { Does T.told S.traffic S.sockets S.receives S.hears S.answers turn self.old self.new }
+        ensures leaves { Leaves S.traffic turn self.old self.new }
         ensures over { is_end turn ≡ true → (self.new.play ≡ self.old.play) × (self.new.end ≡ self.old.end) }
-        ensures schedule { self.new.schedule ≡ self.old.schedule }
     {
         match turn {
             Turn::Tick { moment } => self.tick(moment),

@@ -154,10 +154,9 @@ impl<S: Surroundings + Drop> Exchange<S> {
     pub fn moment(&mut self, ticked: u64) -> u64
         ensures network { self.new.network ≡ self.old.network }
         ensures around { self.new.around ≡ self.old.around }
-        ensures faults { (self.new.faults ≡ self.old.faults) ⊎ ((self.new.faults ≡ with_unreceived self.old.faults) × (result ≡ ticked)) }
-        ensures counted { (clock : Result ℕ Fault) × S.passes self.old.around clock × (self.new.faults ≡ faults_by clock self.old.faults) }
         ensures short { (result < first_unread) ⊎ (result ≡ ticked) }
-        ensures clock { (clock : Result ℕ Fault) × S.passes self.old.around clock × (result ≡ moment_at clock ticked) }
+        ensures clock { (clock : Result ℕ Fault) × S.passes self.old.around clock × (result ≡ moment_at clock ticked)
+            × (self.new.faults ≡ faults_by clock self.old.faults) }
         ensures refused { self.new.faults.refused ≡ self.old.faults.refused }
         ensures journal { self.new.journal ≡ self.old.journal }
         ensures read { self.new.read ≡ self.old.read }
@@ -212,9 +211,6 @@ impl<S: Surroundings + Drop> Exchange<S> {
         ensures received { received_by self.new.network (S.traffic self.new.around).received
             ≡ received_by self.old.network (S.traffic self.old.around).received }
         ensures refused { self.new.faults.refused ≡ self.old.faults.refused }
-        ensures journal { self.new.journal ≡ self.old.journal }
-        ensures read { self.new.read ≡ self.old.read }
-        ensures turn { IsSameTurn self.old self.new }
         ensures rest { self.new ≡ record self.old { around = self.new.around; faults = self.new.faults } }
     {
         let longest = if self.is_offering {

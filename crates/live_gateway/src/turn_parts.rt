@@ -1,15 +1,14 @@
 //! What a turn does that needs no gateway, but what that tells: who has one pays for the layout of all that it holds.
-ghost use Rattle.std.specs.Prelude.{◌≡◌, ◌<◌, ◌⊎◌, ℕ, Bool, true, List, Option, Result, not};
-ghost use Rattle.mg_bytes.specs.Lists.{is_empty};
+ghost use Rattle.std.specs.Prelude.{◌≡◌, ◌<◌, ◌⊎◌, ℕ, Bool, List, Option, Result, not};
 ghost use Rattle.surroundings.specs.Hearing.{AnswersTo};
 ghost use Rattle.surroundings.specs.Requests.{requests_from};
 ghost use Rattle.surroundings.specs.Typing.{left_of, behind};
 ghost use Rattle.surroundings.specs.declared.surroundings.Fault.{Fault};
 ghost use Rattle.surroundings.specs.declared.surroundings.Told.{Told};
 ghost use Rattle.turns.specs.Clock.{earlier, has_come};
-ghost use Rattle.live_telephones.specs.Paging.{TakesAct};
 ghost use Rattle.live_gateway.specs.Answering.{IsTypist, IsActAnswer};
-ghost use Rattle.live_gateway.specs.Exchanging.{refusals, next_due, moment_at};
+ghost use Rattle.live_gateway.specs.Exchanging.{refusals, next_due, moment_at, faults_by};
+ghost use Rattle.live_gateway.specs.Leaving.{OnlyShows, MayTake};
 ghost use Rattle.live_gateway.specs.Turning.{ready_at};
 ghost use Rattle.live_play.specs.Readable.{first_unread};
 
@@ -40,18 +39,16 @@ pub(crate) fn situation<S: Surroundings + Drop, V: Visitors<S>>(
     end: Option<u64>,
     is_line_left: bool,
 ) -> Situation
-    ensures network { exchange.new.network ≡ exchange.old.network }
-    ensures around { exchange.new.around ≡ exchange.old.around }
-    ensures refused { exchange.new.faults.refused ≡ exchange.old.faults.refused }
+    ensures rest { exchange.new ≡ record exchange.old { faults = exchange.new.faults } }
     ensures end { result.end ≡ end }
     ensures ticked { result.ticked ≡ ticked }
     ensures short { (result.moment < first_unread) ⊎ (result.moment ≡ ticked) }
     ensures due { (deadline : Option ℕ) × (result.due ≡ earlier (earlier due (next_due exchange.old.network)) deadline) }
     ensures read { result.read ≡ exchange.old.read }
-    ensures clock { (clock : Result ℕ Fault) × S.passes exchange.old.around clock × (result.moment ≡ moment_at clock ticked) }
+    ensures clock { (clock : Result ℕ Fault) × S.passes exchange.old.around clock × (result.moment ≡ moment_at clock ticked)
+        × (exchange.new.faults ≡ faults_by clock exchange.old.faults) }
     ensures ready { (told : Told) × (is_visited : Bool) × S.tells exchange.old.around told
         × (result.ready ≡ ready_at told is_line_left (next_due exchange.old.network) ticked is_visited) }
-    ensures tally { exchange.new.journal.tally ≡ exchange.old.journal.tally }
 {
     let moment = exchange.moment(ticked);
     let network = exchange.network_due();
@@ -153,12 +150,8 @@ pub(crate) fn take_from_page<S: Surroundings + Drop>(
     is_its_turn: bool,
     is_of_page: bool,
 ) -> bool
-    ensures network { exchange.new.network ≡ exchange.old.network }
-    ensures around { exchange.new.around ≡ exchange.old.around }
-    ensures faults { exchange.new.faults ≡ exchange.old.faults }
-    ensures lines { (lines.new ≡ lines.old) ⊎ ((is_empty (left_of lines.old) ≡ true)
-        × TakesAct exchange.old.journal lines.old true exchange.new.journal lines.new) }
-    ensures tally { exchange.new.journal.tally ≡ exchange.old.journal.tally }
+    ensures shown { OnlyShows exchange.old exchange.new }
+    ensures took { MayTake exchange.old.journal lines.old is_of_page exchange.new.journal lines.new result }
 {
     let is_taken = is_its_turn || !exchange.around.told().lines;
     if is_taken && lines.is_empty() {

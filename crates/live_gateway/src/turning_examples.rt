@@ -15,7 +15,21 @@ ghost use Rattle.live_gateway.specs.Ending.{is_record_refused, IsCounted};
 ghost use Rattle.live_gateway.specs.Example.{one, lost_one, once, failed, LooksNowhere, FindsNothing, SendsNowhere, EndsSaying, CountsStranger};
 ghost use Rattle.live_gateway.specs.Exchanging.{heard_in, mark_of, is_lost, faults_by, faultless, with_unreceived, LosesOver};
 ghost use Rattle.traces.specs.declared.telling.Mark.TheVariants.{Unsent, Lost};
+ghost use Rattle.live_gateway.specs.Leaving.{OnlyShows, OnlyPlays, OnlyLogs, OnlyHears, OnlyWaits, MayTake, DoesVisit};
 ghost use Rattle.live_gateway.specs.Turning.{ready_at};
+ghost use Rattle.surroundings.specs.Sending.{Traffic};
+
+/// Where nothing changes of what may, nothing does. Neither a wait nor a visitor changes how much was read.
+pub fn what_stays_has_examples()
+    ensures shown { (was is : Exchange ℕ) → OnlyShows was is → is.journal.board ≡ was.journal.board → is ≡ was }
+    ensures played { (was is : Desk ℕ ℕ) → OnlyPlays was is → is.play ≡ was.play → is.exchange ≡ was.exchange → is ≡ was }
+    ensures noted { (was is : Desk ℕ ℕ) → OnlyLogs was is → is.exchange.journal.log ≡ was.exchange.journal.log → is ≡ was }
+    ensures heard { (was is : Desk ℕ ℕ) → OnlyHears false was is → is.exchange.around ≡ was.exchange.around → is.lines ≡ was.lines
+        → is ≡ was }
+    ensures waited { (was is : Desk ℕ ℕ) → OnlyWaits was is → (is.exchange.read ≡ was.exchange.read) × (is.end ≡ was.end) }
+    ensures visited { (traffic : ℕ → Traffic) (was is : Desk ℕ ℕ) → DoesVisit traffic was is → is.exchange.read ≡ was.exchange.read }
+    ensures unasked { (desk : Desk ℕ ℕ) → MayTake desk.exchange.journal desk.lines true desk.exchange.journal desk.lines true }
+{}
 
 /// Who types may have something where a line is left, or as was told of their socket; the network where one that spoils it hands something
 /// out by now, or as was told of its own; visitors as they say.

@@ -1,5 +1,6 @@
 use Rattle.std.proofs.Common.{refl}
 use Rattle.live_gateway.proofs.DeskLemmas.{between}
+use Rattle.live_gateway.proofs.FrameLemmas.{made_of, with_exchange, page_same}
 use Rattle.live_gateway.proofs.desk.Desk.command.Goals as goal
 
 pub returns-clause-play : goal.returns-clause-play
@@ -8,7 +9,13 @@ returns-clause-play g c =
     c.take_line.ensures.play
     (rw (c.hear.ensures.network, c.hear.ensures.traffic, c.hear.ensures.faults) refl)
     refl
-    (rw (c.take_from_page-self.ensures.network, c.take_from_page-self.ensures.around, c.take_from_page-self.ensures.faults) refl)
+    (page_same g.T.Teller.told g.S.Surroundings.traffic false c.take_line.new.self
+    (record c.take_line.new.self {
+      exchange = c.take_from_page-self.new.exchange;
+      lines = c.take_from_page-self.new.lines;
+      is_of_page = c.take_from_page-self.result;
+    })
+    (record { rest = refl; shown = c.take_from_page-self.ensures.shown; took = c.take_from_page-self.ensures.took })).0
     refl
 
 pub returns-clause-lines : goal.returns-clause-lines
@@ -17,10 +24,14 @@ returns-clause-lines g c = record {
   done = c.take_line.new.self;
   taken = c.hear.ensures.heard.0;
   hearing = c.hear.ensures.heard.1;
-  before = refl;
-  same = rw (c.hear.ensures.network, c.hear.ensures.traffic, c.hear.ensures.faults) refl;
+  before = with_exchange (record c.args.self.now { lines = c.hear.new.lines }) _ _
+      (made_of c.hear.new.self _ _ _ _ _ _ _ refl c.hear.ensures.network c.hear.ensures.journal c.hear.ensures.turn.0 c.hear.ensures.heard.2
+      c.hear.ensures.faults c.hear.ensures.turn.1);
+  kept = c.hear.ensures.traffic;
   line = c.take_line.ensures.line;
-  behind = rw (c.take_from_page-self.ensures.network, c.take_from_page-self.ensures.around, c.take_from_page-self.ensures.faults) refl;
-  around = c.take_from_page-self.ensures.around;
-  page = c.take_from_page-self.ensures.lines;
+  behind = record {
+    rest = refl;
+    shown = c.take_from_page-self.ensures.shown;
+    took = c.take_from_page-self.ensures.took;
+  };
 }

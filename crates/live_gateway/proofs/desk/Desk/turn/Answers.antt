@@ -7,6 +7,7 @@ use Rattle.gateway_core.specs.Stands.{Stands}
 use Rattle.live_gateway.specs.Exchanging.{moment_at}
 use Rattle.live_gateway.proofs.DeskLemmas.{between}
 use Rattle.live_gateway.proofs.EndingLemmas.{turn_ends}
+use Rattle.live_gateway.proofs.FrameLemmas.{begun_alone, with_exchange, begins_same, leaves_schedule}
 use Rattle.live_gateway.proofs.TurningLemmas.{tick_is_later, tick_is_short}
 use Rattle.live_gateway.proofs.desk.Desk.turn.Goals as goal
 
@@ -14,7 +15,12 @@ pub returns-clause-play : goal.returns-clause-play
 returns-clause-play g c =
     between g.T.Teller.told g.S.Surroundings.traffic _ _ _ _
     c.do_turn.ensures.play
-    (rw (c.begin.ensures.network, c.begin.ensures.around, c.begin.ensures.faults, c.situation-at.ensures.network, c.situation-at.ensures.around, c.situation-at.ensures.refused) refl)
+    (begins_same g.T.Teller.told g.S.Surroundings.traffic c.args.self.now
+    (record c.args.self.now { exchange = c.begin.new.self; schedule = c.next-turn.new.self }) c.situation-at.ensures.clock.0
+    (with_exchange (record c.args.self.now { schedule = c.next-turn.new.self }) _ _
+    (begun_alone c.args.self.now.exchange c.situation-at.new.exchange c.begin.new.self c.situation-at.ensures.rest c.begin.ensures.around c.begin.ensures.network
+    c.begin.ensures.journal c.begin.ensures.read c.begin.ensures.offering))
+    (c.begin.ensures.faults ∙ c.situation-at.ensures.clock.3))
     refl
     (rw (c.tell.ensures.traffic) refl)
     refl
@@ -72,18 +78,16 @@ returns-clause-does g c =
         read = c.situation-at.ensures.read;
         ready = rw (sym c.is_empty-is_line_left.ensures, c.situation-at.ensures.ticked) c.situation-at.ensures.ready.3;
       };
-      next = rw (c.do_turn.ensures.schedule) c.next-turn.ensures;
-      before = refl;
-      same = rw (
-        c.begin.ensures.network,
-        c.begin.ensures.around,
-        c.begin.ensures.faults,
-        c.situation-at.ensures.network,
-        c.situation-at.ensures.around,
-        c.situation-at.ensures.refused,
-      ) refl;
-      around = c.begin.ensures.around ∙ c.situation-at.ensures.around;
+      next = rw (leaves_schedule g.S.Surroundings.traffic c.next-turn.result
+          (record c.args.self.now { exchange = c.begin.new.self; schedule = c.next-turn.new.self }) c.do_turn.new.self c.do_turn.ensures.leaves)
+          c.next-turn.ensures;
+      before = with_exchange (record c.args.self.now { schedule = c.next-turn.new.self }) _ _
+          (begun_alone c.args.self.now.exchange c.situation-at.new.exchange c.begin.new.self c.situation-at.ensures.rest c.begin.ensures.around c.begin.ensures.network
+          c.begin.ensures.journal c.begin.ensures.read c.begin.ensures.offering);
+      clock = c.begin.ensures.clock;
+      faults = c.begin.ensures.faults ∙ c.situation-at.ensures.clock.3;
       does = c.do_turn.ensures.does;
+      leaves = c.do_turn.ensures.leaves;
       behind = refl;
       kept = c.tell.ensures.traffic;
       watch = c.tell.ensures.watchers;

@@ -1,0 +1,74 @@
+-- What a turn leaves of a desk as it was, by its kind.
+use Rattle.std.specs.Prelude.{◌≡◌, ◌⊎◌, Bool, true}
+use Rattle.mg_bytes.specs.Lists.{is_empty}
+use Rattle.surroundings.specs.Sending.{Traffic}
+use Rattle.surroundings.specs.Typing.{left_of}
+use Rattle.surroundings.specs.declared.lines.Lines.{Lines}
+use Rattle.turns.specs.declared.turn.Turn.{Turn}
+use Rattle.turns.specs.declared.turn.Turn.TheVariants.{End, Look, Wait, Tick, Command, Datagram, Visit, Note}
+use Rattle.live_journal.specs.declared.journal.Journal.{Journal}
+use Rattle.live_telephones.specs.Paging.{TakesAct}
+use Rattle.live_gateway.specs.declared.desk.Desk.{Desk}
+use Rattle.live_gateway.specs.declared.exchange.Exchange.{Exchange}
+use Rattle.live_gateway.specs.Exchanging.{with_read, with_unreceived}
+
+-- of an exchange, only what the page is shown changes
+abbrev pub OnlyShows : {S : Type 0} → Exchange S → Exchange S → Type 0
+OnlyShows was is = is ≡ record was { journal = record was.journal { board = is.journal.board } }
+
+-- only its play and its exchange change
+abbrev pub OnlyPlays : {S T : Type 0} → Desk S T → Desk S T → Type 0
+OnlyPlays was is = is ≡ record was { play = is.play; exchange = is.exchange }
+
+-- only its log changes
+abbrev pub OnlyLogs : {S T : Type 0} → Desk S T → Desk S T → Type 0
+OnlyLogs was is =
+    is ≡ record was { exchange = record was.exchange { journal = record was.exchange.journal { log = is.exchange.journal.log } } }
+
+-- it looked for lines: only what is around it, how many datagrams were read, and the lines that are left change
+abbrev pub OnlyHears : {S T : Type 0} → Bool → Desk S T → Desk S T → Type 0
+OnlyHears taken was is = is ≡ record was {
+  exchange = record was.exchange { around = is.exchange.around; read = with_read taken was.exchange.read };
+  lines = is.lines;
+}
+
+-- it waited: only what is around it changes, and the count of waits that failed
+pub record OnlyWaits {S T : Type 0} (was is : Desk S T) : Type 0 where
+  pub rest : is ≡ record was { exchange = record was.exchange { around = is.exchange.around; faults = is.exchange.faults } }
+  pub faults : (is.exchange.faults ≡ was.exchange.faults) ⊎ (is.exchange.faults ≡ with_unreceived was.exchange.faults)
+
+-- The page isn't asked, and whose line is left stays so. Or no line is left, and the next act of the page's is one, where it has one.
+abbrev pub MayTake : Journal → Lines → Bool → Journal → Lines → Bool → Type 0
+MayTake was lines is_of_page is left is_then =
+    ((is ≡ was) × (left ≡ lines) × (is_then ≡ is_of_page))
+    ⊎ ((is_empty (left_of lines) ≡ true) × TakesAct was lines is_then is left)
+
+-- so it is at a desk, where the line that was left was the page's, or wasn't; and nothing else of it changes
+pub record TakesFromPage {S T : Type 0} (is_of_page : Bool) (was is : Desk S T) : Type 0 where
+  pub rest : is ≡ record was { exchange = is.exchange; lines = is.lines; is_of_page = is.is_of_page }
+  pub shown : OnlyShows was.exchange is.exchange
+  pub took : MayTake was.exchange.journal was.lines is_of_page is.exchange.journal is.lines is.is_of_page
+
+-- A visitor is served: only what is around it changes, though not what went over that, and what the page is shown. Then the page may be
+-- asked for the next line.
+pub record DoesVisit {S T : Type 0} (traffic : S → Traffic) (was is : Desk S T) : Type 0 where
+  pub served : Desk S T
+  pub before : served ≡ record was {
+    exchange = record was.exchange {
+      around = served.exchange.around;
+      journal = record was.exchange.journal { board = served.exchange.journal.board };
+    };
+  }
+  pub kept : traffic served.exchange.around ≡ traffic was.exchange.around
+  pub page : TakesFromPage was.is_of_page served is
+
+-- what a turn of this kind leaves; of one for who types `DoesLines` says more
+abbrev pub Leaves : {S T : Type 0} → (S → Traffic) → Turn → Desk S T → Desk S T → Type 0
+Leaves traffic End was is = is ≡ was
+Leaves traffic Look was is = OnlyWaits was is
+Leaves traffic (Wait until) was is = OnlyWaits was is
+Leaves traffic (Tick moment) was is = OnlyPlays was is
+Leaves traffic Command was is = (is.admission ≡ was.admission) × (is.schedule ≡ was.schedule)
+Leaves traffic Datagram was is = OnlyPlays was is
+Leaves traffic Visit was is = DoesVisit traffic was is
+Leaves traffic (Note pause) was is = OnlyLogs was is
