@@ -32,6 +32,7 @@ use Rattle.live_telephones.specs.declared.telephones.TelephoneRequest.TheVariant
 use Rattle.live_telephones.specs.declared.watch.Watch.{Watch}
 use Rattle.live_gateway.specs.declared.desk.Desk.{Desk}
 use Rattle.live_gateway.specs.Desk.{Standing, at_desk}
+use Rattle.live_gateway.specs.Leaving.{OnlyReplies}
 
 -- The line, and what it asks for
 
@@ -65,14 +66,17 @@ no_memory = codes "! 1 OutOfMemory\n"
 abbrev pub not_from_afar : List ℕ
 not_from_afar = codes "! the telephones are for a loopback address alone, 127.0.0.0/8, but with --phones-open\n"
 
--- Who typed the line is answered this, by surroundings as they were so far. Its line is left no more, and nothing else of the desk
--- changed but what the line asked for.
-pub record Answers {S T : Type 0} (answers : S → SocketAddr → List ℕ → S → Type 0) (before : S) (answer : List ℕ) (was is : Desk S T)
+-- who typed the line is answered this, by surroundings as they were so far, and its line is left no more
+pub record AnswersLine {S T : Type 0} (answers : S → SocketAddr → List ℕ → S → Type 0) (before : S) (answer : List ℕ) (was is : Desk S T)
     : Type 0 where
   pub answered : AnswersTo answers was.lines.sender before answer is.exchange.around
   pub left : left_of is.lines ≡ requests_from (behind (left_of was.lines))
   pub sender : is.lines.sender ≡ was.lines.sender
-  pub rest : is ≡ record was { play = is.play; exchange = is.exchange; lines = is.lines; watch = is.watch }
+
+-- the line is answered, and nothing else is done
+pub record Answers {S T : Type 0} (answers : S → SocketAddr → List ℕ → S → Type 0) (answer : List ℕ) (was is : Desk S T) : Type 0 where
+  pub line : AnswersLine answers was.exchange.around answer was is
+  pub rest : OnlyReplies was is
 
 -- What is done
 
@@ -113,21 +117,22 @@ AsksToWatch sender gateway seconds answer was is =
 
 -- what is answered to what asks neither for an act nor for what a line is; who asks for the end is answered when that has come
 abbrev pub AnswersRequest : {S T : Type 0} → (S → SocketAddr → List ℕ → S → Type 0) → TelephoneRequest → Desk S T → Desk S T → Type 0
-AnswersRequest answers ShowAll was is = (answer : List ℕ) × Answers answers was.exchange.around answer was is × IsPut was.play.gateway.value
+AnswersRequest answers ShowAll was is = (answer : List ℕ) × Answers answers answer was is × IsPut was.play.gateway.value
     (λ events. lines_shown was.play.gateway.value.setup events was.play.gateway.value.setup.names.lines) answer
-AnswersRequest answers (AsksWatch seconds) was is = (answer : List ℕ) × Answers answers was.exchange.around answer was is
+AnswersRequest answers (AsksWatch seconds) was is = (answer : List ℕ) × AnswersLine answers was.exchange.around answer was is
     × AsksToWatch (v4_of was.lines.sender) was.play.gateway.value seconds answer was.watch is.watch
-AnswersRequest answers Counts was is = (answer : List ℕ) × Answers answers was.exchange.around answer was is × IsPut was.play.gateway.value
+    × OnlyReplies (record was { watch = is.watch }) is
+AnswersRequest answers Counts was is = (answer : List ℕ) × Answers answers answer was is × IsPut was.play.gateway.value
     (λ events. counts_text was.exchange.journal was.exchange.faults was.play.gateway.value.setup
     (plain was.play.gateway.value.setup events)) answer
 AnswersRequest answers Stop was is = is ≡ record was { end = Some 0 }
 AnswersRequest answers Refused was is = AnswersTo answers was.lines.sender was.exchange.around not_from_afar is.exchange.around
-    × (left_of is.lines ≡ [])
-AnswersRequest answers (AsksAct line act) was is = Answers answers was.exchange.around (short_text (AsksAct line act)) was is
-AnswersRequest answers (Show line) was is = Answers answers was.exchange.around (short_text (Show line)) was is
-AnswersRequest answers StopFromAfar was is = Answers answers was.exchange.around (short_text StopFromAfar) was is
-AnswersRequest answers Unknown was is = Answers answers was.exchange.around (short_text Unknown) was is
-AnswersRequest answers OutOfMemory was is = Answers answers was.exchange.around (short_text OutOfMemory) was is
+    × (left_of is.lines ≡ []) × OnlyReplies was is
+AnswersRequest answers (AsksAct line act) was is = Answers answers (short_text (AsksAct line act)) was is
+AnswersRequest answers (Show line) was is = Answers answers (short_text (Show line)) was is
+AnswersRequest answers StopFromAfar was is = Answers answers (short_text StopFromAfar) was is
+AnswersRequest answers Unknown was is = Answers answers (short_text Unknown) was is
+AnswersRequest answers OutOfMemory was is = Answers answers (short_text OutOfMemory) was is
 
 -- the gateway does nothing, and what the line asks for is answered
 abbrev pub OnlyAnswers :
@@ -141,10 +146,12 @@ abbrev pub DoesRequest :
     {S T : Type 0} → (T → Option (List ℕ)) → (S → Traffic) → (S → SocketAddr → List ℕ → S → Type 0)
     → List ℕ → TelephoneRequest → Desk S T → Desk S T → Type 0
 DoesRequest {S} told traffic answers text (AsksAct line act) was is = (before : S) × (answer : List ℕ)
-    × Answers answers before answer was is × (traffic is.exchange.around ≡ traffic before)
+    × AnswersLine answers before answer was is × (traffic is.exchange.around ≡ traffic before)
     × TriesAct text line act answer (at_desk told traffic was) (at_desk told traffic is)
-DoesRequest told traffic answers text (Show line) was is = (answer : List ℕ) × Answers answers was.exchange.around answer was is
+    × (is ≡ record was { play = is.play; exchange = is.exchange; lines = is.lines })
+DoesRequest told traffic answers text (Show line) was is = (answer : List ℕ) × AnswersLine answers was.exchange.around answer was is
     × Asks text line answer (at_desk told traffic was).live (at_desk told traffic is).live
+    × OnlyReplies (record was { play = is.play }) is
 DoesRequest told traffic answers text ShowAll was is = OnlyAnswers told traffic answers ShowAll was is
 DoesRequest told traffic answers text (AsksWatch seconds) was is = OnlyAnswers told traffic answers (AsksWatch seconds) was is
 DoesRequest told traffic answers text Counts was is = OnlyAnswers told traffic answers Counts was is

@@ -32,6 +32,10 @@ OnlyHears taken was is = is ≡ record was {
   lines = is.lines;
 }
 
+-- it answered: only what is around it, and the lines that are left, change
+abbrev pub OnlyReplies : {S T : Type 0} → Desk S T → Desk S T → Type 0
+OnlyReplies was is = is ≡ record was { exchange = record was.exchange { around = is.exchange.around }; lines = is.lines }
+
 -- it waited: only what is around it changes, and the count of waits that failed
 pub record OnlyWaits {S T : Type 0} (was is : Desk S T) : Type 0 where
   pub rest : is ≡ record was { exchange = record was.exchange { around = is.exchange.around; faults = is.exchange.faults } }

@@ -15,7 +15,7 @@ ghost use Rattle.live_gateway.specs.Ending.{is_record_refused, IsCounted};
 ghost use Rattle.live_gateway.specs.Example.{one, lost_one, once, failed, LooksNowhere, FindsNothing, SendsNowhere, EndsSaying, CountsStranger};
 ghost use Rattle.live_gateway.specs.Exchanging.{heard_in, mark_of, is_lost, faults_by, faultless, with_unreceived, LosesOver};
 ghost use Rattle.traces.specs.declared.telling.Mark.TheVariants.{Unsent, Lost};
-ghost use Rattle.live_gateway.specs.Leaving.{OnlyShows, OnlyPlays, OnlyLogs, OnlyHears, OnlyWaits, MayTake, DoesVisit};
+ghost use Rattle.live_gateway.specs.Leaving.{OnlyShows, OnlyPlays, OnlyLogs, OnlyHears, OnlyReplies, OnlyWaits, MayTake, DoesVisit};
 ghost use Rattle.live_gateway.specs.Turning.{ready_at};
 ghost use Rattle.surroundings.specs.Sending.{Traffic};
 
@@ -26,6 +26,7 @@ pub fn what_stays_has_examples()
     ensures noted { (was is : Desk ℕ ℕ) → OnlyLogs was is → is.exchange.journal.log ≡ was.exchange.journal.log → is ≡ was }
     ensures heard { (was is : Desk ℕ ℕ) → OnlyHears false was is → is.exchange.around ≡ was.exchange.around → is.lines ≡ was.lines
         → is ≡ was }
+    ensures said { (was is : Desk ℕ ℕ) → OnlyReplies was is → is.exchange.around ≡ was.exchange.around → is.lines ≡ was.lines → is ≡ was }
     ensures waited { (was is : Desk ℕ ℕ) → OnlyWaits was is → (is.exchange.read ≡ was.exchange.read) × (is.end ≡ was.end) }
     ensures visited { (traffic : ℕ → Traffic) (was is : Desk ℕ ℕ) → DoesVisit traffic was is → is.exchange.read ≡ was.exchange.read }
     ensures unasked { (desk : Desk ℕ ℕ) → MayTake desk.exchange.journal desk.lines true desk.exchange.journal desk.lines true }

@@ -19,6 +19,10 @@ pub returns-clause-heard : goal.returns-clause-heard
 returns-clause-heard c = λ was is only around lines.
     only ∙ ap (λ x. record was { exchange = record was.exchange { around = x }; lines = is.lines }) around ∙ ap (λ x. record was { lines = x }) lines
 
+pub returns-clause-said : goal.returns-clause-said
+returns-clause-said c = λ was is only around lines.
+    only ∙ ap (λ x. record was { exchange = record was.exchange { around = x }; lines = is.lines }) around ∙ ap (λ x. record was { lines = x }) lines
+
 pub returns-clause-waited : goal.returns-clause-waited
 returns-clause-waited c = λ was is only. (
   ap (λ (desk : Desk ℕ ℕ). desk.exchange.read) only.rest,

@@ -18,9 +18,11 @@ returns-in-ShowAll-clause-answered g c =
     rw (c.in-ShowAll.is) (
       put.0,
       record {
-        answered = put.2;
-        left = c.answer_put.ensures.left;
-        sender = c.answer_put.ensures.sender;
+        line = record {
+          answered = put.2;
+          left = c.answer_put.ensures.left;
+          sender = c.answer_put.ensures.sender;
+        };
         rest = refl;
       },
       put.1,
@@ -40,9 +42,9 @@ returns-in-Watch-clause-answered g c =
         answered = put.2;
         left = c.answer_put-in-Watch.ensures.left;
         sender = c.answer_put-in-Watch.ensures.sender;
-        rest = refl;
       },
       put.1,
+      refl,
     )
 
 pub returns-in-Counts-clause-answered : goal.returns-in-Counts-clause-answered
@@ -56,9 +58,11 @@ returns-in-Counts-clause-answered g c =
     rw (c.in-Counts.is) (
       put.0,
       record {
-        answered = put.2;
-        left = c.answer_put-in-Counts.ensures.left;
-        sender = c.answer_put-in-Counts.ensures.sender;
+        line = record {
+          answered = put.2;
+          left = c.answer_put-in-Counts.ensures.left;
+          sender = c.answer_put-in-Counts.ensures.sender;
+        };
         rest = refl;
       },
       put.1,

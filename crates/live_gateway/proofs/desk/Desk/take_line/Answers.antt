@@ -39,7 +39,6 @@ returns-in-Show-clause-line g c =
           answered = c.answer.ensures.answered;
           left = c.answer.ensures.left;
           sender = c.answer.ensures.sender;
-          rest = refl;
         },
         asks_of _ _ c.ask-asked.result c.ask-asked.new.self.printed.items _ _ _
             (rw (c.answer.ensures.traffic)
@@ -48,6 +47,7 @@ returns-in-Show-clause-line g c =
             (c.ask-asked.ensures.ran (handed_by c.args.self.now.exchange.network (g.S.Surroundings.traffic c.args.self.now.exchange.around).sent)))
             (rw (c.printed.ensures) at c.question_answer-answer.ensures.asked)
             c.question_answer-answer.ensures.memory,
+        refl,
       ),
     )
 
@@ -88,7 +88,6 @@ returns-in-Act-clause-line g c =
           answered = answered.2;
           left = c.answer_act.ensures.left;
           sender = c.answer_act.ensures.sender;
-          rest = refl;
         },
         c.answer_act.ensures.traffic,
         tries_act _ _ _ c.act-done.result _ answered.0 (at_desk told traffic c.args.self.now)
@@ -100,5 +99,6 @@ returns-in-Act-clause-line g c =
             (c.answer_act.ensures.network ∙ c.note_taken.ensures.network) (c.answer_act.ensures.traffic ∙ ap traffic c.note_taken.ensures.around)
             (ap (λ (x : Faults). x.refused) c.answer_act.ensures.faults ∙ (rw (c.is_ok.ensures.value) at c.note_taken.ensures.refused)))
             (rw (c.printed-printed.ensures) at answered.1),
+        refl,
       ),
     )
