@@ -4,6 +4,7 @@ use Rattle.std.specs.Prelude.{nat_lt, if◌then◌else◌, true, false, Result, 
 use Rattle.std.specs.Global.{Box}
 use Rattle.message_counts.specs.declared.reporting.Faults.{Faults}
 use Rattle.surroundings.specs.Sending.{Traffic}
+use Rattle.turns.specs.declared.schedule.Schedule.{Schedule}
 use Rattle.turns.specs.declared.turn.Turn.{Turn}
 use Rattle.turns.specs.declared.turn.Turn.TheVariants.{End, Look, Wait, Tick, Command, Datagram, Visit, Note}
 use Rattle.live_ends.specs.declared.now.Now.{Now}
@@ -68,6 +69,15 @@ begun_alone {S} was mid is looked around network journal read offering =
 
 pub with_exchange : {S T : Type 0} (desk : Desk S T) (was is : Exchange S) → is ≡ was → ◌≡◌ {A = Desk S T} (record desk { exchange = is }) (record desk { exchange = was })
 with_exchange {S} {T} desk was is same = ap (λ (x : Exchange S). record desk { exchange = x }) same
+
+-- a run begins, behind a look at the clock
+pub starts_so : {S T : Type 0} (was : Desk S T) (looked : Exchange S) (schedule : Schedule) (first : ℕ → Schedule) (moment told : ℕ)
+    → looked ≡ record was.exchange { faults = looked.faults } → schedule ≡ first moment → moment ≡ told
+    → ◌≡◌ {A = Desk S T} (record was { exchange = looked; schedule = schedule })
+    (record was { exchange = record was.exchange { faults = looked.faults }; schedule = first told })
+starts_so {S} {T} was looked schedule first moment told same starts says =
+    ap (λ (x : Exchange S). record was { exchange = x; schedule = schedule }) same
+    ∙ ap (λ (x : Schedule). record was { exchange = record was.exchange { faults = looked.faults }; schedule = x }) (starts ∙ ap first says)
 
 -- that the clock failed is no input
 still_refused : {E : Type 0} (clock : Result ℕ E) (faults : Faults) → (faults_by clock faults).refused ≡ faults.refused

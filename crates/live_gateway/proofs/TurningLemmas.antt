@@ -1,5 +1,5 @@
 -- What a turn does, from what its calls say.
-use Rattle.std.proofs.Common.{◌≡◌, ◌⊎◌, inl, inr, ℕ, ◌<◌, ◌≤◌, ◌^◌, [], sym, ◌∙◌, ap, subst, arith}
+use Rattle.std.proofs.Common.{◌≡◌, ◌⊎◌, inl, inr, ℕ, ◌+◌, ◌<◌, ◌≤◌, ◌^◌, [], sym, ◌∙◌, ap, subst, arith}
 use Rattle.std.specs.Prelude.{not, is_ok, Result, Ok, Err, OnOk, OnErr}
 use Rattle.gateway_core.specs.Wire.{counted}
 use Rattle.plain_machine.specs.Event.{GatewayEvent}
@@ -13,7 +13,11 @@ use Rattle.turns.proofs.ScheduleLaws.{ticks_within}
 use Rattle.live_play.specs.Running.{Ran, Takes}
 use Rattle.live_gateway.specs.Desk.{Standing, with_input}
 use Rattle.live_play.specs.Readable.{first_unread}
-use Rattle.live_gateway.specs.Turning.{Tries}
+use Rattle.surroundings.specs.declared.surroundings.Fault.{Fault}
+use Rattle.live_gateway.specs.declared.desk.Desk.{Desk}
+use Rattle.live_gateway.specs.Exchanging.{OnlyWrites}
+use Rattle.live_gateway.specs.Turning.{Tries, TurnsAndWrites, RunsTurns}
+use Rattle.live_gateway.proofs.EndingLemmas.{wrote_once_more}
 
 -- it was taken, or refused, and that is counted
 pub tries : {A B : Type 0} (input : Input) (event : GatewayEvent) (done : Result A B) (was mid is : Standing) → OnOk done (Takes was.live input event mid.live)
@@ -45,3 +49,17 @@ tick_is_short s at turn next to now few comes is same (inr still) =
     let on : at.ticked < to = (ticks_within s at to few first).0 in
     let within : to ≤ at.moment = (ticks_within s at to few first).1 in
     absurd (omega (arith, on, within, same, still))
+
+-- one turn more, and what was recorded at it was written
+pub runs_once_more : {S T W : Type 0} (passes : S → Result ℕ Fault → Type 0) (does : Desk S T → Desk S T → Type 0) (writes : W → W → Type 0) (count : ℕ)
+    (was : Desk S T) (before : W) (between : Desk S T) (amid : W) (done is : Desk S T) (after : W)
+    → RunsTurns passes does writes count was before between amid → does between done → writes amid after
+    → is.play ≡ record done.play { teller = is.play.teller } → OnlyWrites done.exchange is.exchange
+    → is ≡ record done { play = is.play; exchange = is.exchange }
+    → RunsTurns passes does writes (count + 1) was before is after
+runs_once_more passes does writes count was before between amid done is after some turn wrote teller exchange rest = record {
+  begun = some.begun;
+  starts = some.starts;
+  turns = wrote_once_more (TurnsAndWrites does writes) count (some.begun, before) (between, amid) (is, after) some.turns
+      (record { done = done; turn = turn; wrote = wrote; teller = teller; exchange = exchange; rest = rest });
+}

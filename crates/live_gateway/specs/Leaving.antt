@@ -1,16 +1,18 @@
--- What a turn leaves of a desk as it was, by its kind.
-use Rattle.std.specs.Prelude.{◌≡◌, ◌⊎◌, Bool, true}
+-- What a turn leaves of a desk as it was, by its kind, and what is so as a run begins.
+use Rattle.std.specs.Prelude.{◌≡◌, ◌⊎◌, ℕ, Bool, true, Result}
 use Rattle.mg_bytes.specs.Lists.{is_empty}
 use Rattle.surroundings.specs.Sending.{Traffic}
 use Rattle.surroundings.specs.Typing.{left_of}
 use Rattle.surroundings.specs.declared.lines.Lines.{Lines}
+use Rattle.surroundings.specs.declared.surroundings.Fault.{Fault}
 use Rattle.turns.specs.declared.turn.Turn.{Turn}
 use Rattle.turns.specs.declared.turn.Turn.TheVariants.{End, Look, Wait, Tick, Command, Datagram, Visit, Note}
+use Rattle.turns.specs.Schedule.{opening}
 use Rattle.live_journal.specs.declared.journal.Journal.{Journal}
 use Rattle.live_telephones.specs.Paging.{TakesAct}
 use Rattle.live_gateway.specs.declared.desk.Desk.{Desk}
 use Rattle.live_gateway.specs.declared.exchange.Exchange.{Exchange}
-use Rattle.live_gateway.specs.Exchanging.{with_read, with_unreceived}
+use Rattle.live_gateway.specs.Exchanging.{moment_at, faults_by, with_read, with_unreceived}
 
 -- of an exchange, only what the page is shown changes
 abbrev pub OnlyShows : {S : Type 0} → Exchange S → Exchange S → Type 0
@@ -65,6 +67,17 @@ pub record DoesVisit {S T : Type 0} (traffic : S → Traffic) (was is : Desk S T
   }
   pub kept : traffic served.exchange.around ≡ traffic was.exchange.around
   pub page : TakesFromPage was.is_of_page served is
+
+-- it begins now: its schedule starts at the moment that the clock told, and that the clock failed is counted
+pub record Starts {S T : Type 0} (passes : S → Result ℕ Fault → Type 0) (was is : Desk S T) : Type 0 where
+  pub clock : Result ℕ Fault
+  pub read_so : passes was.exchange.around clock
+  pub ticked : ℕ
+  pub rest : is ≡ record was {
+    exchange = record was.exchange { faults = is.exchange.faults };
+    schedule = opening (moment_at clock ticked);
+  }
+  pub faults : is.exchange.faults ≡ faults_by clock was.exchange.faults
 
 -- what a turn of this kind leaves; of one for who types `DoesLines` says more
 abbrev pub Leaves : {S T : Type 0} → (S → Traffic) → Turn → Desk S T → Desk S T → Type 0

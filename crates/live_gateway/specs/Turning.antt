@@ -22,12 +22,13 @@ use Rattle.turns.specs.declared.turn.Turn.TheVariants.{End, Look, Wait, Tick, Co
 use Rattle.turns.specs.Schedule.{next_of}
 use Rattle.live_play.specs.Running.{Ran, Takes}
 use Rattle.live_telephones.specs.Watching.{WatchesOn}
-use Rattle.live_gateway.specs.Leaving.{OnlyHears, TakesFromPage, Leaves}
+use Rattle.live_gateway.specs.Leaving.{OnlyHears, TakesFromPage, Starts, Leaves}
 use Rattle.live_gateway.specs.declared.desk.Desk.{Desk}
 use Rattle.live_gateway.specs.declared.exchange.Exchange.{Exchange}
 use Rattle.live_gateway.specs.Answering.{DoesLine}
+use Rattle.live_gateway.specs.Ending.{WroteTimes}
 use Rattle.live_gateway.specs.Desk.{Standing, at_desk, IsHeard}
-use Rattle.live_gateway.specs.Exchanging.{CountsReceived, FoundSince, came_by, next_due, moment_at, faults_by}
+use Rattle.live_gateway.specs.Exchanging.{CountsReceived, FoundSince, OnlyWrites, came_by, next_due, moment_at, faults_by}
 
 -- the gateway took an event that came in so, as a play tells it; or refused it, which is counted, and nothing was told
 abbrev pub Tries : Input → GatewayEvent → Standing → Standing → Type 0
@@ -143,3 +144,21 @@ pub record DoesNext {S T : Type 0}
   pub behind : is ≡ record done { exchange = record done.exchange { around = is.exchange.around }; watch = is.watch }
   pub kept : traffic is.exchange.around ≡ traffic done.exchange.around
   pub watch : WatchesOn answers done.watch.watchers.places is.exchange.around is.watch.watchers.places
+
+-- A turn was done, and then what was recorded was written: of the desk, that changes only what is recorded and told, and whether some of
+-- it waits to be taken.
+pub record TurnsAndWrites {S T W : Type 0} (does : Desk S T → Desk S T → Type 0) (writes : W → W → Type 0) (was is : Desk S T × W)
+    : Type 0 where
+  pub done : Desk S T
+  pub turn : does was.0 done
+  pub wrote : writes was.1 is.1
+  pub teller : is.0.play ≡ record done.play { teller = is.0.play.teller }
+  pub exchange : OnlyWrites done.exchange is.0.exchange
+  pub rest : is.0 ≡ record done { play = is.0.play; exchange = is.0.exchange }
+
+-- it began, and then there were so many turns, and nothing else
+pub record RunsTurns {S T W : Type 0} (passes : S → Result ℕ Fault → Type 0) (does : Desk S T → Desk S T → Type 0) (writes : W → W → Type 0)
+    (count : ℕ) (was : Desk S T) (before : W) (is : Desk S T) (after : W) : Type 0 where
+  pub begun : Desk S T
+  pub starts : Starts passes was begun
+  pub turns : WroteTimes (TurnsAndWrites does writes) count (begun, before) (is, after)

@@ -11,12 +11,12 @@ ghost use Rattle.live_telephones.specs.Asking.{AsksFor};
 ghost use Rattle.rgw_scripts.specs.declared.step.ScriptLine.{ScriptLine};
 ghost use Rattle.surroundings.specs.Hearing.{AnswersTo};
 ghost use Rattle.live_gateway.specs.Desk.{at_desk, GoesOn};
-ghost use Rattle.live_gateway.specs.Ending.{EndsAt, WroteTimes, AsksForEnd};
+ghost use Rattle.live_gateway.specs.Ending.{EndsAt, AsksForEnd};
 ghost use Rattle.live_gateway.specs.Exchanging.{OnlyWrites};
 ghost use Rattle.live_play.specs.Readable.{first_unread};
 ghost use Rattle.live_gateway.specs.Answering.{DoesLine, AnswersRequest};
 ghost use Rattle.live_gateway.specs.Leaving.{OnlyPlays, DoesVisit, Leaves};
-ghost use Rattle.live_gateway.specs.Turning.{Tries, LooksForOne, DoesLines, Does, DoesNext};
+ghost use Rattle.live_gateway.specs.Turning.{Tries, LooksForOne, DoesLines, Does, DoesNext, RunsTurns};
 ghost use Rattle.traces.specs.Writing.{passed};
 
 use crate::admission::Admission;
@@ -365,7 +365,6 @@ impl<S: Surroundings + Drop, T: Teller + Drop> Desk<S, T> {
     pub fn write<W: Recorder<T>>(&mut self, recorder: &mut W)
         ensures play { GoesOn T.told S.traffic self.old self.new }
         ensures lines { self.new.lines ≡ self.old.lines }
-        ensures end { self.new.end ≡ self.old.end }
         ensures gateway { self.new.play.gateway ≡ self.old.play.gateway }
         ensures wrote { W.writes recorder.old recorder.new }
         ensures teller { self.new.play ≡ record self.old.play { teller = self.new.play.teller } }
@@ -385,7 +384,9 @@ impl<S: Surroundings + Drop, T: Teller + Drop> Desk<S, T> {
         recorder: &mut W,
     )
         ensures play { GoesOn T.told S.traffic self.old self.new }
-        ensures end { (count : ℕ) × WroteTimes W.writes count recorder.old recorder.new
+        ensures end { (count : ℕ)
+            × RunsTurns S.passes (DoesNext T.told S.traffic S.sockets S.passes S.tells S.receives S.hears S.answers) W.writes
+            count self.old recorder.old self.new recorder.new
             × ((EndsAt self.new.end self.new.play.gateway.value true) ⊎ (count ≡ 2 ^ 64 - 1)) }
     {
         // It begins now: what its start took isn't a pause.

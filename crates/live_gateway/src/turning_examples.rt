@@ -1,7 +1,7 @@
 //! Worked examples of what a turn does, as theorems.
 #![tactic(auto)]
 
-ghost use Rattle.std.specs.Prelude.{◌≡◌, ◌⊎◌, ◌∷◌, codes, true, false, ℕ, List, [], Some, None, is_some, Result, Ok, Err};
+ghost use Rattle.std.specs.Prelude.{◌≡◌, ◌⊎◌, ◌∷◌, ⊤, codes, true, false, ℕ, List, [], Some, None, is_some, Result, Ok, Err};
 ghost use Rattle.gateway_rules.specs.declared.refusal.Refusal.{Refusal as Why};
 ghost use Rattle.live_ends.specs.declared.ending.CommonEnding.{CommonEnding};
 ghost use Rattle.live_ends.specs.declared.ending.CommonEnding.TheVariants.{OutOfMemory};
@@ -16,10 +16,10 @@ ghost use Rattle.live_gateway.specs.Example.{one, lost_one, once, failed, LooksN
 ghost use Rattle.live_gateway.specs.Exchanging.{heard_in, mark_of, is_lost, faults_by, faultless, with_unreceived, LosesOver};
 ghost use Rattle.traces.specs.declared.telling.Mark.TheVariants.{Unsent, Lost};
 ghost use Rattle.live_gateway.specs.Leaving.{OnlyShows, OnlyPlays, OnlyLogs, OnlyHears, OnlyReplies, OnlyWaits, MayTake, DoesVisit};
-ghost use Rattle.live_gateway.specs.Turning.{ready_at};
+ghost use Rattle.live_gateway.specs.Turning.{ready_at, RunsTurns};
 ghost use Rattle.surroundings.specs.Sending.{Traffic};
 
-/// Where nothing changes of what may, nothing does. Neither a wait nor a visitor changes how much was read.
+/// Where nothing changes of what may, nothing does. Neither a wait nor a visitor changes how much was read; without a turn the end stays.
 pub fn what_stays_has_examples()
     ensures shown { (was is : Exchange ℕ) → OnlyShows was is → is.journal.board ≡ was.journal.board → is ≡ was }
     ensures played { (was is : Desk ℕ ℕ) → OnlyPlays was is → is.play ≡ was.play → is.exchange ≡ was.exchange → is ≡ was }
@@ -30,6 +30,7 @@ pub fn what_stays_has_examples()
     ensures waited { (was is : Desk ℕ ℕ) → OnlyWaits was is → (is.exchange.read ≡ was.exchange.read) × (is.end ≡ was.end) }
     ensures visited { (traffic : ℕ → Traffic) (was is : Desk ℕ ℕ) → DoesVisit traffic was is → is.exchange.read ≡ was.exchange.read }
     ensures unasked { (desk : Desk ℕ ℕ) → MayTake desk.exchange.journal desk.lines true desk.exchange.journal desk.lines true }
+    ensures unrun { (was is : Desk ℕ ℕ) → RunsTurns {W = ℕ} (λ s told. ⊤) (λ a b. ⊤) (λ a b. ⊤) 0 was 7 is 7 → is.end ≡ was.end }
 {}
 
 /// Who types may have something where a line is left, or as was told of their socket; the network where one that spoils it hands something

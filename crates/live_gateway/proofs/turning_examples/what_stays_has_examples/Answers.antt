@@ -35,3 +35,7 @@ returns-clause-visited c = λ traffic was is visit.
 
 pub returns-clause-unasked : goal.returns-clause-unasked
 returns-clause-unasked c = λ desk. inl (refl, refl, refl)
+
+pub returns-clause-unrun : goal.returns-clause-unrun
+returns-clause-unrun c = λ was is runs.
+    ap (λ (at : Desk ℕ ℕ × ℕ). at.0.end) runs.turns ∙ ap (λ (desk : Desk ℕ ℕ). desk.end) runs.starts.rest

@@ -1,7 +1,11 @@
 use Rattle.live_gateway.specs.Desk.{GoesOn}
-use Rattle.live_gateway.specs.Ending.{WroteTimes}
+use Rattle.live_gateway.specs.Turning.{DoesNext, RunsTurns}
 use Rattle.live_gateway.proofs.desk.Desk.run.Given as goal
 
 abbrev pub invariant-loop : goal.invariant-loop
 invariant-loop g l =
-    GoesOn g.T.Teller.told g.S.Surroundings.traffic l.fn.self l.self × WroteTimes g.W.Recorder.writes l.counter l.fn.recorder l.recorder
+    GoesOn g.T.Teller.told g.S.Surroundings.traffic l.fn.self l.self
+    × RunsTurns g.S.Surroundings.passes
+    (DoesNext g.T.Teller.told g.S.Surroundings.traffic g.S.Surroundings.sockets g.S.Surroundings.passes g.S.Surroundings.tells
+    g.S.Surroundings.receives g.S.Surroundings.hears g.S.Surroundings.answers) g.W.Recorder.writes
+    l.counter l.fn.self l.fn.recorder l.self l.recorder
