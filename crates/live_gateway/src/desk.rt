@@ -3,6 +3,7 @@
 
 ghost use Rattle.std.specs.Prelude.{◌≡◌, ◌↔◌, ◌<◌, ◌≤◌, ◌⊎◌, ◌-◌, ◌^◌, ℕ, true, false, not, codes, List, [], Option, IsTrue, IfOk};
 ghost use Rattle.turns.specs.Runs.{is_end};
+ghost use Rattle.turns.specs.Schedule.{opening};
 ghost use Rattle.plain_machine.specs.Event.{GatewayEvent, tick};
 ghost use Rattle.plain_machine.specs.Lists.{plain};
 ghost use Rattle.gateway_core.specs.Stands.{Stands};
@@ -116,6 +117,7 @@ impl<S: Surroundings + Drop, T: Teller + Drop> Desk<S, T> {
         ensures lines { result.lines ≡ lines }
         ensures admission { result.admission ≡ admission }
         ensures end { result.end ≡ end }
+        ensures begins { (result.is_of_page ≡ false) × (result.schedule ≡ opening 0) }
     {
         Desk {
             alloc,

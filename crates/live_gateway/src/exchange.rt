@@ -6,9 +6,9 @@ ghost use Rattle.message_counts.specs.Places.{with_sends};
 ghost use Rattle.message_counts.specs.SentCounting.{tally_in, with_sent, with_given_up};
 ghost use Rattle.message_counts.specs.Tallying.{with_handed_out, CountsNoDatagram};
 ghost use Rattle.message_counts.specs.Waiting.{unanswered_after};
-ghost use Rattle.page_answers.specs.declared.ring.Kind.TheVariants.{Sent as OfSent};
+ghost use Rattle.page_answers.specs.declared.ring.Kind.TheVariants.{Sent as OfSent, Received as OfReceived};
 ghost use Rattle.told_messages.specs.Labelling.{sent_label};
-ghost use Rattle.told_messages.specs.Showing.{GoesOn, HappenedWith, Turned};
+ghost use Rattle.told_messages.specs.Showing.{GoesOn, Happened, HappenedWith, Turned};
 ghost use Rattle.surroundings.specs.declared.surroundings.Fault.{Fault};
 ghost use Rattle.surroundings.specs.Hearing.{Hears};
 ghost use Rattle.surroundings.specs.Sending.{Sent, Grows, found_by};
@@ -274,6 +274,8 @@ impl<S: Surroundings + Drop> Exchange<S> {
         ensures read { self.new.read ≡ self.old.read }
         ensures turn { IsSameTurn self.old self.new }
         ensures noted { NotesArrival admission.now self.old.journal self.old.now.time source self.new.journal }
+        ensures shown { is_heard admission.now source ≡ true → GoesOn (Happened self.old.now.clock OfReceived source bytes.now)
+            self.old.journal.board self.new.journal.board }
     {
         if !admission.hears(source) {
             self.turn_away(source);
