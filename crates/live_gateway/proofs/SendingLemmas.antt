@@ -78,10 +78,10 @@ lost_nowhere source bytes now lost old new none still so =
     (subst (λ (o : Option (Box SpoiltWay)). LosesOver source bytes now lost None o) (sym still) so)
 
 -- what a network draws but that it is lost
-pub not_lost : {E : Type 0} (fate : Fate) → (fate ≡ Lost → ⊥) → false ≡ is_lost {E = E} (Ok fate)
-not_lost Lost other = absurd (other refl)
-not_lost (Once late) other = refl
-not_lost (Twice first second) other = refl
+pub not_lost : (E : Type 0) (fate : Fate) → (fate ≡ Lost → ⊥) → false ≡ is_lost {E = E} (Ok fate)
+not_lost E Lost other = absurd (other refl)
+not_lost E (Once late) other = refl
+not_lost E (Twice first second) other = refl
 
 -- ---- what is due
 

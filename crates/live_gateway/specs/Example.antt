@@ -37,7 +37,7 @@ FindsNothing looked was is = TriesFound (λ told. None) (λ around. untold) look
 
 -- a desk ended so, and who writes what was recorded was told these words last, if any
 abbrev pub EndsSaying : List ℕ → Desk ℕ Trace → CommonEnding → Type 0
-EndsSaying last desk ending = EndsWith (λ words before written after. words ≡ last) desk 0 0 ending
+EndsSaying last desk ending = EndsWith {W = ℕ} (λ words before written after. words ≡ last) desk 0 0 ending
 
 -- a network loses it, or it comes; the surroundings failed
 abbrev pub lost_one : Result Fate ℕ

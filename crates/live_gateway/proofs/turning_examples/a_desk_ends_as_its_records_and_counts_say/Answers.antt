@@ -8,4 +8,4 @@ returns-clause-refused c = λ desk ending refused ends.
     refused_ends (λ (words : List ℕ) (before : ℕ) (written : Written) (after : ℕ). words ≡ []) desk 0 0 ending refused ends
 
 pub returns-clause-counted : goal.returns-clause-counted
-returns-clause-counted c = λ last desk ending ends. counts_end last desk 0 0 ending ends
+returns-clause-counted c = λ last desk ending ends. counts_end {W = ℕ} last desk 0 0 ending ends

@@ -18,7 +18,7 @@ returns-in_default-clause-lost g c =
     let next = with_value c.in-Some.network c.offer_in.new.self in
     lost_over c.args.source c.args.bytes.now c.args.self.now.now.clock false c.args.self.now.network (Some next) c.in-Some.network next (Ok c.in-Ok.fate)
     c.in-Some.is refl (offers_so _ _ _ _ _ _ _ (rw (c.deref_mut.ensures.value) at c.in-Ok.ensures.offers))
-    (not_lost c.in-Ok.fate c.in_default.not-Lost)
+    (not_lost ⊤ c.in-Ok.fate c.in_default.not-Lost)
 
 pub returns-in-Err-clause-lost : goal.returns-in-Err-clause-lost
 returns-in-Err-clause-lost g c =

@@ -15,7 +15,7 @@ returns-in_err-source-clause-came g c =
 
 pub returns-in_err-source-clause-counts : goal.returns-in_err-source-clause-counts
 returns-in_err-source-clause-counts g c =
-    read_behind_others _ _ _ _ _ _ _ _ _ _ c.requires c.handed_over.ensures.read c.handed_over.ensures.faults c.read_socket.ensures.counts refl refl
+    read_behind_others _ c.args.admission.now _ _ _ _ _ _ _ _ c.requires c.handed_over.ensures.read c.handed_over.ensures.faults c.read_socket.ensures.counts refl refl
 
 pub returns-in_err-source-clause-turn : goal.returns-in_err-source-clause-turn
 returns-in_err-source-clause-turn g c =
@@ -29,7 +29,7 @@ returns-then-not-hears-clause-came g c =
 
 pub returns-then-not-hears-clause-counts : goal.returns-then-not-hears-clause-counts
 returns-then-not-hears-clause-counts g c =
-    read_behind_others _ _ _ _ _ _ _ None _ _ c.requires c.handed_over.ensures.read c.handed_over.ensures.faults c.read_socket.ensures.counts
+    read_behind_others _ c.args.admission.now _ _ _ _ _ None _ _ c.requires c.handed_over.ensures.read c.handed_over.ensures.faults c.read_socket.ensures.counts
     c.turn_away.ensures.read c.turn_away.ensures.faults
 
 pub returns-then-not-hears-clause-turn : goal.returns-then-not-hears-clause-turn
@@ -45,7 +45,7 @@ returns-clause-came g c =
 
 pub returns-clause-counts : goal.returns-clause-counts
 returns-clause-counts g c =
-    read_behind_others _ _ _ _ _ _ _ _ _ _ c.requires c.handed_over.ensures.read c.handed_over.ensures.faults c.read_socket.ensures.counts
+    read_behind_others _ c.args.admission.now _ _ _ _ _ _ _ _ c.requires c.handed_over.ensures.read c.handed_over.ensures.faults c.read_socket.ensures.counts
     c.pass.ensures.read c.pass.ensures.faults
 
 pub returns-clause-turn : goal.returns-clause-turn
