@@ -1,5 +1,5 @@
 -- What of an exchange, and of a desk, stays as it was.
-use Rattle.std.proofs.Common.{◌≡◌, ◌⊎◌, inl, inr, ℕ, Bool, List, Option, refl, sym, ◌∙◌, ap, subst}
+use Rattle.std.proofs.Common.{◌≡◌, ◌⊎◌, inl, inr, ℕ, Bool, List, Option, refl, ◌∙◌, ap, subst}
 use Rattle.std.specs.Prelude.{nat_lt, if◌then◌else◌, true, false, Result, Ok, Err}
 use Rattle.std.specs.Global.{Box}
 use Rattle.message_counts.specs.declared.reporting.Faults.{Faults}
@@ -81,11 +81,11 @@ starts_so {S} {T} was looked schedule first moment told same starts says =
 
 -- that the clock failed is no input
 still_refused : {E : Type 0} (clock : Result ℕ E) (faults : Faults) → (faults_by clock faults).refused ≡ faults.refused
+still_refused (Err fault) faults = refl
 still_refused (Ok moment) faults = by_moment (nat_lt moment first_unread) where
   by_moment : (b : Bool) → (if b then faults else with_unreceived faults).refused ≡ faults.refused
   by_moment true = refl
   by_moment false = refl
-still_refused (Err fault) faults = refl
 
 -- as a turn begins nothing goes over it, and no input is refused
 pub begins_same : {S T E : Type 0} (told : T → Option (List ℕ)) (traffic : S → Traffic) (was begun : Desk S T) (clock : Result ℕ E)

@@ -1,4 +1,4 @@
-use Rattle.std.proofs.Common.{refl}
+use Rattle.std.proofs.Common.{false, refl}
 use Rattle.live_gateway.proofs.DeskLemmas.{between}
 use Rattle.live_gateway.proofs.FrameLemmas.{made_of, with_exchange, page_same}
 use Rattle.live_gateway.proofs.desk.Desk.command.Goals as goal
