@@ -1,5 +1,5 @@
 //! Worked examples of what a report of checks has, as theorems: each sentence of a definition has one that a slip in it breaks.
-#![tactic(auto, unfolding(mg_bytes::specs::Lines::cut, piggyback::specs::Parts::parts_of))]
+#![tactic(auto, unfolding(piggyback::proofs::Computing::on_examples))]
 
 ghost use Rattle.std.specs.Prelude.{◌≡◌, ℕ, List, [], ◌∷◌, codes, Some};
 ghost use Rattle.std.specs.Borrow.{Bor};
