@@ -2,3 +2,4 @@ pub mod Computing
 pub mod VerdictLaws
 pub mod BarLemmas
 pub mod MailLemmas
+pub mod PartLemmas

@@ -4,3 +4,4 @@ pub mod Hearing
 pub mod Waiting
 pub mod Reporting
 pub mod Unasked
+pub mod Steps

@@ -1,4 +1,7 @@
 //! A check, as its text says it.
+ghost use Rattle.std.specs.Prelude.{◌≡◌, ◌<◌};
+ghost use Rattle.gateway_checks.specs.Steps.{before, behind};
+
 use crate::checks::{CHECKS, UNDO_BOTH, UNDO_CALL, UNDO_REQUEST, UNDO_TELEPHONE};
 use crate::notices::{NOTICES, TELEPHONES};
 
@@ -19,6 +22,19 @@ pub struct Check<'a> {
 /// What stands before and behind the first of these separators; all before it where there is none.
 pub(crate) fn parted<'a>(text: &'a str, separator: &str) -> (&'a str, &'a str) {
     text.split_once(separator).unwrap_or((text, ""))
+}
+
+/// What stands before and behind the first of this sign; all before it where there is none.
+#[tactic(auto, using(crate::proofs::PartLemmas::all_before, crate::proofs::PartLemmas::none_behind))]
+pub(crate) fn parted_at(text: &str, sign: char) -> (&str, &str)
+    requires { sign < 128 }
+    ensures before { result.0.now ≡ before sign text.now }
+    ensures behind { result.1.now ≡ behind sign text.now }
+{
+    match text.split_once(sign) {
+        Some((front, rest)) => (front, rest),
+        None => (text, ""),
+    }
 }
 
 // The steps that stand for what stands behind `undo`.

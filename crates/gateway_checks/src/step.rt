@@ -1,6 +1,10 @@
 //! A step of a check, as a line of its text says it. The heads of `checks.rt` and `notices.rt` have them all.
-use crate::check::parted;
+ghost use Rattle.std.specs.Prelude.{◌≡◌, map};
+ghost use Rattle.gateway_checks.specs.Steps.{asked_in, asked_by, number_of, IsStepOf};
+
+use crate::check::parted_at;
 use crate::socket::Socket;
+use mg_bytes::decimal;
 
 /// What a step asks for, by the first word of its line.
 #[derive(Clone, Copy)]
@@ -59,6 +63,7 @@ pub(crate) struct Step<'a> {
     pub number: u64,
 }
 
+// The words with which lines begin, one a row: what each asks for, and of which socket.
 const WORDS: [(&str, Asks, Socket); 22] = [
     (">", Asks::Send, Socket::First),
     (">>", Asks::Send, Socket::Second),
@@ -84,20 +89,41 @@ const WORDS: [(&str, Asks, Socket); 22] = [
     ("restart", Asks::Restart, Socket::First),
 ];
 
-// What a word asks for, and of which socket.
-fn asked_by(word: &str) -> (Asks, Socket) {
-    for (name, asks, at) in WORDS.iter() {
-        if *name == word {
-            return (*asks, *at);
+// By the row of its word.
+fn asked_in(rows: &[(&str, Asks, Socket)], word: &str) -> (Asks, Socket)
+    ensures { result ≡ asked_in (map (λ row. (row.0.now, (row.1, row.2))) rows.entry.now) word.now }
+{
+    let mut rows = rows;
+    while let [row, others @ ..] = rows {
+        if row.0 == word {
+            return (row.1, row.2);
         }
+        rows = others;
     }
     (Asks::Unknown, Socket::First)
 }
 
+// What a word asks for, and of which socket.
+#[tactic(auto, unfolding(crate::specs::Steps::asked_by))]
+fn asked_by(word: &str) -> (Asks, Socket)
+    ensures { result ≡ asked_by word.now }
+{
+    asked_in(&WORDS, word)
+}
+
+// The number that a word spells; 0 where it spells none.
+fn number_of(word: &str) -> u64
+    ensures { result ≡ number_of word.now }
+{
+    decimal(word.as_bytes()).unwrap_or(0)
+}
+
 /// The step that a line is.
-pub(crate) fn step_of(line: &str) -> Step<'_> {
-    let (word, rest) = parted(line, " ");
-    let (first, second) = parted(rest, " ");
+pub(crate) fn step_of(line: &str) -> Step<'_>
+    ensures { IsStepOf line.now result }
+{
+    let (word, rest) = parted_at(line, ' ');
+    let (first, second) = parted_at(rest, ' ');
     let (asks, at) = asked_by(word);
     Step {
         asks,
@@ -105,6 +131,6 @@ pub(crate) fn step_of(line: &str) -> Step<'_> {
         rest,
         first,
         second,
-        number: first.parse::<u64>().unwrap_or(0),
+        number: number_of(first),
     }
 }
