@@ -53,7 +53,7 @@ unfolding is_among
 among_last code text e =
     any_last (is_code code) text ∙ ap (list_any (is_code code)) (sym (split_words text ∙ ap (words_from text) (sym e)))
 
--- what stands behind a bar is shorter
+-- what stands behind a sign is shorter
 abbrev IsShorter : List ℕ → Option (List ℕ × List ℕ) → Type 0
 IsShorter text None = ⊤
 IsShorter text (Some sides) = length sides.1 < length text
@@ -63,14 +63,14 @@ shorter_on : (b : ℕ) (bs : List ℕ) (found : Option (List ℕ × List ℕ)) �
 shorter_on b bs None h = tt
 shorter_on b bs (Some sides) h = omega arith
 
-is_shorter : (text : List ℕ) → IsShorter text (split_once 124 text)
+is_shorter : (sign : ℕ) (text : List ℕ) → IsShorter text (split_once sign text)
 unfolding split_once
-is_shorter [] = tt
-is_shorter (b ∷ bs) =
+is_shorter sign [] = tt
+is_shorter sign (b ∷ bs) =
     ⊎_elim
-    (λ (h : eqb b 124 ≡ true). rw h (omega arith))
-    (λ (h : eqb b 124 ≡ false). rw h (shorter_on b bs (split_once 124 bs) (is_shorter bs)))
-    (cases_Bool (eqb b 124))
+    (λ (h : eqb b sign ≡ true). rw h (omega arith))
+    (λ (h : eqb b sign ≡ false). rw h (shorter_on b bs (split_once sign bs) (is_shorter sign bs)))
+    (cases_Bool (eqb b sign))
 
-pub rest_shorter : (text word rest : List ℕ) → Some (word, rest) ≡ split_once 124 text → length rest < length text
-rest_shorter text word rest e = subst (IsShorter text) (sym e) (is_shorter text)
+pub rest_shorter : (sign : ℕ) (text word rest : List ℕ) → Some (word, rest) ≡ split_once sign text → length rest < length text
+rest_shorter sign text word rest e = subst (IsShorter text) (sym e) (is_shorter sign text)

@@ -3,3 +3,4 @@ pub mod VerdictLaws
 pub mod BarLemmas
 pub mod MailLemmas
 pub mod PartLemmas
+pub mod PieceLemmas

@@ -5,3 +5,4 @@ pub mod Waiting
 pub mod Reporting
 pub mod Unasked
 pub mod Steps
+pub mod Naming

@@ -1,10 +1,14 @@
 //! What the names in braces stand for.
-ghost use Rattle.std.specs.Prelude.{◌≡◌};
+ghost use Rattle.std.specs.Prelude.{◌≡◌, ◌++◌, ◌∷◌, [], Some, IfOk, OnOk, decimal as digits_of, flat_map, map, option_copied, string_bytes};
+ghost use Rattle.std.specs.List.{slice_split};
+ghost use Rattle.std.specs.Str.{str_to_ascii_uppercase};
+ghost use Rattle.std.specs.Str.Lossy.{utf8_lossy};
 ghost use Rattle.gateway_checks.specs.Hearing.{is_own};
+ghost use Rattle.gateway_checks.specs.Naming.{meaning_in, meaning_of, value_kept, kept_or_name, endpoint_name, upper_endpoint_name};
+ghost use Rattle.gateway_checks.specs.Naming.{value_meant, is_brace, piece_filled, filled_by, value_under, filled, id_by, id_in, differ, names_kept, kept_with};
 
-use crate::check::parted;
 use crate::texts::text_of;
-use mg_bytes::{Draft, OutOfMemory};
+use mg_bytes::{Draft, OutOfMemory, decimal, split_once};
 use std::alloc::Global;
 
 // A session description: G.711 to and from the machine's own address.
@@ -42,34 +46,63 @@ const NAMES: [(&str, Meaning); 9] = [
     ("sdp", Meaning::Description),
 ];
 
-fn meaning_of(text: &str) -> Meaning {
-    for (name, meaning) in NAMES.iter() {
-        if *name == text {
-            return *meaning;
+// By the row of its name.
+fn meaning_in(rows: &[(&str, Meaning)], name: &[u8]) -> Meaning
+    ensures { result ≡ meaning_in (map (λ row. (row.0.now, row.1)) rows.entry.now) name.now }
+{
+    let mut rows = rows;
+    while let [row, others @ ..] = rows {
+        if row.0.as_bytes() == name {
+            return row.1;
         }
+        rows = others;
     }
     Meaning::Kept
 }
 
+// What a name means.
+#[tactic(auto, unfolding(crate::specs::Naming::meaning_of))]
+fn meaning_of(name: &[u8]) -> Meaning
+    ensures { result ≡ meaning_of name.now }
+{
+    meaning_in(&NAMES, name)
+}
+
 // Puts an endpoint's name.
-fn put_endpoint(out: &mut Draft, local: &str, domain: &str) {
+fn put_endpoint(out: &mut Draft, local: &str, domain: &str)
+    ensures { out.new ≡ out.old ++ endpoint_name local.now domain.now }
+{
     out.put(local.as_bytes());
-    out.put_byte(b'@');
+    out.put(b"@");
     out.put(domain.as_bytes());
 }
 
 // Puts a text in upper case.
-fn put_upper(out: &mut Draft, text: &str) {
-    for byte in text.as_bytes() {
+fn put_upper(out: &mut Draft, text: &[u8])
+    ensures { out.new ≡ out.old ++ str_to_ascii_uppercase text.now }
+{
+    for byte in text {
         out.put_byte(byte.to_ascii_uppercase());
     }
 }
 
 // Puts an endpoint's name in upper case.
-fn put_upper_endpoint(out: &mut Draft, local: &str, domain: &str) {
-    put_upper(out, local);
-    out.put_byte(b'@');
-    put_upper(out, domain);
+fn put_upper_endpoint(out: &mut Draft, local: &str, domain: &str)
+    ensures { out.new ≡ out.old ++ upper_endpoint_name local.now domain.now }
+{
+    put_upper(out, local.as_bytes());
+    out.put(b"@");
+    put_upper(out, domain.as_bytes());
+}
+
+// The id that a number is; 0 where it is none, or is too large for one.
+fn id_by(number: Option<u64>) -> u32
+    ensures { result ≡ id_by number }
+{
+    match number {
+        Some(number) if number <= u64::from(u32::MAX) => number as u32,
+        Some(_) | None => 0,
+    }
 }
 
 /// A value that an answer gave, and its name.
@@ -105,7 +138,11 @@ pub struct Names<'a> {
 
 impl<'a> Names<'a> {
     /// The names of a check at these places; its transaction ids are the nine behind `base`.
-    pub fn new(alloc: Global, places: &Places<'a>, base: u32) -> Names<'a> {
+    pub fn new(alloc: Global, places: &Places<'a>, base: u32) -> Names<'a>
+        ensures places { result.places ≡ places.now }
+        ensures base { result.base ≡ base }
+        ensures kept { result.kept.items ≡ [] }
+    {
         Names {
             alloc,
             places: *places,
@@ -129,38 +166,60 @@ impl<'a> Names<'a> {
     }
 
     /// Gives a value a name.
-    pub(crate) fn keep(&mut self, name: &'a str, value: String) -> Result<(), OutOfMemory> {
+    pub(crate) fn keep(&mut self, name: &'a str, value: String) -> Result<(), OutOfMemory>
+        ensures kept { OnOk result (names_kept self.new ≡ kept_with name.now (Some (string_bytes value)) (names_kept self.old)) }
+        ensures rest { self.new ≡ record self.old { kept = self.new.kept } }
+    {
         self.kept.push(Kept { name, value })?;
         Ok(())
     }
 
     /// Gives an id a name.
-    pub(crate) fn keep_id(&mut self, name: &'a str, id: u32) -> Result<(), OutOfMemory> {
+    pub(crate) fn keep_id(&mut self, name: &'a str, id: u32) -> Result<(), OutOfMemory>
+        ensures kept { OnOk result (names_kept self.new ≡ kept_with name.now (Some (utf8_lossy (digits_of id))) (names_kept self.old)) }
+        ensures rest { self.new ≡ record self.old { kept = self.new.kept } }
+    {
         let mut digits = Draft::new(self.alloc);
         digits.put_decimal(u64::from(id));
         let value = text_of(self.alloc, digits)?;
-        self.keep(name, value)
+        self.keep(name, value)?;
+        Ok(())
+    }
+
+    // The value that was kept first under a name.
+    #[tactic(auto, unfolding(crate::specs::Naming::value_kept))]
+    fn value_kept(&self, name: &[u8]) -> Option<&[u8]>
+        ensures { option_copied result ≡ value_kept name.now (names_kept self.now) }
+    {
+        for kept in &self.kept {
+            if kept.name.as_bytes() == name {
+                return Some(kept.value.as_bytes());
+            }
+        }
+        None
     }
 
     // Puts the value that has a name; the name in its braces where none has it.
-    fn put_kept(&self, out: &mut Draft, name: &str) {
-        for kept in &self.kept {
-            if kept.name == name {
-                return out.put(kept.value.as_bytes());
+    fn put_kept(&self, out: &mut Draft, name: &[u8])
+        ensures { out.new ≡ out.old ++ kept_or_name name.now (value_kept name.now (names_kept self.now)) }
+    {
+        match self.value_kept(name) {
+            Some(value) => out.put(value),
+            None => {
+                out.put(b"{");
+                out.put(name);
+                out.put(b"}");
             }
         }
-        out.put(b"{");
-        out.put(name.as_bytes());
-        out.put(b"}");
     }
 
-    // Puts what a name stands for.
-    fn put(&self, out: &mut Draft, name: &str) {
-        if let Ok(digit) = name.parse::<u32>() {
-            return out.put_decimal(u64::from(self.base.saturating_add(digit)));
-        }
+    // Puts what a name stands for that means this.
+    fn put_meant(&self, out: &mut Draft, name: &[u8], meaning: Meaning)
+        ensures { out.new ≡ out.old
+            ++ value_meant self.now.base self.now.places (names_kept self.now) name.now meaning }
+    {
         let places = &self.places;
-        match meaning_of(name) {
+        match meaning {
             Meaning::Line => put_endpoint(out, places.local, places.domain),
             Meaning::UpperLine => put_upper_endpoint(out, places.local, places.domain),
             Meaning::Other => put_endpoint(out, places.other, places.domain),
@@ -174,27 +233,76 @@ impl<'a> Names<'a> {
         }
     }
 
-    /// A text with what its names stand for.
-    pub(crate) fn filled(&self, text: &str) -> Result<String, OutOfMemory> {
-        let mut out = Draft::new(self.alloc);
-        let mut pieces = text.split('{');
-        out.put(pieces.next().unwrap_or("").as_bytes());
-        for piece in pieces {
-            let (name, after) = parted(piece, "}");
-            self.put(&mut out, name);
-            out.put(after.as_bytes());
+    // Puts what a name stands for: a number is that of one of the check's own ids.
+    fn put(&self, out: &mut Draft, name: &[u8])
+        ensures { out.new ≡ out.old ++ value_under self.now name.now }
+    {
+        match decimal(name) {
+            Some(number) => out.put_decimal(u64::from(self.base).saturating_add(number)),
+            None => self.put_meant(out, name, meaning_of(name)),
         }
-        text_of(self.alloc, out)
+    }
+
+    // Puts what stands behind a brace: a name up to the brace that closes it, and what follows.
+    fn put_piece(&self, out: &mut Draft, piece: &[u8])
+        ensures { out.new ≡ out.old ++ piece_filled (value_under self.now) piece.now }
+    {
+        match split_once(piece, b'}') {
+            Some((name, after)) => {
+                self.put(out, name);
+                out.put(after);
+            }
+            None => self.put(out, piece),
+        }
+    }
+
+    // Puts what stands behind the first brace, which may hold others.
+    fn put_pieces(&self, out: &mut Draft, text: &[u8])
+        ensures { out.new ≡ out.old ++ flat_map (piece_filled (value_under self.now)) (slice_split is_brace text.now) }
+    {
+        let mut rest = text;
+        while let Some((piece, after)) = split_once(rest, b'{') {
+            self.put_piece(out, piece);
+            rest = after;
+        }
+        self.put_piece(out, rest);
+    }
+
+    // Puts a text with what its names stand for.
+    #[tactic(auto, using(crate::proofs::PieceLemmas::fills_text))]
+    fn fill(&self, out: &mut Draft, text: &[u8])
+        ensures { out.new ≡ out.old ++ filled_by (value_under self.now) text.now }
+    {
+        match split_once(text, b'{') {
+            Some((front, pieces)) => {
+                out.put(front);
+                self.put_pieces(out, pieces);
+            }
+            None => out.put(text),
+        }
+    }
+
+    /// A text with what its names stand for.
+    pub(crate) fn filled(&self, text: &str) -> Result<String, OutOfMemory>
+        ensures { IfOk result (λ out. string_bytes out ≡ filled self.now text.now) }
+    {
+        let mut out = Draft::new(self.alloc);
+        self.fill(&mut out, text.as_bytes());
+        Ok(text_of(self.alloc, out)?)
     }
 
     /// The transaction id that a text says; 0 where it says none.
-    pub(crate) fn id_in(&self, text: &str) -> Result<u32, OutOfMemory> {
+    pub(crate) fn id_in(&self, text: &str) -> Result<u32, OutOfMemory>
+        ensures { IfOk result (λ id. id ≡ id_in self.now text.now) }
+    {
         let digits = self.filled(text)?;
-        Ok(digits.parse::<u32>().unwrap_or(0))
+        Ok(id_by(decimal(digits.as_bytes())))
     }
 
     /// Whether two texts stand for different values.
-    pub(crate) fn differ(&self, first: &str, second: &str) -> Result<bool, OutOfMemory> {
+    pub(crate) fn differ(&self, first: &str, second: &str) -> Result<bool, OutOfMemory>
+        ensures { IfOk result (λ differs. differs ≡ differ self.now first.now second.now) }
+    {
         let first = self.filled(first)?;
         let second = self.filled(second)?;
         Ok(first.as_str() != second.as_str())

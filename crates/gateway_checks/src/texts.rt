@@ -1,11 +1,16 @@
 //! Texts that are put together as drafts.
+ghost use Rattle.std.specs.Prelude.{◌≡◌, IfOk, string_bytes};
+ghost use Rattle.std.specs.Str.Lossy.{utf8_lossy};
+
 use mg_bytes::{Draft, OutOfMemory};
 use std::alloc::Global;
 
 /// All that was put, as a text for people. Its only error is want of memory, also for what was put.
-pub(crate) fn text_of(alloc: Global, draft: Draft) -> Result<String, OutOfMemory> {
+pub(crate) fn text_of(alloc: Global, draft: Draft) -> Result<String, OutOfMemory>
+    ensures { IfOk result (λ text. string_bytes text ≡ utf8_lossy draft) }
+{
     let bytes = draft.end()?;
-    String::from_utf8_lossy(alloc, bytes.as_slice())
+    Ok(String::from_utf8_lossy(alloc, bytes.as_slice())?)
 }
 
 /// Appends all that was put to a text. After an error, which is for want of memory only, also for what was put, `out` is as it was.

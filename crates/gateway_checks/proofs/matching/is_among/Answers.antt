@@ -3,7 +3,7 @@ use Rattle.gateway_checks.proofs.BarLemmas.{among_first, among_more, rest_shorte
 use Rattle.gateway_checks.proofs.matching.is_among.Goals as goal
 
 pub loop-word-smaller : goal.loop-word-smaller
-loop-word-smaller c = rest_shorter _ _ _ c.in-Some.ensures
+loop-word-smaller c = rest_shorter _ _ _ _ c.in-Some.ensures
 
 pub loop-word-preserved : goal.loop-word-preserved
 loop-word-preserved c =
