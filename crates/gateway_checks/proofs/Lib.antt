@@ -4,3 +4,4 @@ pub mod BarLemmas
 pub mod MailLemmas
 pub mod PartLemmas
 pub mod PieceLemmas
+pub mod PlayLemmas

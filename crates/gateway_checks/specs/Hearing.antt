@@ -1,6 +1,8 @@
 -- What a text that comes is to a call agent, and what of a datagram waits for a step that asks for an answer.
-use Rattle.std.specs.Prelude.{ℕ, ◌-◌, Bool, true, false, ◌||◌, nat_le, nat_lt, if◌then◌else◌, List, [], ◌∷◌, ◌++◌, Option, Some, None}
+use Rattle.std.specs.Prelude.{ℕ, ◌-◌, Bool, true, false, ◌||◌, nat_le, nat_lt, if◌then◌else◌, List, [], ◌∷◌, ◌++◌, Option, Some, None, option_map}
+use Rattle.std.specs.Str.Lossy.{utf8_lossy}
 use Rattle.mgcp_text.specs.declared.message.Message.TheVariants.{Command, Response}
+use Rattle.mgcp_text.specs.Message.{params_in}
 use Rattle.mgcp_text.specs.Reading.{Outcome, message, no_header, bad_version, bad_body, read_text}
 use Rattle.gateway_checks.specs.declared.hearing.Heard.{Heard}
 use Rattle.gateway_checks.specs.declared.hearing.Heard.TheVariants as heard
@@ -10,6 +12,7 @@ use Rattle.gateway_checks.specs.declared.step.Asks.{Asks}
 use Rattle.gateway_checks.specs.declared.step.Asks.TheVariants as steps
 use Rattle.gateway_checks.specs.declared.step.Step.{Step}
 use Rattle.gateway_checks.specs.Judging.{is_provisional}
+use Rattle.gateway_checks.specs.Unasked.{value_in}
 
 -- behind a provisional response the answer is still to come (RFC 3435, 3.5.6)
 abbrev pub response_heard : ℕ → ℕ → Heard
@@ -22,6 +25,15 @@ heard_of (message (Response code id params body)) = response_heard code id
 heard_of no_header = heard.Nothing
 heard_of (bad_version id) = heard.Nothing
 heard_of (bad_body id) = heard.Nothing
+
+-- Values
+
+-- the value of the first parameter with this code in a text that is read so, as text for people; what is no message has none
+abbrev pub given_in : List ℕ → Outcome → Option (List ℕ)
+given_in code (message said) = option_map utf8_lossy (value_in code (params_in said))
+given_in code no_header = None
+given_in code (bad_version id) = None
+given_in code (bad_body id) = None
 
 -- Answers that wait
 

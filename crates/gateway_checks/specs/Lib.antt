@@ -6,3 +6,5 @@ pub mod Reporting
 pub mod Unasked
 pub mod Steps
 pub mod Naming
+pub mod Expecting
+pub mod Playing

@@ -1,6 +1,6 @@
 -- How what comes is matched with what a step expects.
-use Rattle.std.specs.Prelude.{ℕ, Bool, true, false, not, ◌&&◌, ◌||◌, ◌==◌, if◌then◌else◌, List, [], ◌∷◌, remove, Option, Some, None, slice_get}
-use Rattle.std.specs.List.{list_any, slice_split}
+use Rattle.std.specs.Prelude.{ℕ, ◌-◌, Bool, true, false, not, ◌&&◌, ◌||◌, ◌==◌, if◌then◌else◌, nat_eq, List, [], ◌∷◌, length, position, remove, Option, Some, None, slice_get}
+use Rattle.std.specs.List.{list_any, slice_split, starts_with}
 use Rattle.mg_bytes.specs.Case.{same_but_case}
 use Rattle.mg_bytes.specs.Numbers.{decimal_of}
 use Rattle.gateway_checks.specs.declared.socket.Socket.{Socket}
@@ -30,10 +30,23 @@ abbrev pub left_at : Option ℕ → List Arrived → List Arrived
 left_at None waiting = waiting
 left_at (Some place) waiting = remove waiting place
 
+-- the first answer to the command with this id that came to this socket
+unfoldable pub answer_for : Socket → ℕ → List Arrived → Option Arrived
+answer_for at id waiting = answer_at (position (is_of at id) waiting) waiting
+
 -- the text of the first answer to the command with this id; nothing before there is one
 unfoldable pub first_text : ℕ → List Arrived → List ℕ
 first_text id [] = []
 first_text id (arrived ∷ more) = if arrived.id == id then arrived.text.items else first_text id more
+
+-- the text of an answer, and nothing where there is none
+abbrev pub text_or_nothing : Option Arrived → List ℕ
+text_or_nothing None = []
+text_or_nothing (Some arrived) = arrived.text.items
+
+-- that of the last answer that a step has asked for
+abbrev pub last_text : List Arrived → List ℕ
+last_text taken = text_or_nothing (slice_get taken (length taken - 1))
 
 -- Return codes
 
@@ -67,3 +80,18 @@ has_value (Some value) is_any wanted = is_any || same_but_case value wanted
 abbrev pub has_another : Option (List ℕ) → List ℕ → Bool
 has_another None wanted = false
 has_another (Some value) wanted = not (same_but_case value wanted)
+
+-- it is there with this value or any, or, where another one is due, with another one
+abbrev pub has_due : Option (List ℕ) → Bool → List ℕ → Bool → Bool
+has_due given is_any wanted is_other = if is_other then has_another given wanted else has_value given is_any wanted
+
+-- Texts
+
+-- this text stands at the front of that one
+abbrev pub begins : List ℕ → List ℕ → Bool
+begins text whole = starts_with nat_eq whole text
+
+-- it stands somewhere in it
+abbrev pub holds : List ℕ → List ℕ → Bool
+holds text [] = begins text []
+holds text (b ∷ bs) = begins text (b ∷ bs) || holds text bs

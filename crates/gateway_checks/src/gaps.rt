@@ -1,5 +1,5 @@
 //! The gaps between the comings of one text, in ms.
-ghost use Rattle.std.specs.Prelude.{◌≡◌};
+ghost use Rattle.std.specs.Prelude.{◌≡◌, ◌||◌, not};
 ghost use Rattle.gateway_checks.specs.Unasked.{none_since, with_coming, has_grown};
 
 /// How often a text came again, its first gap and its last, and when it came last, in ms.
@@ -42,5 +42,12 @@ impl Gaps {
         ensures { result ≡ has_grown self.now }
     {
         u128::from(self.first) * 3 <= u128::from(self.last) * 2
+    }
+
+    /// Whether they are right, where they are to grow or not.
+    pub(crate) fn are_due(&self, grows: bool) -> bool
+        ensures { result ≡ (not grows || has_grown self.now) }
+    {
+        !grows || self.has_grown()
     }
 }

@@ -1,7 +1,7 @@
 //! What a text that comes is to a call agent.
-ghost use Rattle.std.specs.Prelude.{◌≡◌, IfOk};
+ghost use Rattle.std.specs.Prelude.{◌≡◌, IfOk, option_map, string_bytes};
 ghost use Rattle.mgcp_text.specs.Reading.{message as said, read_text};
-ghost use Rattle.gateway_checks.specs.Hearing.{heard_of};
+ghost use Rattle.gateway_checks.specs.Hearing.{heard_of, given_in};
 ghost use Rattle.gateway_checks.specs.Judging.{is_provisional};
 
 use mg_bytes::{Draft, OutOfMemory};
@@ -55,11 +55,9 @@ pub(crate) fn hear_text(alloc: Global, text: &[u8]) -> Result<Heard, OutOfMemory
 }
 
 // The value of the first parameter with this code.
-fn value_in(
-    alloc: Global,
-    message: &Message<'_>,
-    code: &str,
-) -> Result<Option<String>, OutOfMemory> {
+fn value_in(alloc: Global, message: &Message<'_>, code: &str) -> Result<Option<String>, OutOfMemory>
+    ensures { IfOk result (λ given. option_map string_bytes given ≡ given_in code.now (said message.now)) }
+{
     match param_at(code.as_bytes(), message.params()) {
         Some(param) => Ok(Some(String::from_utf8_lossy(alloc, param.value.as_slice())?)),
         None => Ok(None),
@@ -71,9 +69,11 @@ pub(crate) fn value_of(
     alloc: Global,
     text: &[u8],
     code: &str,
-) -> Result<Option<String>, OutOfMemory> {
+) -> Result<Option<String>, OutOfMemory>
+    ensures { IfOk result (λ given. option_map string_bytes given ≡ given_in code.now (read_text text.now)) }
+{
     match read_message(alloc, text) {
-        Ok(message) => value_in(alloc, &message, code),
+        Ok(message) => Ok(value_in(alloc, &message, code)?),
         Err(TextFault::OutOfMemory) => Err(AllocError),
         Err(_) => Ok(None),
     }

@@ -1,6 +1,6 @@
 //! The answers that came. What the gateway said by itself stands in `mailbox.rt`.
-ghost use Rattle.std.specs.Prelude.{◌≡◌, ◌++◌, ◌∷◌, [], OnOk, position};
-ghost use Rattle.gateway_checks.specs.Matching.{is_of, answer_at, left_at, first_text};
+ghost use Rattle.std.specs.Prelude.{◌≡◌, ◌==◌, ◌++◌, ◌∷◌, [], OnOk, position, vec_len};
+ghost use Rattle.gateway_checks.specs.Matching.{is_of, answer_at, left_at, first_text, last_text};
 
 use crate::socket::Socket;
 use mg_bytes::OutOfMemory;
@@ -53,7 +53,9 @@ impl Inbox {
     }
 
     /// Whether no answer waits.
-    pub fn is_empty(&self) -> bool {
+    pub fn is_empty(&self) -> bool
+        ensures { result ≡ (vec_len self.now.waiting == 0) }
+    {
         self.waiting.is_empty()
     }
 
@@ -70,6 +72,7 @@ impl Inbox {
     pub fn take(&mut self, at: Socket, id: u32) -> Option<Arrived>
         ensures found { result ≡ answer_at (position (is_of at id) self.old.waiting.items) self.old.waiting.items }
         ensures left { self.new.waiting.items ≡ left_at (position (is_of at id) self.old.waiting.items) self.old.waiting.items }
+        ensures taken { self.new.taken ≡ self.old.taken }
     {
         let place = self.place_of(at, id)?;
         if place >= self.waiting.len() {
@@ -79,13 +82,18 @@ impl Inbox {
     }
 
     /// A step has asked for an answer.
-    pub fn keep(&mut self, arrived: Arrived) -> Result<(), OutOfMemory> {
+    pub fn keep(&mut self, arrived: Arrived) -> Result<(), OutOfMemory>
+        ensures taken { OnOk result (self.new.taken.items ≡ self.old.taken.items ++ arrived ∷ []) }
+        ensures waiting { self.new.waiting ≡ self.old.waiting }
+    {
         self.taken.push(arrived)?;
         Ok(())
     }
 
     /// The last answer that a step has asked for; empty before one has.
-    pub fn last(&self) -> &[u8] {
+    pub fn last(&self) -> &[u8]
+        ensures { result.now ≡ last_text self.now.taken.items }
+    {
         match self.taken.as_slice().last() {
             Some(arrived) => arrived.text.as_slice(),
             None => &[],

@@ -10,6 +10,7 @@ mod check;
 mod checks;
 mod dialogue;
 pub mod examples;
+mod expecting;
 mod gaps;
 mod hearing;
 mod inbox;

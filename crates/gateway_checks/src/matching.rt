@@ -1,6 +1,6 @@
 //! How the codes and the parameters of an answer are matched with what a step expects.
 ghost use Rattle.std.specs.Prelude.{◌≡◌, option_copied};
-ghost use Rattle.gateway_checks.specs.Matching.{is_code, is_among, code_fault, has_value, has_another};
+ghost use Rattle.gateway_checks.specs.Matching.{is_code, is_among, code_fault, has_value, has_another, has_due};
 
 use crate::judging::{Fault, judged};
 use mg_bytes::{decimal, same_no_case, split_once};
@@ -37,8 +37,8 @@ pub(crate) fn code_fault(codes: &str, is_optional: bool, code: u16) -> Option<Fa
     judged(is_among(codes.as_bytes(), code), is_optional, code)
 }
 
-/// Whether a parameter is there, with any value or with this one.
-pub(crate) fn has_value(given: Option<&[u8]>, is_any: bool, wanted: &[u8]) -> bool
+// Whether a parameter is there, with any value or with this one.
+fn has_value(given: Option<&[u8]>, is_any: bool, wanted: &[u8]) -> bool
     ensures { result ≡ has_value (option_copied given.entry) is_any wanted.now }
 {
     match given {
@@ -47,12 +47,23 @@ pub(crate) fn has_value(given: Option<&[u8]>, is_any: bool, wanted: &[u8]) -> bo
     }
 }
 
-/// Whether it is there, with another value.
-pub(crate) fn has_another(given: Option<&[u8]>, wanted: &[u8]) -> bool
+// Whether it is there, with another value.
+fn has_another(given: Option<&[u8]>, wanted: &[u8]) -> bool
     ensures { result ≡ has_another (option_copied given.entry) wanted.now }
 {
     match given {
         None => false,
         Some(value) => !same_no_case(value, wanted),
+    }
+}
+
+/// Whether it is there with this value or any, or, where another one is due, with another one.
+pub(crate) fn has_due(given: Option<&[u8]>, is_any: bool, wanted: &[u8], is_other: bool) -> bool
+    ensures { result ≡ has_due (option_copied given.entry) is_any wanted.now is_other }
+{
+    if is_other {
+        has_another(given, wanted)
+    } else {
+        has_value(given, is_any, wanted)
     }
 }

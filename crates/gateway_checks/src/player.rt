@@ -1,20 +1,29 @@
 //! Plays a check: what is to be sent, until when something is waited for, and what comes of it.
-ghost use Rattle.std.specs.Prelude.{◌≡◌, ◌⊎◌, ◌+◌, ◌++◌, map, min, true, false, Some, None, IfSome, OnOk, unwrap_or};
+ghost use Rattle.std.specs.Prelude.{◌≡◌, ◌⊎◌, ◌==◌, ◌++◌, [], length, map, not, true, false, Some, None};
+ghost use Rattle.std.specs.Prelude.{IfOk, OnOk, is_some, string_bytes, unwrap_or};
 ghost use Rattle.piggyback.specs.Parts.{parts_of};
 ghost use Rattle.gateway_checks.specs.Hearing.{came_as, awaits_answer, kept_of, kept_in};
-ghost use Rattle.gateway_checks.specs.Judging.{judged, settled, verdict_of};
-ghost use Rattle.gateway_checks.specs.Waiting.{waited_until};
+ghost use Rattle.gateway_checks.specs.Judging.{verdict_of};
+ghost use Rattle.gateway_checks.specs.Matching.{last_text};
+ghost use Rattle.gateway_checks.specs.Naming.{filled, id_in, names_kept, kept_with};
+ghost use Rattle.gateway_checks.specs.Playing.{counted, fault_unless, LeavesRest, ComesTo, due_until, passed_by, until_in, answer_until, answer_outcome};
+ghost use Rattle.gateway_checks.specs.Playing.{answer_in, TakesAnswer, NamesFound, same_outcome, found_outcome, like_at, notice_due, again_outcome, is_silent_in, silence_outcome, acted_by};
+ghost use Rattle.gateway_checks.specs.Playing.{is_over, met_at_once, named_at_once, outcome_at_once, outcome_of, Further, Plays};
+ghost use Rattle.gateway_checks.specs.Unasked.{likeness_at, first_meant, announced_by};
 
-use crate::check::{Check, parted};
+mod stepping;
+
+use crate::check::{Check, parted_at};
 use crate::dialogue::put_said;
-use crate::hearing::{Heard, hear_text, put_response, value_of};
+use crate::expecting::{is_as_due, is_told, keep_value, name_id, told_due};
+use crate::hearing::{Heard, hear_text, put_response};
 use crate::inbox::{Arrived, Inbox};
 use crate::judging::{Fault, Verdict, judged, settled, verdict_of};
 use crate::mailbox::Mailbox;
-use crate::matching::{code_fault, has_another, has_value};
+use crate::matching::code_fault;
 use crate::names::Names;
 use crate::socket::Socket;
-use crate::step::{Asks, Step, step_of};
+use crate::step::{Asks, Step};
 use crate::texts::append;
 use crate::unasked::{Expected, Unasked, is_for_check};
 use crate::waiting::{UNASKED_TIME, is_prolonged, waited_until};
@@ -112,76 +121,14 @@ impl Drop for Player<'_> {
     }
 }
 
-// Tells what was due of a line that isn't met. An error is for want of memory only.
-fn told_due(names: &Names<'_>, said: &mut String, line: &str) -> Result<String, OutOfMemory> {
-    let due = names.filled(line)?;
-    put_said(said, "! due: ", due.as_bytes())?;
-    Ok(due)
-}
-
-// Whether an answer has this parameter, with this value or any; or has it with another one. An error is for want of memory only.
-fn is_as_due(
-    alloc: Global,
-    names: &Names<'_>,
-    answer: &[u8],
-    code: &str,
-    value: &str,
-    is_other: bool,
-) -> Result<bool, OutOfMemory> {
-    let wanted = names.filled(value)?;
-    let given = value_of(alloc, answer, code)?;
-    Ok(if is_other {
-        has_another(bytes_of(&given), wanted.as_bytes())
-    } else {
-        has_value(bytes_of(&given), value.is_empty(), wanted.as_bytes())
-    })
-}
-
-// Whether an answer holds this text. An error is for want of memory only.
-fn is_told(alloc: Global, answer: &[u8], text: &str) -> Result<bool, OutOfMemory> {
-    let answer = String::from_utf8_lossy(alloc, answer)?;
-    Ok(answer.as_str().contains(text))
-}
-
-// An answer's parameter has this name from here on: whether it is there. An error is for want of memory only.
-fn keep_value<'a>(
-    alloc: Global,
-    names: &mut Names<'a>,
-    answer: &[u8],
-    name: &'a str,
-    code: &str,
-) -> Result<bool, OutOfMemory> {
-    let Some(value) = value_of(alloc, answer, code)? else {
-        return Ok(false);
-    };
-    names.keep(name, value)?;
-    Ok(true)
-}
-
-// A step has asked for what waits at this place, whose id has this name from here on. An error is for want of memory only.
-fn name_id<'a>(
-    mailbox: &mut Mailbox,
-    names: &mut Names<'a>,
-    place: usize,
-    name: &'a str,
-) -> Result<(), OutOfMemory> {
-    match mailbox.ask(place)? {
-        Some(id) => names.keep_id(name, id),
-        None => Ok(()),
-    }
-}
-
-// The bytes of a value, if there is one.
-fn bytes_of(value: &Option<String>) -> Option<&[u8]> {
-    match value {
-        Some(value) => Some(value.as_bytes()),
-        None => None,
-    }
-}
-
 impl<'a> Player<'a> {
     /// A check at its beginning.
-    pub fn new(alloc: Global, check: &Check<'a>, names: Names<'a>) -> Player<'a> {
+    pub fn new(alloc: Global, check: &Check<'a>, names: Names<'a>) -> Player<'a>
+        ensures lines { (result.lines ≡ check.now.steps) × (result.undo ≡ check.now.undo) × (result.is_undoing ≡ false) }
+        ensures none { (result.step ≡ None) × (result.fault ≡ None) }
+        ensures empty { (result.inbox.waiting.items ≡ []) × (result.inbox.taken.items ≡ []) }
+        ensures names { result.names ≡ names.entry }
+    {
         Player {
             alloc,
             names,
@@ -210,12 +157,16 @@ impl<'a> Player<'a> {
     }
 
     /// What is to be sent.
-    pub fn sent(&self) -> &[u8] {
+    pub fn sent(&self) -> &[u8]
+        ensures { result.now ≡ self.now.sent.items }
+    {
         self.sent.as_slice()
     }
 
     /// What is to be done: `off`, `on`, `flash` or a key at the line's telephone, or `restart`.
-    pub fn act(&self) -> &'a str {
+    pub fn act(&self) -> &'a str
+        ensures { result.now ≡ self.now.act.now }
+    {
         self.act
     }
 
@@ -234,22 +185,30 @@ impl<'a> Player<'a> {
     }
 
     /// What was said, a line for each datagram; and what was due where that isn't what came.
-    pub fn said(&self) -> &str {
+    pub fn said(&self) -> &str
+        ensures { result.now ≡ string_bytes self.now.said }
+    {
         self.said.as_str()
     }
 
     /// What was due where something else came; empty where nothing did.
-    pub fn due(&self) -> &str {
+    pub fn due(&self) -> &str
+        ensures { result.now ≡ string_bytes self.now.due }
+    {
         self.due.as_str()
     }
 
     /// The datagrams that came since something was sent last.
-    pub fn came(&self) -> &[Vec<u8>] {
+    pub fn came(&self) -> &[Vec<u8>]
+        ensures { result.now ≡ self.now.came.items }
+    {
         self.came.as_slice()
     }
 
     /// Whether the gateway has answered what was asked.
-    pub fn has_answer(&self) -> bool {
+    pub fn has_answer(&self) -> bool
+        ensures { result ≡ not (length (last_text self.now.inbox.taken.items) == 0) }
+    {
         !self.inbox.last().is_empty()
     }
 
@@ -276,11 +235,25 @@ impl<'a> Player<'a> {
         Ok(())
     }
 
+    // Notes that what is there goes out: what came before that is told no more.
+    fn note_sent(&mut self, mark: &str) -> Result<(), OutOfMemory>
+        ensures { self.new ≡ record self.old { said = self.new.said; came = self.new.came } }
+    {
+        if self.is_undoing {
+            return Ok(());
+        }
+        put_said(&mut self.said, mark, self.sent.as_slice())?;
+        self.came = Vec::new(self.alloc);
+        Ok(())
+    }
+
     // The step is done, with this fault in it or none, and asks for nothing more. The first fault is told; those of steps that undo the
     // check don't count.
     fn finish(&mut self, fault: Option<Fault>) -> Option<Turn>
-        ensures counts { self.old.is_undoing ≡ false → self.new.fault ≡ settled self.old.fault fault }
-        ensures undoes { self.old.is_undoing ≡ true → self.new.fault ≡ self.old.fault }
+        ensures none { result ≡ None }
+        ensures fault { self.new.fault ≡ counted self.old.is_undoing self.old.fault fault }
+        ensures step { self.new.step ≡ None }
+        ensures rest { LeavesRest self.old self.new }
     {
         self.step = None;
         if self.is_undoing {
@@ -299,36 +272,19 @@ impl<'a> Player<'a> {
 
     // The step is done, and met or not.
     fn finish_met(&mut self, is_met: bool) -> Option<Turn>
-        ensures counts { self.old.is_undoing ≡ false
-            → self.new.fault ≡ settled self.old.fault (judged is_met false 0) }
-        ensures undoes { self.old.is_undoing ≡ true → self.new.fault ≡ self.old.fault }
+        ensures none { result ≡ None }
+        ensures fault { self.new.fault ≡ counted self.old.is_undoing self.old.fault (fault_unless is_met) }
+        ensures step { self.new.step ≡ None }
+        ensures rest { LeavesRest self.old self.new }
     {
         self.finish(judged(is_met, false, 0))
     }
 
-    // The step that is to be played, if one is left. The first fault ends the check, and what undoes it comes last.
-    fn next_step(&mut self) -> Option<Step<'a>> {
-        if self.step.is_some() {
-            return self.step;
-        }
-        if !self.is_undoing && (self.fault.is_some() || self.lines.is_empty()) {
-            self.is_undoing = true;
-            self.lines = self.undo;
-        }
-        if self.lines.is_empty() {
-            return None;
-        }
-        let (line, lines) = parted(self.lines, "\n");
-        self.lines = lines;
-        self.line = line;
-        self.begun = None;
-        self.until = None;
-        self.step = Some(step_of(line));
-        self.step
-    }
-
     /// What is asked for at this moment, in ms. It is asked again once that was done.
-    pub fn turn(&mut self, now: u64) -> Result<Turn, OutOfMemory> {
+    pub fn turn(&mut self, now: u64) -> Result<Turn, OutOfMemory>
+        ensures plays { IfOk result (λ turn. Plays now self.old self.new turn) }
+        ensures refused { OnOk result (self.new.is_refused ≡ false) }
+    {
         let turn = self.next_turn(now);
         if self.is_refused {
             return Err(AllocError);
@@ -337,31 +293,50 @@ impl<'a> Player<'a> {
     }
 
     // The same, but where memory was refused, which is kept.
-    fn next_turn(&mut self, now: u64) -> Turn {
+    fn next_turn(&mut self, now: u64) -> Turn
+        ensures { Plays now self.old self.new result }
+    {
         for _ in 0..MOST_STEPS {
-            let next = self.next_step();
-            if let Some(turn) = self.answer_left() {
-                return turn;
-            }
-            let Some(step) = next else {
-                return Turn::Over;
-            };
-            if let Some(turn) = self.play(step, now) {
-                return turn;
+            match self.play_next(now) {
+                Some(turn) => return turn,
+                None => {}
             }
         }
         Turn::Over
     }
 
     // Memory was refused for what a turn does: that ends there.
-    fn refused(&mut self) -> Option<Turn> {
+    fn refused(&mut self) -> Option<Turn>
+        ensures refused { self.new.is_refused ≡ true }
+        ensures rest { self.new ≡ record self.old { is_refused = self.new.is_refused } }
+    {
         self.is_refused = true;
         Some(Turn::Over)
     }
 
+    // Plays the next step: what is asked for then, or nothing where it is done.
+    #[tactic(auto, using(crate::proofs::PlayLemmas::steps_further))]
+    fn play_next(&mut self, now: u64) -> Option<Turn>
+        ensures { Further now self.old self.new result }
+    {
+        let next = self.next_step();
+        if let Some(turn) = self.answer_left() {
+            return Some(turn);
+        }
+        match next {
+            Some(step) => self.play(step, now),
+            None => Some(Turn::Over),
+        }
+    }
+
     // Before what undoes a check that a fault has ended all is answered that the gateway said by itself meanwhile: it would come again,
     // and keep its line from notifying what the checks behind are for.
-    fn answer_left(&mut self) -> Option<Turn> {
+    fn answer_left(&mut self) -> Option<Turn>
+        ensures some { is_some result ≡ true → self.old.is_undoing ≡ true }
+        ensures goes_on { self.new.is_refused ≡ false → is_over result ≡ false }
+        ensures left { self.old.is_undoing ≡ false → self.new ≡ self.old }
+        ensures rest { self.new ≡ record self.old { mailbox = self.new.mailbox; sent = self.new.sent; is_refused = self.new.is_refused } }
+    {
         if !self.is_undoing || self.fault.is_none() {
             return None;
         }
@@ -380,7 +355,10 @@ impl<'a> Player<'a> {
     }
 
     // Plays a step: what it asks for, or nothing where it is done.
-    fn play(&mut self, step: Step<'a>, now: u64) -> Option<Turn> {
+    #[tactic(auto, using(crate::proofs::PlayLemmas::comes_same))]
+    fn play(&mut self, step: Step<'a>, now: u64) -> Option<Turn>
+        ensures { ComesTo self.old self.new result (outcome_of self.old step.entry now) }
+    {
         let line = self.line;
         let (at, first, second) = (step.at, step.first, step.second);
         match step.asks {
@@ -391,10 +369,7 @@ impl<'a> Player<'a> {
             Asks::Silence => self.quiet(step.number, false, now),
             Asks::Wait => self.waited(step.number, true, now),
             Asks::Notified => self.notified(at, first, second, now),
-            Asks::Announced => {
-                let method = second.as_bytes();
-                self.find(at, &Expected::Announcement { method }, first, now)
-            }
+            Asks::Announced => self.announced(at, first, second, now),
             Asks::Again => self.came_again(step.number, false, now),
             Asks::Slower => self.came_again(step.number, true, now),
             Asks::Quiet => self.quiet(step.number, true, now),
@@ -404,41 +379,57 @@ impl<'a> Player<'a> {
         }
     }
 
-    // Plays a step that is met or not at once: by what the last answer holds, or by what names stand for.
-    fn play_at_once(&mut self, step: Step<'a>) -> Option<Turn> {
+    // Whether a step is met that is met or not at once: by what the last answer holds, or by what names stand for.
+    fn met_at_once(&mut self, step: Step<'a>) -> Result<bool, OutOfMemory>
+        ensures met { IfOk result (λ is_met. is_met
+            ≡ met_at_once step.entry.asks self.old.names (last_text self.old.inbox.taken.items) step.entry) }
+        ensures kept { OnOk result (names_kept self.new.names ≡ kept_with step.entry.first.now
+            (named_at_once step.entry.asks (last_text self.old.inbox.taken.items) step.entry) (names_kept self.old.names)) }
+        ensures rest { self.new ≡ record self.old { names = self.new.names } }
+    {
         let alloc = self.alloc;
         let (first, second) = (step.first, step.second);
         let answer = self.inbox.last();
-        let is_met = match step.asks {
-            Asks::Has => is_as_due(alloc, &self.names, answer, first, second, false),
-            Asks::Unlike => is_as_due(alloc, &self.names, answer, first, second, true),
-            Asks::Tells => is_told(alloc, answer, step.rest),
-            Asks::Keep => keep_value(alloc, &mut self.names, answer, first, second),
-            Asks::Differ => self.names.differ(first, second),
+        match step.asks {
+            Asks::Has => Ok(is_as_due(alloc, &self.names, answer, first, second, false)?),
+            Asks::Unlike => Ok(is_as_due(alloc, &self.names, answer, first, second, true)?),
+            Asks::Tells => Ok(is_told(answer, step.rest.as_bytes())),
+            Asks::Keep => Ok(keep_value(alloc, &mut self.names, answer, first, second)?),
+            Asks::Differ => Ok(self.names.differ(first, second)?),
             _ => Ok(false),
-        };
-        match is_met {
+        }
+    }
+
+    // Plays such a step.
+    #[tactic(auto, using(crate::proofs::PlayLemmas::comes_at_once))]
+    fn play_at_once(&mut self, step: Step<'a>) -> Option<Turn>
+        ensures { ComesTo self.old self.new result (outcome_at_once self.old step.entry) }
+    {
+        match self.met_at_once(step) {
             Ok(is_met) => self.finish_met(is_met),
             Err(_) => self.refused(),
         }
     }
 
     // What is there goes out from a socket.
-    fn send_now(&mut self, from: Socket) -> Option<Turn> {
-        self.from = from;
+    #[tactic(auto, using(crate::proofs::PlayLemmas::comes_at_once))]
+    fn send_now(&mut self, from: Socket) -> Option<Turn>
+        ensures comes { ComesTo self.old self.new result (Some None) }
+    {
         let mark = if from.is_second() { ">> " } else { "> " };
-        if !self.is_undoing {
-            if put_said(&mut self.said, mark, self.sent.as_slice()).is_err() {
-                return self.refused();
-            }
-            self.came = Vec::new(self.alloc);
+        self.from = from;
+        if self.note_sent(mark).is_err() {
+            return self.refused();
         }
         let _ = self.finish(None);
         Some(Turn::Send { from })
     }
 
     // This goes out from a socket, or what went out last does again.
-    fn send(&mut self, from: Socket, text: &str) -> Option<Turn> {
+    #[tactic(auto, using(crate::proofs::PlayLemmas::comes_sent))]
+    fn send(&mut self, from: Socket, text: &str) -> Option<Turn>
+        ensures comes { ComesTo self.old self.new result (Some None) }
+    {
         if text == "again" {
             return self.send_now(from);
         }
@@ -453,9 +444,9 @@ impl<'a> Player<'a> {
 
     // Until when this step waits, which has begun now if it hasn't before.
     fn deadline(&mut self, ms: u64, now: u64) -> u64
+        ensures until { result ≡ until_in self.old.until ms now }
         ensures stands { self.new.until ≡ Some result }
-        ensures stays { IfSome self.old.until (λ until. result ≡ until) }
-        ensures begins { self.old.until ≡ None → result ≡ min (now + ms) 18446744073709551615 }
+        ensures rest { self.new ≡ record self.old { until = self.new.until } }
     {
         match self.until {
             Some(until) => until,
@@ -469,10 +460,10 @@ impl<'a> Player<'a> {
 
     // Until when this step waits for an answer, which has begun now if it hasn't before, or begins anew.
     fn answer_deadline(&mut self, now: u64) -> u64
-        ensures stands { self.new.until ≡ Some result }
-        ensures stays { IfSome self.old.until (λ until. result ≡ until) }
-        ensures begins { self.old.until ≡ None → result ≡ waited_until (unwrap_or self.old.begun now) now }
+        ensures until { result ≡ answer_until self.old.until self.old.begun now }
         ensures begun { self.old.until ≡ None → self.new.begun ≡ Some (unwrap_or self.old.begun now) }
+        ensures stands { self.new.until ≡ Some result }
+        ensures rest { self.new ≡ record self.old { begun = self.new.begun; until = self.new.until } }
     {
         if let Some(until) = self.until {
             return until;
@@ -485,7 +476,10 @@ impl<'a> Player<'a> {
     }
 
     // Waits for an answer; where none came in time the step isn't met.
-    fn await_answer(&mut self, now: u64) -> Option<Turn> {
+    #[tactic(auto, using(crate::proofs::PlayLemmas::comes_in_time))]
+    fn await_answer(&mut self, now: u64) -> Option<Turn>
+        ensures { ComesTo self.old self.new result (due_until (answer_until self.old.until self.old.begun now) now) }
+    {
         let until = self.answer_deadline(now);
         if now < until {
             return Some(Turn::Wait { until });
@@ -493,13 +487,26 @@ impl<'a> Player<'a> {
         self.finish_met(false)
     }
 
+    // The first answer to the command with this id is taken that came to the socket from which the last text went out.
+    #[tactic(auto, unfolding(crate::specs::Matching::answer_for))]
+    fn take_answer(&mut self, id: u32) -> Option<Arrived>
+        ensures found { result ≡ answer_in self.old id }
+        ensures taken { self.new.inbox.taken ≡ self.old.inbox.taken }
+        ensures rest { self.new ≡ record self.old { inbox = self.new.inbox } }
+    {
+        self.inbox.take(self.from, id)
+    }
+
     // The answer with this id is to come, with one of these codes.
-    fn answered(&mut self, codes: &str, id: &str, is_optional: bool, now: u64) -> Option<Turn> {
+    #[tactic(auto, using(crate::proofs::PlayLemmas::comes_on))]
+    fn answered(&mut self, codes: &str, id: &str, is_optional: bool, now: u64) -> Option<Turn>
+        ensures comes { ComesTo self.old self.new result (answer_outcome self.old codes.now id.now is_optional now) }
+        ensures taken { TakesAnswer self.old self.new (answer_in self.old (id_in self.old.names id.now)) }
+    {
         let Ok(id) = self.names.id_in(id) else {
             return self.refused();
         };
-        let from = self.from;
-        match self.inbox.take(from, id) {
+        match self.take_answer(id) {
             Some(arrived) => {
                 let code = arrived.code;
                 if self.inbox.keep(arrived).is_err() {
@@ -512,12 +519,14 @@ impl<'a> Player<'a> {
     }
 
     // The answer with this id is to come again as it first came.
-    fn answered_again(&mut self, id: &str, now: u64) -> Option<Turn> {
+    #[tactic(auto, using(crate::proofs::PlayLemmas::comes_on))]
+    fn answered_again(&mut self, id: &str, now: u64) -> Option<Turn>
+        ensures { ComesTo self.old self.new result (same_outcome self.old id.now now) }
+    {
         let Ok(id) = self.names.id_in(id) else {
             return self.refused();
         };
-        let from = self.from;
-        match self.inbox.take(from, id) {
+        match self.take_answer(id) {
             Some(arrived) => {
                 let is_same = arrived.text.as_slice() == self.inbox.first_of(id);
                 self.finish_met(is_same)
@@ -527,7 +536,11 @@ impl<'a> Player<'a> {
     }
 
     // It is waited for so long; then the step is met or not.
-    fn waited(&mut self, ms: u64, is_met: bool, now: u64) -> Option<Turn> {
+    #[tactic(auto, using(crate::proofs::PlayLemmas::comes_in_time))]
+    fn waited(&mut self, ms: u64, is_met: bool, now: u64) -> Option<Turn>
+        ensures passes { is_met ≡ true → ComesTo self.old self.new result (passed_by (until_in self.old.until ms now) now) }
+        ensures is_due { is_met ≡ false → ComesTo self.old self.new result (due_until (until_in self.old.until ms now) now) }
+    {
         let until = self.deadline(ms, now);
         if now < until {
             return Some(Turn::Wait { until });
@@ -536,13 +549,13 @@ impl<'a> Player<'a> {
     }
 
     // This is to come to a socket: whether as due or not, its id has this name from here on.
-    fn find(
-        &mut self,
-        at: Socket,
-        expected: &Expected<'_>,
-        name: &'a str,
-        now: u64,
-    ) -> Option<Turn> {
+    #[tactic(auto, using(crate::proofs::PlayLemmas::comes_on))]
+    fn find(&mut self, at: Socket, expected: &Expected<'_>, name: &'a str, now: u64) -> Option<Turn>
+        ensures comes { ComesTo self.old self.new result (found_outcome self.old
+            (likeness_at self.old.mailbox.heard.items at expected.now) now) }
+        ensures named { NamesFound name.now self.old self.new
+            (first_meant (likeness_at self.old.mailbox.heard.items at expected.now) 0 self.old.mailbox.waiting.items) }
+    {
         match self.mailbox.first_meant(at, expected) {
             Ok(Some((place, is_due))) => {
                 match name_id(&mut self.mailbox, &mut self.names, place, name) {
@@ -556,12 +569,16 @@ impl<'a> Player<'a> {
     }
 
     // A notification is to come to a socket: the endpoint, X and O that are due have blanks between them.
-    fn notified(&mut self, at: Socket, name: &'a str, due: &str, now: u64) -> Option<Turn> {
+    #[tactic(auto, using(crate::proofs::PlayLemmas::comes_notified))]
+    fn notified(&mut self, at: Socket, name: &'a str, due: &str, now: u64) -> Option<Turn>
+        ensures { ComesTo self.old self.new result (found_outcome self.old
+            (like_at self.old.mailbox.heard.items at (notice_due (filled self.old.names due.now))) now) }
+    {
         let Ok(due) = self.names.filled(due) else {
             return self.refused();
         };
-        let (endpoint, rest) = parted(due.as_str(), " ");
-        let (x, events) = parted(rest, " ");
+        let (endpoint, rest) = parted_at(due.as_str(), ' ');
+        let (x, events) = parted_at(rest, ' ');
         let expected = Expected::Notification {
             name: endpoint.as_bytes(),
             x: x.as_bytes(),
@@ -570,14 +587,26 @@ impl<'a> Player<'a> {
         self.find(at, &expected, name, now)
     }
 
+    // An announcement with this method is to come to a socket.
+    #[tactic(auto, using(crate::proofs::PlayLemmas::announced_comes))]
+    fn announced(&mut self, at: Socket, name: &'a str, method: &str, now: u64) -> Option<Turn>
+        ensures { ComesTo self.old self.new result (found_outcome self.old
+            (like_at self.old.mailbox.heard.items at (announced_by method.now)) now) }
+    {
+        let method = method.as_bytes();
+        self.find(at, &Expected::Announcement { method }, name, now)
+    }
+
     // What a step asked for last is to come so often again, each time within a time of its own.
-    fn came_again(&mut self, times: u64, grows: bool, now: u64) -> Option<Turn> {
+    #[tactic(auto, using(crate::proofs::PlayLemmas::comes_in_time))]
+    fn came_again(&mut self, times: u64, grows: bool, now: u64) -> Option<Turn>
+        ensures { ComesTo self.old self.new result (again_outcome self.old times grows now) }
+    {
         let Some(gaps) = self.mailbox.gaps() else {
             return self.finish_met(false);
         };
         if u64::from(gaps.count) >= times {
-            let is_met = !grows || gaps.has_grown();
-            return self.finish_met(is_met);
+            return self.finish_met(gaps.are_due(grows));
         }
         let until = gaps.previous.saturating_add(UNASKED_TIME);
         if now < until {
@@ -586,25 +615,42 @@ impl<'a> Player<'a> {
         self.finish_met(false)
     }
 
-    // No answer is to come for so long, or the gateway is to say nothing by itself.
-    fn quiet(&mut self, ms: u64, is_unasked: bool, now: u64) -> Option<Turn> {
-        let until = self.deadline(ms, now);
-        let is_quiet = if is_unasked {
-            self.mailbox.is_quiet(until.saturating_sub(ms))
+    // Whether the gateway has said nothing by itself since this moment, or no answer waits.
+    #[tactic(auto, unfolding(crate::specs::Playing::is_silent))]
+    fn is_silent(&self, is_unasked: bool, since: u64) -> bool
+        ensures { result ≡ is_silent_in self.now is_unasked since }
+    {
+        if is_unasked {
+            self.mailbox.is_quiet(since)
         } else {
             self.inbox.is_empty()
-        };
-        if now < until && is_quiet {
+        }
+    }
+
+    // No answer is to come for so long, or the gateway is to say nothing by itself.
+    #[tactic(auto, using(crate::proofs::PlayLemmas::comes))]
+    fn quiet(&mut self, ms: u64, is_unasked: bool, now: u64) -> Option<Turn>
+        ensures { ComesTo self.old self.new result (silence_outcome self.old ms is_unasked now) }
+    {
+        let until = self.deadline(ms, now);
+        let is_quiet = self.is_silent(is_unasked, until.saturating_sub(ms));
+        if !is_quiet {
+            return self.finish_met(false);
+        }
+        if now < until {
             return Some(Turn::Wait { until });
         }
-        if is_quiet && self.note("(nothing comes)", &[]).is_err() {
+        if self.note("(nothing comes)", &[]).is_err() {
             return self.refused();
         }
-        self.finish_met(is_quiet)
+        self.finish_met(true)
     }
 
     // This is to be done at the line's telephone, or with the gateway.
-    fn ask_for(&mut self, act: &'a str) -> Option<Turn> {
+    #[tactic(auto, using(crate::proofs::PlayLemmas::comes))]
+    fn ask_for(&mut self, act: &'a str) -> Option<Turn>
+        ensures { ComesTo self.old self.new result (acted_by self.old.acted) }
+    {
         match self.acted {
             None => {
                 self.act = act;
