@@ -1,16 +1,17 @@
 //! Worked examples of the definitions, as theorems: each sentence of a definition has one that a slip in it breaks.
 #![tactic(auto, unfolding(crate::proofs::Computing::on_examples))]
 
-ghost use Rattle.std.specs.Prelude.{◌≡◌, ◌==◌, [], ◌∷◌, List, true, false, Some, None, codes};
+ghost use Rattle.std.specs.Prelude.{◌≡◌, ◌==◌, ◌++◌, [], ◌∷◌, ℕ, List, true, false, Some, None, codes, is_some, take};
+ghost use Rattle.std.specs.Str.Lossy.{utf8_lossy};
 ghost use Rattle.gateway_checks.specs.declared.judging.Fault.TheVariants.{NotSupported, Otherwise};
 ghost use Rattle.gateway_checks.specs.declared.judging.Verdict.TheVariants as verdicts;
 ghost use Rattle.gateway_checks.specs.declared.socket.Socket.TheVariants.{First, Second};
 ghost use Rattle.mgcp_text.specs.Reading.{read_text};
 ghost use Rattle.gateway_checks.specs.declared.hearing.Heard.TheVariants as heard;
 ghost use Rattle.gateway_checks.specs.declared.step.Asks.TheVariants as steps;
-ghost use Rattle.gateway_checks.specs.Hearing.{heard_of, is_own, awaits, awaits_answer, kept_in, to_nothing};
+ghost use Rattle.gateway_checks.specs.Hearing.{heard_of, given_in, is_own, awaits, awaits_answer, kept_in, to_nothing};
 ghost use Rattle.gateway_checks.specs.Judging.{is_provisional, judged, settled, fault_of, verdict_of};
-ghost use Rattle.gateway_checks.specs.Matching.{is_among, code_fault, has_value, has_another};
+ghost use Rattle.gateway_checks.specs.Matching.{is_among, code_fault, has_value, has_another, has_due, holds, last_text};
 ghost use Rattle.gateway_checks.specs.Reporting.{word_of, greatest_count, one_more, with_verdict};
 ghost use Rattle.gateway_checks.specs.declared.report.Tally.{Tally};
 ghost use Rattle.gateway_checks.specs.Waiting.{greatest_moment, waited_until, is_prolonged};
@@ -18,6 +19,20 @@ ghost use Rattle.gateway_checks.specs.declared.unasked.Likeness.TheVariants as l
 ghost use Rattle.gateway_checks.specs.declared.unasked.Unasked.{Unasked};
 ghost use Rattle.gateway_checks.specs.Unasked.{notified_by, announced_by, is_for_check, breaks, is_quiet, likeness_by, first_meant};
 ghost use Rattle.gateway_checks.specs.Unasked.{none_since, with_coming, last_of, gaps_behind, has_grown};
+ghost use Rattle.gateway_checks.specs.declared.inbox.Arrived.{Arrived};
+ghost use Rattle.gateway_checks.specs.declared.names.Names.{Names};
+ghost use Rattle.gateway_checks.specs.declared.names.Places.{Places};
+ghost use Rattle.gateway_checks.specs.declared.player.Player.{Player};
+ghost use Rattle.gateway_checks.specs.declared.player.Turn.TheVariants as turns;
+ghost use Rattle.gateway_checks.specs.declared.step.Step.{Step};
+ghost use Rattle.gateway_checks.specs.Steps.{before, behind, asked_by, number_of, IsStepOf};
+ghost use Rattle.gateway_checks.specs.Naming.{value_named, value_by, value_kept, kept_or_name, endpoint_name, upper_endpoint_name};
+ghost use Rattle.gateway_checks.specs.Naming.{filled_by, greatest_number, id_by, are_different, kept_with};
+ghost use Rattle.gateway_checks.specs.Expecting.{is_parameter_due};
+ghost use Rattle.gateway_checks.specs.Playing.{counted, fault_unless, fault_left, step_left, is_over, due_until, passed_by, until_in};
+ghost use Rattle.gateway_checks.specs.Playing.{answer_until, answered_by, repeated_by, found_by, repeats_by, silent_by, acted_by};
+ghost use Rattle.gateway_checks.specs.Playing.{like_at, met_at_once, named_at_once, answer_outcome, same_outcome, found_outcome, notice_due};
+ghost use Rattle.gateway_checks.specs.Playing.{again_outcome, silence_outcome, outcome_at_once, outcome_by, lines_due};
 
 /// Each sentence at an example.
 pub fn each_sentence_has_an_example()
@@ -186,4 +201,212 @@ pub fn other_sentences_have_examples()
         ≡ record { count = 3; first = 500; last = 2000; previous = 3600 } }
     ensures grown { has_grown (record { count = 3; first = 500; last = 750; previous = 0 }) ≡ true }
     ensures fixed { has_grown (record { count = 3; first = 500; last = 749; previous = 0 }) ≡ false }
+{}
+
+/// Each word that begins a line at an example.
+pub fn each_word_asks_for_something()
+    ensures send { asked_by (codes ">") ≡ (steps.Send, First) }
+    ensures send_there { asked_by (codes ">>") ≡ (steps.Send, Second) }
+    ensures answer { asked_by (codes "<") ≡ (steps.Answer, First) }
+    ensures answer_if_done { asked_by (codes "<?") ≡ (steps.AnswerIfDone, First) }
+    ensures same { asked_by (codes "same") ≡ (steps.Same, First) }
+    ensures silence { asked_by (codes "silence") ≡ (steps.Silence, First) }
+    ensures wait { asked_by (codes "wait") ≡ (steps.Wait, First) }
+    ensures pause { asked_by (codes "pause") ≡ (steps.Wait, First) }
+    ensures has { asked_by (codes "has") ≡ (steps.Has, First) }
+    ensures unlike { asked_by (codes "unlike") ≡ (steps.Unlike, First) }
+    ensures tells { asked_by (codes "tells") ≡ (steps.Tells, First) }
+    ensures keep { asked_by (codes "keep") ≡ (steps.Keep, First) }
+    ensures differ { asked_by (codes "differ") ≡ (steps.Differ, First) }
+    ensures notified { asked_by (codes "notified") ≡ (steps.Notified, First) }
+    ensures notified_there { asked_by (codes "notified-there") ≡ (steps.Notified, Second) }
+    ensures announced { asked_by (codes "announced") ≡ (steps.Announced, First) }
+    ensures announced_there { asked_by (codes "announced-there") ≡ (steps.Announced, Second) }
+    ensures again { asked_by (codes "again") ≡ (steps.Again, First) }
+    ensures slower { asked_by (codes "slower") ≡ (steps.Slower, First) }
+    ensures quiet { asked_by (codes "quiet") ≡ (steps.Quiet, First) }
+    ensures act { asked_by (codes "act") ≡ (steps.Act, First) }
+    ensures restart { asked_by (codes "restart") ≡ (steps.Restart, First) }
+    ensures unknown { asked_by (codes "Same") ≡ (steps.Unknown, First) }
+    // Words are what blanks part.
+    ensures word { before 32 (codes "< 200 {1}") ≡ codes "<" }
+    ensures rest { behind 32 (codes "< 200 {1}") ≡ codes "200 {1}" }
+    ensures alone { before 32 (codes "restart") ≡ codes "restart" }
+    ensures nothing { behind 32 (codes "restart") ≡ [] }
+    ensures number { number_of (codes "1500") ≡ 1500 }
+    ensures no_number { number_of (codes "{1}") ≡ 0 }
+{}
+
+/// Each sentence at an example.
+pub fn what_lines_and_names_say_has_examples()
+    // A line is a step by its first word; behind that it says what of it.
+    ensures lines_are_steps_asks { (step : Step) → IsStepOf (codes "<? 200|510 {1}") step → step.asks ≡ steps.AnswerIfDone }
+    ensures lines_are_steps_at { (step : Step) → IsStepOf (codes ">> again") step → step.at ≡ Second }
+    ensures lines_are_steps_rest { (step : Step) → IsStepOf (codes "<? 200|510 {1}") step → step.rest.now ≡ codes "200|510 {1}" }
+    ensures lines_are_steps_first { (step : Step) → IsStepOf (codes "<? 200|510 {1}") step → step.first.now ≡ codes "200|510" }
+    ensures lines_are_steps_second { (step : Step) → IsStepOf (codes "<? 200|510 {1}") step → step.second.now ≡ codes "{1}" }
+    ensures lines_are_steps_number { (step : Step) → IsStepOf (codes "silence 500") step → step.number ≡ 500 }
+    // A number is that of one of the check's own ids, and the others stand for the line, another one, the sockets and the call.
+    ensures own_id { (places : Places) → value_named 3000 places [] (codes "7") ≡ codes "3007" }
+    ensures greatest { (places : Places) → value_by 3000 places [] [] (Some greatest_number) ≡ codes "18446744073709551615" }
+    ensures line { (places : Places) → value_named 3000 places [] (codes "line") ≡ endpoint_name places.local.now places.domain.now }
+    ensures upper_line { (places : Places) → value_named 3000 places [] (codes "LINE")
+        ≡ upper_endpoint_name places.local.now places.domain.now }
+    ensures other { (places : Places) → value_named 3000 places [] (codes "other") ≡ endpoint_name places.other.now places.domain.now }
+    ensures local { (places : Places) → value_named 3000 places [] (codes "local") ≡ places.local.now }
+    ensures domain { (places : Places) → value_named 3000 places [] (codes "domain") ≡ places.domain.now }
+    ensures here { (places : Places) → value_named 3000 places [] (codes "here") ≡ places.here.now }
+    ensures there { (places : Places) → value_named 3000 places [] (codes "there") ≡ places.there.now }
+    ensures call { (places : Places) → value_named 3000 places [] (codes "call") ≡ codes "3000" }
+    ensures description { (places : Places) → take 3 (value_named 3000 places [] (codes "sdp")) ≡ codes "v=0" }
+    ensures endpoint { endpoint_name (codes "aaln/1") (codes "gw1") ≡ codes "aaln/1@gw1" }
+    ensures upper_endpoint { upper_endpoint_name (codes "aaln/1") (codes "gw1") ≡ codes "AALN/1@GW1" }
+    // Any other name stands for what was kept under it first.
+    ensures kept { (places : Places) → value_named 3000 places ((codes "one", codes "17") ∷ (codes "two", codes "18") ∷ []) (codes "two")
+        ≡ codes "18" }
+    ensures kept_first { value_kept (codes "one") ((codes "one", codes "17") ∷ (codes "one", codes "18") ∷ []) ≡ Some (codes "17") }
+    ensures not_kept { (places : Places) → value_named 3000 places [] (codes "told") ≡ codes "{told}" }
+    ensures kept_value { kept_or_name (codes "told") (Some (codes "17")) ≡ codes "17" }
+    // A name in braces is filled, and what stands around it stays.
+    ensures filled { filled_by (λ name. codes "<" ++ name ++ codes ">") (codes "DLCX {1} {line} MGCP 1.0")
+        ≡ codes "DLCX <1> <line> MGCP 1.0" }
+    ensures no_name { filled_by (λ name. []) (codes "hello") ≡ codes "hello" }
+    ensures open_brace { filled_by (λ name. codes "<" ++ name ++ codes ">") (codes "a{b") ≡ codes "a<b>" }
+    ensures id { id_by (Some 4294967295) ≡ 4294967295 }
+    ensures no_id { id_by (Some 4294967296) ≡ 0 }
+    ensures different { are_different (codes "17") (codes "18") ≡ true }
+    ensures not_different { are_different (codes "17") (codes "17") ≡ false }
+{}
+
+/// Each sentence at an example.
+pub fn what_an_answer_holds_has_examples()
+    // A parameter's value is that of the first with its code.
+    ensures value { given_in (codes "I") (read_text (codes "200 1 OK\nI: 1\ni: 2\n")) ≡ Some (utf8_lossy (codes "1")) }
+    ensures no_value { given_in (codes "I") (read_text (codes "200 1 OK\n")) ≡ None }
+    ensures no_message { given_in (codes "I") (read_text (codes "hello\n")) ≡ None }
+    ensures due { has_due (Some (codes "1")) false (codes "1") false ≡ true }
+    ensures due_any { has_due (Some (codes "1")) true [] false ≡ true }
+    ensures due_other { has_due (Some (codes "2")) false (codes "1") true ≡ true }
+    ensures due_same { has_due (Some (codes "1")) false (codes "1") true ≡ false }
+    // It holds a text that stands anywhere in it.
+    ensures front { holds (codes "200") (codes "200 1 OK") ≡ true }
+    ensures end { holds (codes "OK") (codes "200 1 OK") ≡ true }
+    ensures nowhere { holds (codes "OK") (codes "200 1 KO") ≡ false }
+    ensures nothing { holds [] [] ≡ true }
+    // The last answer is that which a step asked for last.
+    ensures no_answer { last_text [] ≡ [] }
+    ensures last { (a b : Arrived) → last_text (a ∷ b ∷ []) ≡ b.text.items }
+    // What is met at once is so by the last answer, or by names.
+    ensures has { (names : Names) (answer : List ℕ) (step : Step) → met_at_once steps.Has names answer step
+        ≡ is_parameter_due names answer step.first.now step.second.now false }
+    ensures unlike { (names : Names) (answer : List ℕ) (step : Step) → met_at_once steps.Unlike names answer step
+        ≡ is_parameter_due names answer step.first.now step.second.now true }
+    ensures tells { (names : Names) (answer : List ℕ) (step : Step) → met_at_once steps.Tells names answer step
+        ≡ holds step.rest.now answer }
+    ensures keep { (names : Names) (answer : List ℕ) (step : Step) → met_at_once steps.Keep names answer step
+        ≡ is_some (given_in step.second.now (read_text answer)) }
+    // What is kept has its name from then on.
+    ensures kept { (answer : List ℕ) (step : Step) → named_at_once steps.Keep answer step
+        ≡ given_in step.second.now (read_text answer) }
+    ensures kept_no_more { (answer : List ℕ) (step : Step) → named_at_once steps.Has answer step ≡ None }
+    ensures kept_name { kept_with (codes "told") (Some (codes "17")) ((codes "one", codes "5") ∷ [])
+        ≡ (codes "one", codes "5") ∷ (codes "told", codes "17") ∷ [] }
+    ensures kept_none { kept_with (codes "told") None [] ≡ [] }
+    ensures unknown { (names : Names) (answer : List ℕ) (step : Step) → met_at_once steps.Unknown names answer step ≡ false }
+{}
+
+/// Each sentence at an example.
+pub fn what_a_step_comes_to_has_examples()
+    // A fault counts, but of the steps that undo a check; a step that waits on leaves all as it is.
+    ensures fault { counted false None (Some Otherwise) ≡ Some Otherwise }
+    ensures undone { counted true None (Some Otherwise) ≡ None }
+    ensures is_met { fault_unless true ≡ None }
+    ensures is_not_met { fault_unless false ≡ Some Otherwise }
+    ensures waits { fault_left false (Some NotSupported) None ≡ Some NotSupported }
+    ensures is_done { fault_left false None (Some (Some Otherwise)) ≡ Some Otherwise }
+    ensures same_step { (step : Step) → step_left (Some step) None ≡ Some step }
+    ensures no_step { (step : Step) → step_left (Some step) (Some None) ≡ None }
+    ensures over { is_over (Some turns.Over) ≡ true }
+    ensures acts { is_over (Some turns.Act) ≡ false }
+    ensures goes_on { is_over None ≡ false }
+    // What is due is waited for until then, and from the moment at which that began.
+    ensures due { due_until 2500 2499 ≡ None }
+    ensures late { due_until 2500 2500 ≡ Some (Some Otherwise) }
+    ensures passes { passed_by 1500 1499 ≡ None }
+    ensures passed { passed_by 1500 1500 ≡ Some None }
+    ensures begins { until_in None 500 1000 ≡ 1500 }
+    ensures has_begun { until_in (Some 1500) 500 1400 ≡ 1500 }
+    ensures answer_begins { answer_until None None 1000 ≡ 3000 }
+    ensures answer_begins_anew { answer_until None (Some 1000) 30500 ≡ 31000 }
+    ensures answer_has_begun { answer_until (Some 3000) (Some 1000) 2000 ≡ 3000 }
+    // An answer is right by its code, and one that comes again byte for byte.
+    ensures answer { (arrived : Arrived) → answered_by (codes "200") false 2500 0 (Some (record arrived { code = 200 })) ≡ Some None }
+    ensures left_out { (arrived : Arrived) → answered_by (codes "200") true 2500 0 (Some (record arrived { code = 504 }))
+        ≡ Some (Some NotSupported) }
+    ensures not_left_out { (arrived : Arrived) → answered_by (codes "200") false 2500 0 (Some (record arrived { code = 504 }))
+        ≡ Some (Some Otherwise) }
+    ensures no_answer { answered_by (codes "200") false 2500 2500 None ≡ Some (Some Otherwise) }
+    ensures same { repeated_by (codes "200 1 OK") 2500 0 (Some (codes "200 1 OK")) ≡ Some None }
+    ensures another { repeated_by (codes "200 1 OK") 2500 0 (Some (codes "540 1")) ≡ Some (Some Otherwise) }
+    ensures not_again { repeated_by (codes "200 1 OK") 2500 2500 None ≡ Some (Some Otherwise) }
+{}
+
+/// Each sentence at an example.
+pub fn what_other_steps_come_to_has_examples()
+    // The first that is meant is right or not, and what was asked for last comes so often again.
+    ensures found { found_by 4000 0 (Some (1, true)) ≡ Some None }
+    ensures found_wrong { found_by 4000 0 (Some (1, false)) ≡ Some (Some Otherwise) }
+    ensures not_found { found_by 4000 4000 None ≡ Some (Some Otherwise) }
+    ensures often { repeats_by 2 false 0 (Some (record { count = 2; first = 500; last = 500; previous = 1000 })) ≡ Some None }
+    ensures growing { repeats_by 2 true 0 (Some (record { count = 2; first = 500; last = 750; previous = 1000 })) ≡ Some None }
+    ensures not_growing { repeats_by 2 true 0 (Some (record { count = 2; first = 500; last = 500; previous = 1000 }))
+        ≡ Some (Some Otherwise) }
+    ensures once_more { repeats_by 3 false 4999 (Some (record { count = 2; first = 500; last = 500; previous = 1000 })) ≡ None }
+    ensures no_more { repeats_by 3 false 5000 (Some (record { count = 2; first = 500; last = 500; previous = 1000 }))
+        ≡ Some (Some Otherwise) }
+    ensures none_asked { repeats_by 1 false 0 None ≡ Some (Some Otherwise) }
+    // A silence is broken at once, and right at its end.
+    ensures still { silent_by true 1500 1499 ≡ None }
+    ensures silence { silent_by true 1500 1500 ≡ Some None }
+    ensures broken { silent_by false 1500 1000 ≡ Some (Some Otherwise) }
+    ensures asked { acted_by None ≡ None }
+    ensures acted { acted_by (Some true) ≡ Some None }
+    ensures not_acted { acted_by (Some false) ≡ Some (Some Otherwise) }
+    // What undoes a check comes behind its lines, or behind its first fault, once.
+    ensures next { lines_due false None (codes "same {1}") (codes "> x") ≡ codes "same {1}" }
+    ensures at_end { lines_due false None [] (codes "> x") ≡ codes "> x" }
+    ensures at_fault { lines_due false (Some Otherwise) (codes "same {1}") (codes "> x") ≡ codes "> x" }
+    ensures undoing { lines_due true (Some Otherwise) (codes "< 200 {1}") (codes "> x") ≡ codes "< 200 {1}" }
+{}
+
+/// Each kind of step at an example.
+pub fn each_kind_of_step_has_an_example()
+    ensures send { (player : Player) (step : Step) (now : ℕ) → outcome_by steps.Send player step now ≡ Some None }
+    ensures answer { (player : Player) (step : Step) (now : ℕ) → outcome_by steps.Answer player step now
+        ≡ answer_outcome player step.first.now step.second.now false now }
+    ensures answer_if_done { (player : Player) (step : Step) (now : ℕ) → outcome_by steps.AnswerIfDone player step now
+        ≡ answer_outcome player step.first.now step.second.now true now }
+    ensures same { (player : Player) (step : Step) (now : ℕ) → outcome_by steps.Same player step now
+        ≡ same_outcome player step.first.now now }
+    ensures silence { (player : Player) (step : Step) (now : ℕ) → outcome_by steps.Silence player step now
+        ≡ silence_outcome player step.number false now }
+    ensures wait { (player : Player) (step : Step) → outcome_by steps.Wait (record player { until = Some 1500 }) step 1500 ≡ Some None }
+    ensures announced { (player : Player) (step : Step) (now : ℕ) → outcome_by steps.Announced player step now
+        ≡ found_outcome player (like_at player.mailbox.heard.items step.at (announced_by step.second.now)) now }
+    ensures notice { notice_due (codes "aaln/1@gw1 7 L/hd") (read_text (codes "NTFY 5 aaln/1@gw1 MGCP 1.0\nX: 7\nO: L/hd\n"))
+        ≡ likes.AsDue }
+    ensures other_notice { notice_due (codes "aaln/1@gw1 7 L/hu") (read_text (codes "NTFY 5 aaln/1@gw1 MGCP 1.0\nX: 7\nO: L/hd\n"))
+        ≡ likes.Otherwise }
+    ensures again { (player : Player) (step : Step) (now : ℕ) → outcome_by steps.Again player step now
+        ≡ again_outcome player step.number false now }
+    ensures slower { (player : Player) (step : Step) (now : ℕ) → outcome_by steps.Slower player step now
+        ≡ again_outcome player step.number true now }
+    ensures quiet { (player : Player) (step : Step) (now : ℕ) → outcome_by steps.Quiet player step now
+        ≡ silence_outcome player step.number true now }
+    ensures act { (player : Player) (step : Step) (now : ℕ) → outcome_by steps.Act player step now ≡ acted_by player.acted }
+    ensures restart { (player : Player) (step : Step) (now : ℕ) → outcome_by steps.Restart player step now ≡ acted_by player.acted }
+    ensures has { (player : Player) (step : Step) (now : ℕ) → outcome_by steps.Has player step now ≡ outcome_at_once player step }
+    ensures tells { (player : Player) (step : Step) (now : ℕ) → outcome_by steps.Tells player step now ≡ outcome_at_once player step }
+    ensures keep { (player : Player) (step : Step) (now : ℕ) → outcome_by steps.Keep player step now ≡ outcome_at_once player step }
+    ensures unknown { (player : Player) (step : Step) (now : ℕ) → outcome_by steps.Unknown player step now ≡ outcome_at_once player step }
 {}
