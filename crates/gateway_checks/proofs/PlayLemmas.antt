@@ -58,9 +58,9 @@ unfolding ComesTo
 comes_through was mid is turn one outcome comes fault step lines undo undoing opened same = λ kept.
     let left = comes kept in (
       left.0
-      ∙ ap (λ (u : Bool). fault_left u mid.fault one) undoing
-      ∙ ap (λ (f : Option Fault). fault_left was.is_undoing f one) fault
-      ∙ ap (fault_left was.is_undoing was.fault) same,
+          ∙ ap (λ (u : Bool). fault_left u mid.fault one) undoing
+          ∙ ap (λ (f : Option Fault). fault_left was.is_undoing f one) fault
+          ∙ ap (fault_left was.is_undoing was.fault) same,
       left.1 ∙ ap (λ (s : Option Step). step_left s one) step ∙ ap (step_left was.step) same,
       left.2,
       left.3 ∙ lines,

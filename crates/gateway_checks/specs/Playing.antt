@@ -281,13 +281,13 @@ TakesStep was is =
     × (was.step ≡ None → is_some is.step ≡ true → is.lines.now ≡ behind line_end (lines_in was))
     × (was.step ≡ None → is_some is.step ≡ true → (is.begun ≡ None) × (is.until ≡ None))
     × (is ≡ record was {
-        is_undoing = is.is_undoing;
-        lines = is.lines;
-        line = is.line;
-        begun = is.begun;
-        until = is.until;
-        step = is.step;
-      })
+      is_undoing = is.is_undoing;
+      lines = is.lines;
+      line = is.line;
+      begun = is.begun;
+      until = is.until;
+      step = is.step;
+    })
 
 -- A turn
 
