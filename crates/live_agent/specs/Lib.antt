@@ -14,6 +14,7 @@ pub mod Example
 pub mod Clock
 pub mod Wiring
 pub mod Turning
+pub mod AnyAround
 pub mod Announcing
 pub mod Meaning
 pub mod Steps

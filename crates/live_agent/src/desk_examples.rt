@@ -10,6 +10,7 @@ ghost use Rattle.live_agent.specs.declared.loading.Load.{Load};
 ghost use Rattle.live_agent.specs.declared.session.Request.TheVariants as requests;
 ghost use Rattle.live_agent.specs.declared.switchboard.Switchboard.{Switchboard};
 ghost use Rattle.live_agent.specs.declared.wire.Wire.{Wire};
+ghost use Rattle.live_agent.specs.AnyAround.{no_sockets, hears_any, answers_any};
 ghost use Rattle.live_agent.specs.Dues.{FallsDueAt};
 ghost use Rattle.live_agent.specs.Ending.{counted_in, EndsWith};
 ghost use Rattle.live_agent.specs.Turning.{line_request, first_request, DoesRequest, DoesTurn, SettlesLines, TakesTyped, TellsCounts};
@@ -55,30 +56,30 @@ pub fn what_is_typed_has_examples()
     ensures first { first_request true (codes "counts\r\n" ∷ codes "stop\n" ∷ []) ≡ requests.Counts }
     ensures nothing { first_request true [] ≡ requests.Nothing }
     ensures told { (journal : Journal) (text : List ℕ) → text ≡ counted_in journal → TellsCounts journal text }
-    ensures nothing_done { (answers : _) (board now : Switchboard) (was is : Wire ℕ) →
-        DoesRequest answers requests.Nothing board now was is → is ≡ was }
-    ensures ends { (answers : _) (board now : Switchboard) (was is : Wire ℕ) →
-        DoesRequest answers requests.Stop board now was is → is.end ≡ Some 0 }
-    ensures goes_on { (answers : _) (board now : Switchboard) (was is : Wire ℕ) →
-        DoesRequest answers requests.StopFromAfar board now was is → is.end ≡ was.end }
+    ensures nothing_done { (board now : Switchboard) (was is : Wire ℕ) →
+        DoesRequest answers_any requests.Nothing board now was is → is ≡ was }
+    ensures ends { (board now : Switchboard) (was is : Wire ℕ) →
+        DoesRequest answers_any requests.Stop board now was is → is.end ≡ Some 0 }
+    ensures goes_on { (board now : Switchboard) (was is : Wire ℕ) →
+        DoesRequest answers_any requests.StopFromAfar board now was is → is.end ≡ was.end }
 {}
 
 /// What turns leave of the board.
 pub fn what_turns_leave_has_examples()
-    ensures looks { (sockets hears answers : _) (board now : Switchboard) (was is : Wire ℕ) →
-        DoesTurn sockets hears answers Turn.Look board now was is → (now ≡ board) × (is.lines ≡ was.lines) }
-    ensures waits { (sockets hears answers : _) (board now : Switchboard) (was is : Wire ℕ) →
-        DoesTurn sockets hears answers (Turn.Wait 700) board now was is → (now ≡ board) × (is.end ≡ was.end) }
-    ensures notes { (sockets hears answers pause : _) (board now : Switchboard) (was is : Wire ℕ) →
-        DoesTurn sockets hears answers (Turn.Note pause) board now was is → (now ≡ board) × (is.around ≡ was.around) }
-    ensures ticks { (sockets hears answers : _) (board now : Switchboard) (was is : Wire ℕ) →
-        DoesTurn sockets hears answers (Turn.Tick 700) board now was is → now.notifying ≡ board.notifying }
-    ensures visits { (sockets hears answers : _) (board now : Switchboard) (was is : Wire ℕ) →
-        DoesTurn sockets hears answers Turn.Visit board now was is → (now ≡ board) × (is ≡ was) }
-    ensures ends { (sockets hears answers : _) (board now : Switchboard) (was is : Wire ℕ) →
-        DoesTurn sockets hears answers Turn.End board now was is → (now ≡ board) × (is ≡ was) }
-    ensures load { (sockets hears answers : _) (load : Box Load) (board now : Switchboard) (was is : Wire ℕ) →
-        TakesTyped sockets hears answers (Some load) board now was is → now ≡ board }
+    ensures looks { (board now : Switchboard) (was is : Wire ℕ) →
+        DoesTurn no_sockets hears_any answers_any Turn.Look board now was is → (now ≡ board) × (is.lines ≡ was.lines) }
+    ensures waits { (board now : Switchboard) (was is : Wire ℕ) →
+        DoesTurn no_sockets hears_any answers_any (Turn.Wait 700) board now was is → (now ≡ board) × (is.end ≡ was.end) }
+    ensures notes { (pause : _) (board now : Switchboard) (was is : Wire ℕ) →
+        DoesTurn no_sockets hears_any answers_any (Turn.Note pause) board now was is → (now ≡ board) × (is.around ≡ was.around) }
+    ensures ticks { (board now : Switchboard) (was is : Wire ℕ) →
+        DoesTurn no_sockets hears_any answers_any (Turn.Tick 700) board now was is → now.notifying ≡ board.notifying }
+    ensures visits { (board now : Switchboard) (was is : Wire ℕ) →
+        DoesTurn no_sockets hears_any answers_any Turn.Visit board now was is → (now ≡ board) × (is ≡ was) }
+    ensures ends { (board now : Switchboard) (was is : Wire ℕ) →
+        DoesTurn no_sockets hears_any answers_any Turn.End board now was is → (now ≡ board) × (is ≡ was) }
+    ensures load { (load : Box Load) (board now : Switchboard) (was is : Wire ℕ) →
+        TakesTyped no_sockets hears_any answers_any (Some load) board now was is → now ≡ board }
     ensures settles { (board now : Switchboard) → SettlesLines board now →
         (now.stations ≡ board.stations) × (now.notifying ≡ board.notifying) }
 {}

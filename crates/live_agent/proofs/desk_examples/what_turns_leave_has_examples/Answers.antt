@@ -4,16 +4,16 @@ use Rattle.live_agent.specs.declared.wire.Wire.{Wire}
 use Rattle.live_agent.proofs.desk_examples.what_turns_leave_has_examples.Goals as goal
 
 pub returns-clause-looks : goal.returns-clause-looks
-returns-clause-looks c = λ sockets hears answers board now was is does. (does.0, ap (λ (wire : Wire ℕ). wire.lines) does.1)
+returns-clause-looks c = λ board now was is does. (does.0, ap (λ (wire : Wire ℕ). wire.lines) does.1)
 
 pub returns-clause-waits : goal.returns-clause-waits
-returns-clause-waits c = λ sockets hears answers board now was is does. (does.0, ap (λ (wire : Wire ℕ). wire.end) does.1)
+returns-clause-waits c = λ board now was is does. (does.0, ap (λ (wire : Wire ℕ). wire.end) does.1)
 
 pub returns-clause-notes : goal.returns-clause-notes
-returns-clause-notes c = λ sockets hears answers pause board now was is does. (does.0, ap (λ (wire : Wire ℕ). wire.around) does.1)
+returns-clause-notes c = λ pause board now was is does. (does.0, ap (λ (wire : Wire ℕ). wire.around) does.1)
 
 pub returns-clause-ticks : goal.returns-clause-ticks
-returns-clause-ticks c = λ sockets hears answers board now was is does. ap (λ (one : Switchboard). one.notifying) does
+returns-clause-ticks c = λ board now was is does. ap (λ (one : Switchboard). one.notifying) does
 
 pub returns-clause-settles : goal.returns-clause-settles
 returns-clause-settles c = λ board now so.

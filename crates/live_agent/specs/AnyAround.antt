@@ -1,0 +1,13 @@
+-- Surroundings of which a worked example asks nothing: of each a number.
+use Rattle.std.specs.Prelude.{⊤, ℕ, List, [], Option}
+use Rattle.std.specs.declared.net.socket_addr.SocketAddr.{SocketAddr}
+use Rattle.std.specs.declared.net.socket_addr.SocketAddrV4.{SocketAddrV4}
+
+abbrev pub no_sockets : ℕ → List SocketAddrV4
+no_sockets around = []
+
+abbrev pub hears_any : ℕ → Option (SocketAddr × ℕ) → List ℕ → ℕ → Type 0
+hears_any around found room after = ⊤
+
+abbrev pub answers_any : ℕ → SocketAddr → List ℕ → ℕ → Type 0
+answers_any around sender text after = ⊤
