@@ -34,17 +34,17 @@ own_so : (message : InFlight) (own code : ℕ) → own ≡ message.id → reply_
 own_so message own code own_is = ap (λ (b : Bool). if b then reply_by code else Stranger) (eq-eqb message.id own (sym own_is))
 
 so_of : (is_own : Bool) (code : ℕ) → is_own ≡ true → reply_by code ≡ (if is_own then reply_by code else Stranger)
-so_of is_own code yes = sym (ap (λ (b : Bool). if b then reply_by code else Stranger) yes)
+so_of is_own code holds = sym (ap (λ (b : Bool). if b then reply_by code else Stranger) holds)
 
 pub own_reply : (is_own : Bool) (message : InFlight) (own code : ℕ) (reply : Reply) → is_own ≡ true → own ≡ message.id
     → reply ≡ reply_of message own code → reply ≡ (if is_own then reply_by code else Stranger)
-own_reply is_own message own code reply yes own_is is = is ∙ own_so message own code own_is ∙ so_of is_own code yes
+own_reply is_own message own code reply holds own_is is = is ∙ own_so message own code own_is ∙ so_of is_own code holds
 
 pub own_kept : (is_own : Bool) (message is : InFlight) (own code moment : ℕ) → is_own ≡ true → own ≡ message.id
     → is ≡ heard message own code moment → is ≡ heard_as (if is_own then reply_by code else Stranger) message moment
 unfolding heard
-own_kept is_own message is own code moment yes own_is heard_so =
-    heard_so ∙ ap (λ (reply : Reply). heard_as reply message moment) (own_so message own code own_is ∙ so_of is_own code yes)
+own_kept is_own message is own code moment holds own_is heard_so =
+    heard_so ∙ ap (λ (reply : Reply). heard_as reply message moment) (own_so message own code own_is ∙ so_of is_own code holds)
 
 -- A message under an id and with a text: what is done with it is what is done with the one that has others
 

@@ -48,12 +48,12 @@ gives_up place was is given =
 module _ {S : Type 0} (sockets : S → List SocketAddrV4) (hears : S → Option (SocketAddr × ℕ) → List ℕ → S → Type 0) (answers : S → SocketAddr → List ℕ → S → Type 0) where
   pub telephones_heard : (load : Option (Box Load)) (made : Bool) (board now : Switchboard) (was is : Wire S) → made ≡ is_some load → made ≡ true
       → now ≡ board → TakesTyped sockets hears answers load board now was is
-  telephones_heard (Some load) made board now was is made_is yes same = same
-  telephones_heard None made board now was is made_is yes same = absurd (true≢false (sym yes ∙ made_is))
+  telephones_heard (Some load) made board now was is made_is holds same = same
+  telephones_heard None made board now was is made_is holds same = absurd (true≢false (sym holds ∙ made_is))
 
   pub line_answered : (load : Option (Box Load)) (made : Bool) (board now : Switchboard) (was between heard is : Wire S) → made ≡ is_some load
       → made ≡ false → between ≡ was → HearsTyped sockets hears between heard → AnswersFirst answers board now heard is
       → TakesTyped sockets hears answers load board now was is
-  line_answered (Some load) made board now was between heard is made_is no same heard_so answered = absurd (true≢false (sym made_is ∙ no))
-  line_answered None made board now was between heard is made_is no same heard_so answered =
+  line_answered (Some load) made board now was between heard is made_is lacks same heard_so answered = absurd (true≢false (sym made_is ∙ lacks))
+  line_answered None made board now was between heard is made_is lacks same heard_so answered =
       (heard, subst (λ (wire : Wire S). HearsTyped sockets hears wire heard) same heard_so, answered)

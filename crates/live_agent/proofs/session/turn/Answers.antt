@@ -5,7 +5,7 @@ use Rattle.live_agent.specs.Turning.{DoesTurn}
 use Rattle.live_agent.proofs.session.turn.Goals as goal
 
 pub returns-clause-does : goal.returns-clause-does
-returns-clause-does g c = λ yes. record {
+returns-clause-does g c = λ holds. record {
   at = c.in-Ok.at;
   settled = c.settle.new.board;
   begun = c.settle.new.wire;
