@@ -5,16 +5,9 @@ pub returns-in-Ok : goal.returns-in-Ok
 returns-in-Ok g c = (
   c.as_slice.result.now,
   inl (c.as_slice.ensures.value ∙ c.in-Ok.ensures),
-  c.answer.ensures.answered,
-  c.answer.ensures.left,
-  c.answer.ensures.rest,
+  (c.answer.ensures.answered, c.answer.ensures.left, c.answer.ensures.rest),
 )
 
 pub returns-in-Err : goal.returns-in-Err
-returns-in-Err g c = (
-  _,
-  inr refl,
-  c.answer-in-Err.ensures.answered,
-  c.answer-in-Err.ensures.left,
-  c.answer-in-Err.ensures.rest,
-)
+returns-in-Err g c =
+    (_, inr refl, (c.answer-in-Err.ensures.answered, c.answer-in-Err.ensures.left, c.answer-in-Err.ensures.rest))

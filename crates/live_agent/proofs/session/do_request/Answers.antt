@@ -16,9 +16,11 @@ pub returns-in-StopFromAfar : goal.returns-in-StopFromAfar
 returns-in-StopFromAfar g c =
     rw (c.in-StopFromAfar.is) (
       refl,
-      c.answer-in-StopFromAfar.ensures.answered,
-      c.answer-in-StopFromAfar.ensures.left,
-      c.answer-in-StopFromAfar.ensures.rest,
+      (
+        c.answer-in-StopFromAfar.ensures.answered,
+        c.answer-in-StopFromAfar.ensures.left,
+        c.answer-in-StopFromAfar.ensures.rest,
+      ),
     )
 
 pub returns-in-Command : goal.returns-in-Command

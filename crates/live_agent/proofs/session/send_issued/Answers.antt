@@ -7,4 +7,4 @@ returns g c =
     subst
     (λ (commands : ℕ). CountsSent false c.args.wire.now.network (record c.args.wire.now.journal.value.tally { commands = commands })
     c.send.new.self.journal.value.tally)
-    c.count.ensures c.send.ensures.tally
+    (rw (c.deref_mut.ensures.value) at c.count.ensures) (rw (c.deref_mut.ensures.value) at c.send.ensures.tally)

@@ -7,10 +7,11 @@ pub returns-then-offer-clause-tally : goal.returns-then-offer-clause-tally
 returns-then-offer-clause-tally g c =
     let some : is_some c.args.self.now.network ≡ true = search rules in
     offered_so c.args.is_repeat c.args.self.now.network c.args.self.now.journal.value.tally _ c.offer.new.self.journal.value.tally
-    c.sent.ensures.tally some c.offer.ensures.tally
+    (rw (c.deref_mut.ensures.value) at c.sent.ensures.tally) some c.offer.ensures.tally
 
 pub returns-clause-tally : goal.returns-clause-tally
 returns-clause-tally g c =
     let none : is_some c.args.self.now.network ≡ false = search rules in
     left_so c.args.is_repeat c.args.self.now.network c.args.self.now.journal.value.tally _ c.offer.new.self.journal.value.tally
-    c.transmit.new.self.journal.value.tally c.sent.ensures.tally none c.offer.ensures.tally c.transmit.ensures.tally
+    c.transmit.new.self.journal.value.tally (rw (c.deref_mut.ensures.value) at c.sent.ensures.tally)
+    none c.offer.ensures.tally c.transmit.ensures.tally
