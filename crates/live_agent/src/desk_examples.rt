@@ -4,6 +4,7 @@
 ghost use Rattle.std.specs.Prelude.{◌≡◌, [], ◌∷◌, ℕ, true, false, List, Option, Some, None, codes};
 ghost use Rattle.std.specs.Global.{Box};
 ghost use Rattle.agent_texts.specs.declared.journal.Journal.{Journal};
+ghost use Rattle.mg_bytes.specs.Lines.{line_of};
 ghost use Rattle.live_ends.specs.declared.written.Written.{Written};
 ghost use Rattle.live_agent.specs.declared.gateway.Gateway.{Gateway};
 ghost use Rattle.live_agent.specs.declared.loading.Load.{Load};
@@ -53,7 +54,7 @@ pub fn what_is_typed_has_examples()
     ensures quit { line_request true (codes "quit") ≡ requests.Stop }
     ensures afar { line_request false (codes "quit") ≡ requests.StopFromAfar }
     ensures command { line_request true (codes "AUEP aaln/1") ≡ requests.Command }
-    ensures first { first_request true (codes "counts\r\n" ∷ codes "stop\n" ∷ []) ≡ requests.Counts }
+    ensures first { (piece : List ℕ) → first_request true (piece ∷ codes "stop\n" ∷ []) ≡ line_request true (line_of piece) }
     ensures nothing { first_request true [] ≡ requests.Nothing }
     ensures told { (journal : Journal) (text : List ℕ) → text ≡ counted_in journal → TellsCounts journal text }
     ensures nothing_done { (board now : Switchboard) (was is : Wire ℕ) →

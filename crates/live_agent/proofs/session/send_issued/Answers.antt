@@ -3,8 +3,9 @@ use Rattle.live_agent.specs.Tallying.{CountsSent}
 use Rattle.live_agent.proofs.session.send_issued.Goals as goal
 
 pub returns : goal.returns
-returns g c =
-    subst
-    (λ (commands : ℕ). CountsSent false c.args.wire.now.network (record c.args.wire.now.journal.value.tally { commands = commands })
-    c.send.new.self.journal.value.tally)
-    (rw (c.deref_mut.ensures.value) at c.count.ensures) (rw (c.deref_mut.ensures.value) at c.send.ensures.tally)
+returns g c = record {
+  tally = subst
+      (λ (commands : ℕ). CountsSent false c.args.wire.now.network (record c.args.wire.now.journal.value.tally { commands = commands })
+      c.send.new.self.journal.value.tally)
+      (rw (c.deref_mut.ensures.value) at c.count.ensures) (rw (c.deref_mut.ensures.value) at c.send.ensures.tally);
+}
