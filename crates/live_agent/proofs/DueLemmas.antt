@@ -14,19 +14,30 @@ earlier_so own flies wake due wakes due_is own_is wake_is =
     due_is ∙ ap (λ (first : Option ℕ). earlier first wake) own_is ∙ ap (λ (other : Option ℕ). earlier flies other) wake_is
 
 -- one more of them is asked
-pub asks_one : (gateways : List Gateway) (place : ℕ) (gateway : Gateway) (least own next due : Option ℕ) → place < length gateways
+asks : (gateways : List Gateway) (place : ℕ) (gateway : Gateway) (least own next due : Option ℕ) → place < length gateways
     → gateway ≡ get_or gateways place gateway → FallsDueAt gateway own → next ≡ earlier least own
     → FallsDueFrom next (drop (place + 1) gateways) due → FallsDueFrom least (drop place gateways) due
-asks_one gateways place gateway least own next due within item own_is next_is falls =
+asks gateways place gateway least own next due within item own_is next_is falls =
     subst (λ (left : List Gateway). FallsDueFrom least left due) (sym (drop_more gateways place gateway within)) (
       own,
       subst (λ (one : Gateway). FallsDueAt one own) item own_is,
       subst (λ (from : Option ℕ). FallsDueFrom from (drop (place + 1) gateways) due) next_is falls,
     )
 
+pub asks_one : (given gateways : List Gateway) (place : ℕ) (gateway : Gateway) (least own next due : Option ℕ) → given ≡ gateways
+    → place < length given → gateway ≡ get_or given place gateway → FallsDueAt gateway own → next ≡ earlier least own
+    → FallsDueFrom next (drop (place + 1) gateways) due → FallsDueFrom least (drop place gateways) due
+asks_one given gateways place gateway least own next due same within item own_is next_is falls =
+    subst (λ (list : List Gateway). FallsDueFrom next (drop (place + 1) list) due → FallsDueFrom least (drop place list) due) same
+    (asks given place gateway least own next due within item own_is next_is) falls
+
 -- all were
-pub asked_all : (gateways : List Gateway) (place : ℕ) (least : Option ℕ) → length gateways ≤ place
-    → FallsDueFrom least (drop place gateways) least
-asked_all gateways place least past =
+asked : (gateways : List Gateway) (place : ℕ) (least : Option ℕ) → length gateways ≤ place → FallsDueFrom least (drop place gateways) least
+asked gateways place least past =
     subst (λ (left : List Gateway). FallsDueFrom least left least)
     (sym (at_drop_all (λ (left : List Gateway). left) gateways place past)) refl
+
+pub asked_all : (given gateways : List Gateway) (place : ℕ) (least : Option ℕ) → given ≡ gateways → length given ≤ place
+    → FallsDueFrom least (drop place gateways) least
+asked_all given gateways place least same past =
+    subst (λ (list : List Gateway). FallsDueFrom least (drop place list) least) same (asked given place least past)

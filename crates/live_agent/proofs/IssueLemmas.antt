@@ -30,13 +30,13 @@ pub issued_order : (line : ℕ) (order : Shown) (ordered : Option Shown) (issued
     → ordering ≡ record was { office = ordering.office }
     → IssuesTo line order (Ok issued) (slice_get ordering.stations.items line) ordering.gateways.items is.gateways.items
     → IssuesOrder line ordered (Some issued) (slice_get was.stations.items line) was.gateways.items is.gateways.items
-issued_order line order ordered issued was ordering is ordered_is rest issues =
+issued_order line order ordered issued was ordering is ordered_is rest sent =
     subst
     (λ (shown : Option Shown). IssuesOrder line shown (Some issued) (slice_get was.stations.items line) was.gateways.items is.gateways.items)
     ordered_is
     (subst
     (λ (board : Switchboard). IssuesTo line order (Ok issued) (slice_get board.stations.items line) board.gateways.items is.gateways.items) rest
-    issues)
+    sent)
 
 -- what is issued by a board that has changed in its exchange alone before is issued by the gateway of that line alone
 pub sent_alone : (line : ℕ) (was ordering issuing is : Switchboard) → ordering ≡ record was { office = ordering.office }

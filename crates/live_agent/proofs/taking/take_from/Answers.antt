@@ -1,4 +1,4 @@
-use Rattle.std.proofs.Common.{◌≡◌, ℕ, Bool, true, false, List, refl, sym, ap, subst}
+use Rattle.std.proofs.Common.{Bool, true, false, List, refl, sym, ap, subst}
 use Rattle.std.specs.Prelude.{not}
 use Rattle.event_values.specs.declared.observed.Observed.{Observed}
 use Rattle.live_agent.specs.Taking.{HearsTold}
@@ -8,7 +8,7 @@ use Rattle.live_agent.proofs.taking.take_from.Goals as goal
 pub returns-then-is_empty-clause-takes : goal.returns-then-is_empty-clause-takes
 returns-then-is_empty-clause-takes c = (
   c.taken-observed.result.now,
-  c.taken-observed.ensures,
+  rw (c.deref.ensures) at c.taken-observed.ensures,
   found_so c.taken-observed.result.now c.behind-told.result.now c.args.station.now.taken c.is_empty.result false c.behind-told.ensures
       c.is_empty.ensures (sym (ap (λ (none : Bool). not none) c.if-is_empty.true)),
   refl,
@@ -18,12 +18,12 @@ returns-then-is_empty-clause-takes c = (
 pub returns-clause-takes : goal.returns-clause-takes
 returns-clause-takes c = (
   c.taken-observed.result.now,
-  c.taken-observed.ensures,
+  rw (c.deref.ensures) at c.taken-observed.ensures,
   found_so c.taken-observed.result.now c.behind-told.result.now c.args.station.now.taken c.is_empty.result true c.behind-told.ensures
       c.is_empty.ensures (sym (ap (λ (none : Bool). not none) c.if-is_empty.false)),
   subst (λ (list : List Observed). HearsTold c.args.line list c.args.office.now c.tell_office.new.office) c.behind-told.ensures
       c.tell_office.ensures,
-  ap (λ (taken : ℕ). record c.args.station.now { taken = taken }) c.len.ensures,
+  refl,
 )
 
 pub returns-clause-told : goal.returns-clause-told

@@ -6,4 +6,5 @@ use Rattle.live_agent.proofs.gateway.Gateway.next_due.Goals as goal
 pub returns : goal.returns
 returns c = λ events stands.
     let wake : c.first_moment.result ≡ first_moment c.args.self.now.wakes.items = search rules in
-    earlier_so _ _ _ _ c.args.self.now.wakes.items c.earlier.ensures (c.next_due.ensures events stands) wake
+    let due = rw (c.deref.ensures) at c.next_due.ensures in
+    earlier_so _ _ _ _ c.args.self.now.wakes.items c.earlier.ensures (due events stands) wake

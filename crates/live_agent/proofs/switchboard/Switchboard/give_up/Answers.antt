@@ -16,3 +16,10 @@ returns-clause-gives_up c =
     (subst (λ (line : Option ℕ). ForgetsFor line c.ended.new.self.office c.forget.new.self.office) (sym c.in-Some-line.is)
     c.forget.ensures.office)
     c.forget.ensures.rest
+
+pub returns-in_default-line-clause-gives_up : goal.returns-in_default-line-clause-gives_up
+returns-in_default-line-clause-gives_up c =
+    let typed : c.in-Some.flight.line ≡ None = search rules in
+    gave_up c.args.place c.args.self.now c.ended.new.self c.ended.new.self (Some c.in-Some.flight) c.in-Some.ensures.ended
+    c.in-Some.ensures.gateway
+    (subst (λ (line : Option ℕ). ForgetsFor line c.ended.new.self.office c.ended.new.self.office) (sym typed) refl) refl

@@ -17,3 +17,10 @@ returns-clause-hears c =
     (Some c.in-Some.flight) c.in-Some.ensures.ended c.in-Some.ensures.gateway
     (subst (λ (line : Option ℕ). AnswersFor c.args.place line c.args.code c.args.text.now c.ended.new.self c.answer.new.self)
     (sym c.in-Some-line.is) c.answer.ensures)
+
+pub returns-in_default-line-clause-hears : goal.returns-in_default-line-clause-hears
+returns-in_default-line-clause-hears c =
+    let typed : c.in-Some.flight.line ≡ None = search rules in
+    heard_response c.args.place c.args.id c.args.code c.args.text.now c.args.self.now c.ended.new.self c.ended.new.self
+    (Some c.in-Some.flight) c.in-Some.ensures.ended c.in-Some.ensures.gateway
+    (subst (λ (line : Option ℕ). AnswersFor c.args.place line c.args.code c.args.text.now c.ended.new.self c.ended.new.self) (sym typed) refl)

@@ -1,5 +1,4 @@
-use Rattle.std.proofs.Common.{ap, refl}
-use Rattle.live_agent.specs.declared.switchboard.Switchboard.{Switchboard}
+use Rattle.std.proofs.Common.{refl}
 use Rattle.live_agent.specs.Issuing.{ordered_in}
 use Rattle.live_agent.specs.Orders.{shown}
 use Rattle.live_agent.proofs.IssueLemmas.{issued_order, sent_alone}
@@ -8,13 +7,9 @@ use Rattle.live_agent.proofs.switchboard.Switchboard.issue_to.Goals as goal
 pub returns-in-Ok-clause-issued : goal.returns-in-Ok-clause-issued
 returns-in-Ok-clause-issued c =
     issued_order c.args.line (shown c.in-Ok-Some.order) (ordered_in c.args.line c.args.self.now.office) c.in-Ok.issued c.args.self.now
-    c.order.new.self c.issue.new.self c.in-Ok-Some.ensures.order c.order.ensures.rest c.in-Ok.ensures.issued
+    c.order.new.self c.issue.new.self (rw (c.in-Ok-Some.field-0-is) at c.in-Ok-Some.ensures.order) c.order.ensures.rest
+    c.in-Ok.ensures.issued
 
 pub returns-in-Ok-clause-alone : goal.returns-in-Ok-clause-alone
 returns-in-Ok-clause-alone c =
     sent_alone c.args.line c.args.self.now c.order.new.self c.issue.new.self c.issue.new.self c.order.ensures.rest c.issue.ensures.alone refl
-
-pub returns-in-Err-clause-alone : goal.returns-in-Err-clause-alone
-returns-in-Err-clause-alone c =
-    sent_alone c.args.line c.args.self.now c.order.new.self c.issue.new.self c.forget.new.self c.order.ensures.rest c.issue.ensures.alone
-    (ap (λ (board : Switchboard). board.gateways.items) c.forget.ensures.rest)

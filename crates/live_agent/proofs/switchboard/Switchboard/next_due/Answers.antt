@@ -7,10 +7,12 @@ loop-gateway-init c = λ due falls. falls
 pub loop-gateway-preserved : goal.loop-gateway-preserved
 loop-gateway-preserved c = λ due falls.
     c.loop-gateway.invariant due
-    (asks_one c.args.self.now.gateways.items c.loop-gateway.gateway-index _ c.loop-gateway.least _ _ due c.loop-gateway-test.true
-    c.gateway-item.is c.next_due.ensures c.earlier.ensures falls)
+    (asks_one c.deref-gateway-items.result.now c.args.self.now.gateways.items c.loop-gateway.gateway-index _ c.loop-gateway.least _ _ due
+    c.deref-gateway-items.ensures.value c.loop-gateway-test.true
+    c.gateway-item.is c.next_due.ensures c.earlier-least.ensures falls)
 
 pub returns : goal.returns
 returns c =
     c.loop-gateway.invariant _
-    (asked_all c.args.self.now.gateways.items c.loop-gateway.gateway-index c.loop-gateway.least c.loop-gateway-test.false)
+    (asked_all c.deref-gateway-items.result.now c.args.self.now.gateways.items c.loop-gateway.gateway-index c.loop-gateway.least
+    c.deref-gateway-items.ensures.value c.loop-gateway-test.false)
