@@ -1,7 +1,6 @@
-use Rattle.std.proofs.Common.{◌≡◌, ℕ, List, [], ◌∷◌, Some, sym, ap, ◌∙◌}
+use Rattle.std.proofs.Common.{ℕ, List, Some, sym, ap, ◌∙◌}
 use Rattle.live_agent.specs.declared.flight.Flight.{Flight}
 use Rattle.live_agent.specs.Ended.{first_ended, still_flying}
-use Rattle.live_agent.specs.Example.{flying}
 use Rattle.live_agent.proofs.Computing.{on_examples}
 use Rattle.live_agent.proofs.hearing_examples.what_ends_has_examples.Goals as goal
 

@@ -1,4 +1,4 @@
-use Rattle.std.proofs.Common.{◌≡◌, ℕ, Option, Some, inl, inr, refl, sym, ap, ◌∙◌}
+use Rattle.std.proofs.Common.{ℕ, Option, Some, inl, inr, refl, sym, ap, ◌∙◌}
 use Rattle.live_agent.specs.Announcing.{is_new, last_new}
 use Rattle.live_agent.proofs.Computing.{on_examples}
 use Rattle.live_agent.proofs.hearing_examples.what_is_heard_has_examples.Goals as goal
