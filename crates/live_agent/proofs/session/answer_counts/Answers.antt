@@ -6,7 +6,7 @@ use Rattle.live_agent.proofs.session.answer_counts.Goals as goal
 pub returns-in-Ok : goal.returns-in-Ok
 returns-in-Ok g c = (
   c.as_slice.result.now,
-  inl (c.as_slice.ensures.value ∙ c.in-Ok.ensures ∙ ap (λ (journal : Journal). counted_in journal) c.deref.ensures.value),
+  inl (c.as_slice.ensures.value ∙ c.in-Ok.ensures ∙ ap (λ (journal : Journal). counted_in journal) c.deref.ensures),
   (c.answer.ensures.answered, c.answer.ensures.left, c.answer.ensures.rest),
 )
 
