@@ -15,7 +15,8 @@ use Rattle.surroundings.specs.declared.lines.Lines.{Lines}
 use Rattle.surroundings.specs.Hearing.{Begins}
 use Rattle.live_journal.specs.declared.journal.Journal.{Journal}
 use Rattle.message_counts.specs.declared.reporting.Faults.{Faults}
-use Rattle.live_telephones.specs.Picturing.{with_numbers, verbs_from, codes_from}
+use Rattle.live_telephones.specs.Picturing.{with_numbers, by_name, files_written, verbs_from, codes_from}
+use Rattle.live_telephones.specs.Viewing.{lines_in, lines_viewed}
 
 -- all that a journal keeps but what the page is shown
 abbrev pub IsSameBeside : Journal → Journal → Type 0
@@ -34,6 +35,9 @@ pub record IsOf (gateway : GatewayState) (journal : Journal) (faults : Faults) (
   pub commands : picture.counts.commands.items ≡ verbs_from 0 journal.tally.value.texts.commands
   pub answers : picture.counts.answers.items ≡ codes_from 0 journal.tally.value.sent.answers.items
   pub held : (events : List GatewayEvent) → Stands gateway events → picture.counts.transactions ≡ remembered (plain gateway.setup events)
+  pub files : by_name picture.counts.write_faults.items ≡ files_written journal
+  pub lines : (events : List GatewayEvent) → Stands gateway events
+      → lines_in picture.lines.items ≡ lines_viewed gateway.setup (plain gateway.setup events) gateway.setup.names.lines
 
 -- a board shows another picture; what happened, and what is asked for, stay
 pub record Shows (was is : BoardState) : Type 0 where
