@@ -3,9 +3,11 @@ use Rattle.std.specs.Prelude.{⊤}
 use Rattle.std.specs.Net.Addr.{ipv4_bits}
 use Rattle.rgw_scripts.proofs.Computing.{on_examples as script_examples}
 use Rattle.line_changes.specs.Seen.{seen_from}
+use Rattle.line_changes.specs.Telling.{head_text, what_text}
 use Rattle.live_telephones.specs.Asking.{watch_in, line_request}
 use Rattle.live_telephones.specs.Viewing.{signals_viewed, call_of, connections_viewed, lines_viewed}
+use Rattle.live_telephones.specs.Watching.{TellsLines}
 
 unfoldable pub on_examples : ⊤
-unfolding script_examples ipv4_bits seen_from watch_in line_request signals_viewed call_of connections_viewed lines_viewed
+unfolding script_examples ipv4_bits seen_from head_text what_text watch_in line_request signals_viewed call_of connections_viewed lines_viewed TellsLines
 on_examples = tt

@@ -4,3 +4,4 @@ pub mod LostLemmas
 pub mod SeeingLemmas
 pub mod ShowingLemmas
 pub mod WatchingLemmas
+pub mod WatchExampleLemmas

@@ -1,10 +1,13 @@
 -- How those who watch are told something one behind the other.
-use Rattle.std.proofs.Common.{ℕ, ◌+◌, ◌<◌, length, take, get_or, List, [], ◌∷◌, ◌++◌, Option, refl, subst}
+use Rattle.std.proofs.Common.{◌≡◌, ℕ, zero, suc, ◌+◌, ◌<◌, length, take, get_or, List, [], ◌∷◌, ◌++◌, Option, refl, sym, ap, ◌∙◌, subst, Result, Ok, Err, IfErr, arith}
 use Rattle.std.proofs.lemmas.List.{take_more}
 use Rattle.std.specs.declared.net.socket_addr.SocketAddr.{SocketAddr}
 use Rattle.line_changes.specs.declared.watchers.Watcher.{Watcher}
 use Rattle.surroundings.specs.Hearing.{AnswersTo}
-use Rattle.live_telephones.specs.Watching.{sender_at, TellsEach}
+use Rattle.plain_machine.specs.declared.setup.Setup.{Setup}
+use Rattle.plain_machine.specs.Machine.{Machine}
+use Rattle.live_telephones.specs.declared.watch.Watch.{Watch}
+use Rattle.live_telephones.specs.Watching.{sender_at, TellsEach, TellsLine, TellsLines}
 
 tells_behind : {S : Type 0} (answers : S → SocketAddr → List ℕ → S → Type 0) (now : ℕ) (places : List (Option Watcher)) (held : Option Watcher)
     (text : List ℕ) (was mid is : S) → TellsEach answers now places was text mid → AnswersTo answers (sender_at now held) mid text is
@@ -20,3 +23,36 @@ pub tells_one_more : {S : Type 0} (answers : S → SocketAddr → List ℕ → S
     → AnswersTo answers (sender_at now (get_or places place held)) mid text is → TellsEach answers now (take (place + 1) places) was text is
 tells_one_more answers now places place held text was mid is inside some one =
     rw (take_more places place held inside) (tells_behind answers now (take place places) (get_or places place held) text was mid is some one)
+
+-- an error says so, whatever it is
+pub refused_so : {A E : Type 0} (done : Result A E) (P : Type 0) → P → IfErr done (λ e. P)
+refused_so (Ok a) P so = tt
+refused_so (Err e) P so = so
+
+-- of no line anything is told yet
+pub tells_none_yet : {S : Type 0} (answers : S → SocketAddr → List ℕ → S → Type 0) (setup : Setup) (m : Machine) (around : S) (watch : Watch)
+    → TellsLines answers setup m 0 around watch around watch
+unfolding TellsLines
+tells_none_yet answers setup m around watch = (refl, refl)
+
+tells_suc : {S : Type 0} (answers : S → SocketAddr → List ℕ → S → Type 0) (setup : Setup) (m : Machine) (line : ℕ) (before : S) (was : Watch)
+    (between : S) (mid : Watch) (after : S) (is : Watch) → TellsLines answers setup m line before was between mid
+    → TellsLine answers setup m (suc line) between mid after is → TellsLines answers setup m (suc line) before was after is
+unfolding TellsLines
+tells_suc answers setup m line before was between mid after is some one = (between, mid, some, one)
+
+-- what changed at the next line is told behind that
+pub tells_next_line : {S : Type 0} (answers : S → SocketAddr → List ℕ → S → Type 0) (setup : Setup) (m : Machine) (line : ℕ) (before : S)
+    (was : Watch) (between : S) (mid : Watch) (after : S) (is : Watch) → TellsLines answers setup m line before was between mid
+    → TellsLine answers setup m (line + 1) between mid after is → TellsLines answers setup m (line + 1) before was after is
+tells_next_line answers setup m line before was between mid after is some one =
+    let same : line + 1 ≡ suc line = omega arith in
+    rw same (tells_suc answers setup m line before was between mid after is some (rw same at one))
+
+-- who watches does so still
+pub still_watch : {S : Type 0} (answers : S → SocketAddr → List ℕ → S → Type 0) (setup : Setup) (m : Machine) (line : ℕ) (before : S)
+    (was : Watch) (after : S) (is : Watch) → TellsLines answers setup m line before was after is → is.watchers ≡ was.watchers
+unfolding TellsLines
+still_watch answers setup m zero before was after is (around, same) = ap (λ (w : Watch). w.watchers) same
+still_watch answers setup m (suc line) before was after is (between, mid, some, one) =
+    one.watchers ∙ still_watch answers setup m line before was between mid some

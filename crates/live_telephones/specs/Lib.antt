@@ -3,6 +3,7 @@ pub mod Losses
 pub mod Asking
 pub mod Admitting
 pub mod Watching
+pub mod WatchExample
 pub mod Picturing
 pub mod Viewing
 pub mod ViewExample

@@ -1,5 +1,5 @@
 -- What who watches is told of a line, and who that is.
-use Rattle.std.specs.Prelude.{◌≡◌, ◌⊎◌, ℕ, codes, decimal, List, [], ◌∷◌, ◌++◌, Option, Some, None, option_map}
+use Rattle.std.specs.Prelude.{◌≡◌, ◌⊎◌, ◌<◌, ℕ, zero, suc, ◌-◌, true, false, slice_get, slice_set, codes, decimal, List, [], ◌∷◌, ◌++◌, Option, Some, None, option_map}
 use Rattle.std.specs.declared.net.socket_addr.SocketAddr.{SocketAddr}
 use Rattle.std.specs.declared.net.socket_addr.SocketAddr.TheVariants.{V4}
 use Rattle.std.specs.declared.net.socket_addr.SocketAddrV4.{SocketAddrV4}
@@ -7,9 +7,13 @@ use Rattle.line_changes.specs.declared.change.Change.{Change}
 use Rattle.line_changes.specs.declared.watchers.Watcher.{Watcher}
 use Rattle.line_changes.specs.Seen.{SeenLine}
 use Rattle.line_changes.specs.Changes.{changes_of}
-use Rattle.line_changes.specs.Telling.{watching_line}
-use Rattle.line_changes.specs.Watching.{most_watchers, nobody, told_at, with_watcher}
+use Rattle.line_changes.specs.Telling.{with_changes, watching_line}
+use Rattle.line_changes.specs.Watching.{most_watchers, nobody, is_watched, told_at, with_watcher}
+use Rattle.plain_machine.specs.declared.setup.Setup.{Setup}
+use Rattle.plain_machine.specs.Machine.{Machine}
 use Rattle.surroundings.specs.Hearing.{AnswersTo}
+use Rattle.live_telephones.specs.declared.watch.Watch.{Watch}
+use Rattle.live_telephones.specs.Seeing.{seen_of}
 
 -- what changed at a line, where it was seen before
 abbrev pub changes_behind : Option SeenLine → SeenLine → List Change
@@ -30,10 +34,51 @@ TellsEach answers now [] before text after = after ≡ before
 TellsEach {S} answers now (held ∷ places) before text after =
     (between : S) × AnswersTo answers (sender_at now held) before text between × TellsEach answers now places between text after
 
--- who watches does so still; or all are told that memory is refused, and nobody does any more
-abbrev pub WatchesOn : {S : Type 0} → (S → SocketAddr → List ℕ → S → Type 0) → List (Option Watcher) → S → List (Option Watcher) → Type 0
-WatchesOn {S} answers were after are =
-    (are ≡ were) ⊎ ((are ≡ nobody) × (before : S) × (now : ℕ) × TellsEach answers now were before (codes "! 1 OutOfMemory\n") after)
+-- What is told of the lines
+
+-- this is told to each who watches, at once; where it is nothing, nobody is told
+abbrev pub TellsText : {S : Type 0} → (S → SocketAddr → List ℕ → S → Type 0) → ℕ → List (Option Watcher) → S → List ℕ → S → Type 0
+TellsText answers now places before [] after = after ≡ before
+TellsText answers now places before (c ∷ text) after = TellsEach answers now places before (c ∷ text) after
+
+-- a line was seen so, at its place among those that were seen, where it has one
+abbrev pub with_seen : ℕ → SeenLine → Option SeenLine → List SeenLine → List SeenLine
+with_seen place is None were = were
+with_seen place is (Some was) were = slice_set were place is
+
+-- A line is looked at as it is in this machine. What changed there since it was seen last is told to each who watches, at this moment and
+-- under the next numbers; and it was seen so.
+pub record TellsLine {S : Type 0}
+    (answers : S → SocketAddr → List ℕ → S → Type 0) (setup : Setup) (m : Machine) (line : ℕ) (before : S) (was : Watch) (after : S) (is : Watch)
+    : Type 0 where
+  pub seen : SeenLine
+  pub so : seen_of setup m line ≡ Some seen
+  pub told : is.told
+      ≡ with_changes m.now line (record was.told { text = [] }) (changes_behind (slice_get was.seen.items (line - 1)) seen)
+  pub said : TellsText answers m.now was.watchers.places before is.told.text after
+  pub kept : is.seen.items ≡ with_seen (line - 1) seen (slice_get was.seen.items (line - 1)) was.seen.items
+  pub watchers : is.watchers ≡ was.watchers
+
+-- so it is told of the first so many lines, one behind the other
+unfoldable pub TellsLines :
+    {S : Type 0} → (S → SocketAddr → List ℕ → S → Type 0) → Setup → Machine → ℕ → S → Watch → S → Watch → Type 0
+TellsLines answers setup m zero before was after is = (after ≡ before) × (is ≡ was)
+TellsLines {S} answers setup m (suc line) before was after is = (between : S) × (mid : Watch)
+    × TellsLines answers setup m line before was between mid × TellsLine answers setup m (suc line) between mid after is
+
+-- so it is told of lines before one for which memory is refused
+abbrev pub TellsSome : {S : Type 0} → (S → SocketAddr → List ℕ → S → Type 0) → Setup → Machine → S → Watch → S → Type 0
+TellsSome answers setup m before was after =
+    (line : ℕ) × (is : Watch) × (line < setup.names.lines) × TellsLines answers setup m line before was after is
+
+-- Where nobody watches at this moment nothing is told, and all stays. Else what changed at each line is told. Or memory is refused, which
+-- each who watches is told behind what changed at the lines before, and nobody watches any more.
+abbrev pub WatchesOn : {S : Type 0} → (S → SocketAddr → List ℕ → S → Type 0) → Setup → Machine → S → Watch → S → Watch → Type 0
+WatchesOn {S} answers setup m before was after is =
+    ((is_watched m.now was.watchers.places ≡ false) × (after ≡ before) × (is ≡ was))
+    ⊎ ((is_watched m.now was.watchers.places ≡ true) × TellsLines answers setup m setup.names.lines before was after is)
+    ⊎ ((is_watched m.now was.watchers.places ≡ true) × (is.watchers.places ≡ nobody) × (between : S)
+    × TellsSome answers setup m before was between × TellsEach answers m.now was.watchers.places between (codes "! 1 OutOfMemory\n") after)
 
 -- who asks to watch is answered from which number on, at which moment, and does so; or that as many watch as may, and nothing changes
 abbrev pub AnswersWatch : List (Option Watcher) → SocketAddrV4 → ℕ → ℕ → ℕ → List ℕ → List (Option Watcher) → Type 0

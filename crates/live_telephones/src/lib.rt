@@ -9,6 +9,7 @@ mod seeing;
 mod telephones;
 pub mod view_examples;
 mod watch;
+pub mod watch_examples;
 
 pub use crate::answering::{
     PHONES_FROM_AFAR, act_answer, all_shown, answer_put, question_answer, short_answer, show,

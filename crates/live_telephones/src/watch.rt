@@ -7,7 +7,7 @@ ghost use Rattle.line_changes.specs.Telling.{with_changes, watching_line};
 ghost use Rattle.line_changes.specs.Watching.{longest_watch, nobody, with_watcher};
 ghost use Rattle.surroundings.specs.Hearing.{AnswersTo};
 ghost use Rattle.live_telephones.specs.Asking.{usage};
-ghost use Rattle.live_telephones.specs.Watching.{changes_behind, sender_at, TellsEach, WatchesOn, AnswersWatch};
+ghost use Rattle.live_telephones.specs.Watching.{changes_behind, sender_at, with_seen, TellsEach, TellsLine, TellsLines, TellsSome, WatchesOn, AnswersWatch};
 
 use crate::answering::{UNKNOWN, full_answer};
 use crate::seeing::seen_line;
@@ -178,14 +178,16 @@ impl Watch {
     // A line was seen so.
     fn keep(&mut self, line: u16, is: SeenLine)
         requires { 1 ≤ line }
-        ensures watchers { self.new.watchers ≡ self.old.watchers }
+        ensures seen { self.new.seen.items
+            ≡ with_seen (line - 1) is (slice_get self.old.seen.items (line - 1)) self.old.seen.items }
+        ensures rest { self.new ≡ record self.old { seen = self.new.seen } }
     {
         if let Some(was) = self.seen.get_mut(usize::from(line) - 1) {
             *was = is;
         }
     }
 
-    // What changed at a line is told.
+    // What changed at a line is told. After an error nobody was told anything.
     fn tell_line<S: Surroundings>(
         &mut self,
         alloc: Global,
@@ -195,6 +197,9 @@ impl Watch {
     ) -> Result<(), OutOfMemory>
         requires low { 1 ≤ line }
         requires high { line ≤ gateway.now.setup.names.lines }
+        ensures told { (events : List GatewayEvent) → Stands gateway.now events → IfOk result (λ _. TellsLine S.answers
+            gateway.now.setup (plain gateway.now.setup events) line around.old self.old around.new self.new) }
+        ensures refused { IfErr result (λ _. around.new ≡ around.old) }
         ensures traffic { S.traffic around.new ≡ S.traffic around.old }
         ensures watchers { self.new.watchers ≡ self.old.watchers }
     {
@@ -216,6 +221,10 @@ impl Watch {
         around: &mut S,
         gateway: &Gateway,
     ) -> Result<(), OutOfMemory>
+        ensures told { (events : List GatewayEvent) → Stands gateway.now events → IfOk result (λ _. TellsLines S.answers
+            gateway.now.setup (plain gateway.now.setup events) gateway.now.setup.names.lines around.old self.old around.new self.new) }
+        ensures refused { (events : List GatewayEvent) → Stands gateway.now events → IfErr result (λ _. TellsSome S.answers
+            gateway.now.setup (plain gateway.now.setup events) around.old self.old around.new) }
         ensures traffic { S.traffic around.new ≡ S.traffic around.old }
         ensures watchers { self.new.watchers ≡ self.old.watchers }
     {
@@ -228,7 +237,8 @@ impl Watch {
     /// Who watches is told what changed since that was told last. Where memory is refused all are told that, and watch no more.
     pub fn tell<S: Surroundings>(&mut self, alloc: Global, around: &mut S, gateway: &Gateway)
         ensures traffic { S.traffic around.new ≡ S.traffic around.old }
-        ensures watchers { WatchesOn S.answers self.old.watchers.places around.new self.new.watchers.places }
+        ensures watch { (events : List GatewayEvent) → Stands gateway.now events → WatchesOn S.answers gateway.now.setup
+            (plain gateway.now.setup events) around.old self.old around.new self.new }
     {
         let now = gateway.now();
         if !self.watchers.is_watched(now) {

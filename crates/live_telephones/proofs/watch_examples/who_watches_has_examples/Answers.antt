@@ -1,0 +1,43 @@
+use Rattle.std.proofs.Common.{◌≡◌, false, true, codes, ℕ, List, [], ◌++◌, Option, inl, inr, refl, sym, ap, ◌∙◌, true≢false}
+use Rattle.line_changes.specs.Watching.{is_watched, nobody}
+use Rattle.line_changes.specs.declared.watchers.Watcher.{Watcher}
+use Rattle.line_changes.specs.declared.watchers.Watchers.{Watchers}
+use Rattle.plain_machine.specs.Example.{two_lines}
+use Rattle.plain_machine.specs.Lists.{plain}
+use Rattle.plain_machine.specs.Machine.{Machine}
+use Rattle.live_telephones.specs.declared.watch.Watch.{Watch}
+use Rattle.live_telephones.specs.WatchExample.{Heard, hears, somebody, heard_once}
+use Rattle.live_telephones.specs.Watching.{TellsEach, WatchesOn}
+use Rattle.live_telephones.proofs.Computing.{on_examples}
+use Rattle.live_telephones.proofs.WatchExampleLemmas.{heard}
+use Rattle.live_telephones.proofs.WatchingLemmas.{still_watch}
+use Rattle.live_telephones.proofs.watch_examples.who_watches_has_examples.Goals as goal
+
+unwatched : (m : Machine) (was is : Watch) (after : Heard) → was.watchers.places ≡ nobody → WatchesOn hears two_lines m [] was after is
+    → (after ≡ []) × (is ≡ was)
+unwatched m was is after none (inl (unwatched_so, around, same)) = (around, same)
+unwatched m was is after none (inr (inl (watched, lines))) =
+    let some : is_watched m.now nobody ≡ true = rw none at watched in absurd (true≢false (sym some))
+unwatched m was is after none (inr (inr (watched, gone, between, some, tells))) =
+    let some : is_watched m.now nobody ≡ true = rw none at watched in absurd (true≢false (sym some))
+
+pub returns-clause-unwatched : goal.returns-clause-unwatched
+returns-clause-unwatched c = unwatched
+
+refused : (m : Machine) (was is : Watch) (after : Heard) → m.now ≡ 0 → was.watchers.places ≡ somebody
+    → WatchesOn hears two_lines m [] was after is → is.watchers.places ≡ nobody
+    → (between : Heard) × (after ≡ between ++ heard_once (codes "! 1 OutOfMemory\n"))
+refused m was is after now places (inl (unwatched_so, around, same)) over =
+    let none : is_watched 0 somebody ≡ false = rw (now, places) at unwatched_so in absurd (true≢false none)
+refused m was is after now places (inr (inl (watched, lines))) over =
+    let same : is.watchers ≡ was.watchers = still_watch hears two_lines m 2 [] was after is lines in
+    let nobodys : nobody ≡ somebody = sym over ∙ ap (λ (w : Watchers). w.places) same ∙ places in
+    let none : false ≡ true = ap (λ (l : List (Option Watcher)). is_watched 0 l) nobodys in
+    absurd (true≢false (sym none))
+refused m was is after now places (inr (inr (watched, gone, between, some, tells))) over =
+    let told : TellsEach hears 0 somebody between (codes "! 1 OutOfMemory\n") after = rw (now, places) at tells in
+    (between, heard between (codes "! 1 OutOfMemory\n") after told)
+
+pub returns-clause-refused : goal.returns-clause-refused
+unfolding on_examples
+returns-clause-refused c = λ was is after places on over. refused (plain two_lines []) was is after refl places on over

@@ -1,0 +1,63 @@
+//! What who watches is told, and what the page is shown of a gateway, at worked examples, as theorems.
+#![tactic(auto, unfolding(crate::proofs::Computing::on_examples))]
+
+ghost use Rattle.std.specs.Prelude.{◌≡◌, ◌++◌, ℕ, None, Some, codes, List, [], ◌∷◌};
+ghost use Rattle.plain_machine.specs.Example.{two_lines};
+ghost use Rattle.plain_machine.specs.Lists.{plain};
+ghost use Rattle.plain_machine.specs.Machine.{Machine};
+ghost use Rattle.gateway_core.specs.GatewayState.{GatewayState};
+ghost use Rattle.gateway_core.specs.Stands.{Stands};
+ghost use Rattle.message_counts.specs.declared.reporting.Faults.{Faults};
+ghost use Rattle.page_answers.specs.declared.picture.Picture.{Picture};
+ghost use Rattle.line_changes.specs.Example.{resting, lifted};
+ghost use Rattle.line_changes.specs.Watching.{nobody};
+ghost use Rattle.live_journal.specs.declared.journal.Journal.{Journal};
+ghost use Rattle.live_telephones.specs.declared.watch.Watch.{Watch};
+ghost use Rattle.live_telephones.specs.Paging.{IsOf};
+ghost use Rattle.live_telephones.specs.Picturing.{by_name};
+ghost use Rattle.live_telephones.specs.Viewing.{lines_in, viewed};
+ghost use Rattle.live_telephones.specs.Watching.{with_seen, TellsText, TellsLine, TellsLines, WatchesOn};
+ghost use Rattle.live_telephones.specs.WatchExample.{Heard, hears, somebody, heard_once};
+
+/// Who watches is told what there is to tell, up to the moment before their time ends. A line is seen so at its place, where it has one.
+pub fn what_is_told_has_examples()
+    ensures nothing { (after : Heard) → TellsText hears 4 somebody [] [] after → after ≡ [] }
+    ensures something { (after : Heard) → TellsText hears 4 somebody [] (97 ∷ []) after → after ≡ heard_once (97 ∷ []) }
+    ensures over { (after : Heard) → TellsText hears 5 somebody [] (97 ∷ []) after → after ≡ [] }
+    ensures placed { with_seen 1 lifted (Some resting) (resting ∷ resting ∷ []) ≡ resting ∷ lifted ∷ [] }
+    ensures unplaced { with_seen 1 lifted None (resting ∷ []) ≡ resting ∷ [] }
+{}
+
+/// What changed at a line is told under the next number, at the gateway's moment, and the line was seen so then; nothing is told where
+/// nothing changed. Of no line nothing is told.
+pub fn what_changes_at_a_line_is_told()
+    ensures changed { (was is : Watch) (after : Heard) → was.seen.items ≡ lifted ∷ []
+        → was.told ≡ record { number = 7; text = codes "old" } → was.watchers.places ≡ somebody
+        → TellsLine hears two_lines (plain two_lines []) 1 [] was after is
+        → (after ≡ heard_once (codes "change 7 at 0 line 1 on\n")) × (is.told.number ≡ 8) × (is.seen.items ≡ resting ∷ []) }
+    ensures same { (was is : Watch) (after : Heard) → was.seen.items ≡ resting ∷ []
+        → was.told ≡ record { number = 7; text = codes "old" } → was.watchers.places ≡ somebody
+        → TellsLine hears two_lines (plain two_lines []) 1 [] was after is → (after ≡ []) × (is.told.number ≡ 7) }
+    ensures none { (was is : Watch) (after : Heard) → TellsLines hears two_lines (plain two_lines []) 0 [] was after is
+        → (after ≡ []) × (is ≡ was) }
+{}
+
+/// Where nobody watches nobody is told, and nothing changes. Who watches does so still, or was told last that memory is refused.
+pub fn who_watches_has_examples()
+    ensures unwatched { (m : Machine) (was is : Watch) (after : Heard) → was.watchers.places ≡ nobody
+        → WatchesOn hears two_lines m [] was after is → (after ≡ []) × (is ≡ was) }
+    ensures refused { (was is : Watch) (after : Heard) → was.watchers.places ≡ somebody
+        → WatchesOn hears two_lines (plain two_lines []) [] was after is → is.watchers.places ≡ nobody
+        → (between : Heard) × (after ≡ between ++ heard_once (codes "! 1 OutOfMemory\n")) }
+{}
+
+/// A gateway's picture shows its own lines, all of them, and what couldn't be written.
+pub fn a_picture_is_of_its_gateway()
+    ensures lines { (gateway : GatewayState) (journal : Journal) (faults : Faults) (picture : Picture) → gateway.setup ≡ two_lines
+        → Stands gateway [] → IsOf gateway journal faults 0 picture
+        → lines_in picture.lines.items ≡ Some (viewed resting (None ∷ None ∷ None ∷ None ∷ []) 0)
+        ∷ Some (viewed resting (None ∷ None ∷ None ∷ None ∷ []) 0) ∷ [] }
+    ensures files { (gateway : GatewayState) (journal : Journal) (faults : Faults) (picture : Picture) → journal.capture.value.name ≡ []
+        → IsOf gateway journal faults 0 picture → by_name picture.counts.write_faults.items
+        ≡ (codes "standard output", journal.written.output) ∷ (codes "standard error", journal.written.error) ∷ [] }
+{}
