@@ -143,7 +143,9 @@ pub record DoesNext {S T : Type 0}
   pub leaves : Leaves traffic turn begun done
   pub behind : is ≡ record done { exchange = record done.exchange { around = is.exchange.around }; watch = is.watch }
   pub kept : traffic is.exchange.around ≡ traffic done.exchange.around
-  pub watch : WatchesOn answers done.watch.watchers.places is.exchange.around is.watch.watchers.places
+  pub watch : (events : List GatewayEvent) → Stands done.play.gateway.value events
+      → WatchesOn answers done.play.gateway.value.setup (plain done.play.gateway.value.setup events)
+      done.exchange.around done.watch is.exchange.around is.watch
 
 -- A turn was done, and then what was recorded was written: of the desk, that changes only what is recorded and told, and whether some of
 -- it waits to be taken.

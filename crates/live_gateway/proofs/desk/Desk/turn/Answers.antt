@@ -90,5 +90,5 @@ returns-clause-does g c =
       leaves = c.do_turn.ensures.leaves;
       behind = refl;
       kept = c.tell.ensures.traffic;
-      watch = c.tell.ensures.watchers;
+      watch = rw (c.deref-3.ensures) at c.tell.ensures.watch;
     }
