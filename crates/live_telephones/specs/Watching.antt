@@ -49,8 +49,8 @@ with_seen place is (Some was) were = slice_set were place is
 -- A line is looked at as it is in this machine. What changed there since it was seen last is told to each who watches, at this moment and
 -- under the next numbers; and it was seen so.
 pub record TellsLine {S : Type 0}
-    (answers : S → SocketAddr → List ℕ → S → Type 0) (setup : Setup) (m : Machine) (line : ℕ) (before : S) (was : Watch) (after : S) (is : Watch)
-    : Type 0 where
+    (answers : S → SocketAddr → List ℕ → S → Type 0) (setup : Setup) (m : Machine) (line : ℕ)
+    (before : S) (was : Watch) (after : S) (is : Watch) : Type 0 where
   pub seen : SeenLine
   pub so : seen_of setup m line ≡ Some seen
   pub told : is.told
@@ -71,8 +71,8 @@ abbrev pub TellsSome : {S : Type 0} → (S → SocketAddr → List ℕ → S →
 TellsSome answers setup m before was after =
     (line : ℕ) × (is : Watch) × (line < setup.names.lines) × TellsLines answers setup m line before was after is
 
--- Where nobody watches at this moment nothing is told, and all stays. Else what changed at each line is told. Or memory is refused, which
--- each who watches is told behind what changed at the lines before, and nobody watches any more.
+-- Where nobody watches at this moment nothing is told, and all stays. Else what changed at each line is told. Or memory is refused: each
+-- who watches is told that, behind what changed at the lines before, and nobody watches any more.
 abbrev pub WatchesOn : {S : Type 0} → (S → SocketAddr → List ℕ → S → Type 0) → Setup → Machine → S → Watch → S → Watch → Type 0
 WatchesOn {S} answers setup m before was after is =
     ((is_watched m.now was.watchers.places ≡ false) × (after ≡ before) × (is ≡ was))

@@ -1,4 +1,4 @@
-use Rattle.std.proofs.Common.{◌≡◌, false, true, codes, ℕ, List, [], ◌++◌, Option, inl, inr, refl, sym, ap, ◌∙◌, true≢false}
+use Rattle.std.proofs.Common.{◌≡◌, false, true, codes, List, [], ◌++◌, Option, inl, inr, refl, sym, ap, ◌∙◌, true≢false}
 use Rattle.line_changes.specs.Watching.{is_watched, nobody}
 use Rattle.line_changes.specs.declared.watchers.Watcher.{Watcher}
 use Rattle.line_changes.specs.declared.watchers.Watchers.{Watchers}
