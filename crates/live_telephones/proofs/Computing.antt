@@ -6,8 +6,8 @@ use Rattle.line_changes.specs.Seen.{seen_from}
 use Rattle.line_changes.specs.Telling.{head_text, what_text}
 use Rattle.live_telephones.specs.Asking.{watch_in, line_request}
 use Rattle.live_telephones.specs.Viewing.{signals_viewed, call_of, connections_viewed, lines_viewed}
-use Rattle.live_telephones.specs.Watching.{TellsLines}
+use Rattle.live_telephones.specs.Watching.{TellsLines, lines_seen}
 
 unfoldable pub on_examples : ⊤
-unfolding script_examples ipv4_bits seen_from head_text what_text watch_in line_request signals_viewed call_of connections_viewed lines_viewed TellsLines
+unfolding script_examples ipv4_bits seen_from head_text what_text watch_in line_request signals_viewed call_of connections_viewed lines_viewed TellsLines lines_seen
 on_examples = tt

@@ -1,5 +1,5 @@
 -- What who watches is told of a line, and who that is.
-use Rattle.std.specs.Prelude.{◌≡◌, ◌⊎◌, ◌<◌, ℕ, zero, suc, ◌-◌, true, false, slice_get, slice_set, codes, decimal, List, [], ◌∷◌, ◌++◌, Option, Some, None, option_map}
+use Rattle.std.specs.Prelude.{◌≡◌, ◌⊎◌, ◌<◌, ℕ, zero, suc, ◌-◌, true, false, slice_get, slice_set, codes, decimal, List, [], ◌∷◌, ◌++◌, map, Option, Some, None, option_map}
 use Rattle.std.specs.declared.net.socket_addr.SocketAddr.{SocketAddr}
 use Rattle.std.specs.declared.net.socket_addr.SocketAddr.TheVariants.{V4}
 use Rattle.std.specs.declared.net.socket_addr.SocketAddrV4.{SocketAddrV4}
@@ -80,8 +80,22 @@ WatchesOn {S} answers setup m before was after is =
     ⊎ ((is_watched m.now was.watchers.places ≡ true) × (is.watchers.places ≡ nobody) × (between : S)
     × TellsSome answers setup m before was between × TellsEach answers m.now was.watchers.places between (codes "! 1 OutOfMemory\n") after)
 
+-- Who asks
+
 -- who asks to watch is answered from which number on, at which moment, and does so; or that as many watch as may, and nothing changes
 abbrev pub AnswersWatch : List (Option Watcher) → SocketAddrV4 → ℕ → ℕ → ℕ → List ℕ → List (Option Watcher) → Type 0
 AnswersWatch were address now seconds number text are =
     ((with_watcher were address now seconds ≡ Some are) × (text ≡ watching_line number now))
     ⊎ ((with_watcher were address now seconds ≡ None) × (are ≡ were) × (text ≡ full_text))
+
+-- what is seen of the first so many lines, from line 1
+unfoldable pub lines_seen : Setup → Machine → ℕ → List (Option SeenLine)
+lines_seen setup m zero = []
+lines_seen setup m (suc line) = lines_seen setup m line ++ (seen_of setup m (suc line) ∷ [])
+
+-- It was asked to watch. Where nobody watched, each line was seen as it is in this machine; else what was seen stays. So does the number
+-- that the next change has.
+pub record BeginsToSee (setup : Setup) (m : Machine) (was is : Watch) : Type 0 where
+  pub anew : is_watched m.now was.watchers.places ≡ false → map Some is.seen.items ≡ lines_seen setup m setup.names.lines
+  pub kept : is_watched m.now was.watchers.places ≡ true → is.seen ≡ was.seen
+  pub rest : is ≡ record was { watchers = is.watchers; seen = is.seen }

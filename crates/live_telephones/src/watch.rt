@@ -1,13 +1,13 @@
 //! Who watches is told what changes at the lines.
-ghost use Rattle.std.specs.Prelude.{◌≡◌, ◌≤◌, ◌-◌, ◌⊎◌, [], codes, List, true, false, None, Some, IfOk, IfErr, OnOk, slice_get};
+ghost use Rattle.std.specs.Prelude.{◌≡◌, ◌≤◌, ◌-◌, ◌⊎◌, [], codes, List, true, false, None, Some, IfOk, IfErr, OnOk, slice_get, map};
 ghost use Rattle.plain_machine.specs.Event.{GatewayEvent};
 ghost use Rattle.plain_machine.specs.Lists.{plain};
 ghost use Rattle.gateway_core.specs.Stands.{Stands};
 ghost use Rattle.line_changes.specs.Telling.{with_changes, watching_line};
-ghost use Rattle.line_changes.specs.Watching.{longest_watch, nobody, with_watcher};
+ghost use Rattle.line_changes.specs.Watching.{longest_watch, nobody, is_watched, with_watcher};
 ghost use Rattle.surroundings.specs.Hearing.{AnswersTo};
 ghost use Rattle.live_telephones.specs.Asking.{usage};
-ghost use Rattle.live_telephones.specs.Watching.{changes_behind, sender_at, with_seen, TellsEach, TellsLine, TellsLines, TellsSome, WatchesOn, AnswersWatch};
+ghost use Rattle.live_telephones.specs.Watching.{changes_behind, sender_at, with_seen, lines_seen, BeginsToSee, TellsEach, TellsLine, TellsLines, TellsSome, WatchesOn, AnswersWatch};
 
 use crate::answering::{UNKNOWN, full_answer};
 use crate::seeing::seen_line;
@@ -46,7 +46,11 @@ impl Drop for Watch {
 }
 
 // What is seen of each line, from the first.
-fn seen_lines(alloc: Global, gateway: &Gateway) -> Result<Vec<SeenLine>, OutOfMemory> {
+#[tactic(auto, unfolding(crate::specs::Watching::lines_seen))]
+fn seen_lines(alloc: Global, gateway: &Gateway) -> Result<Vec<SeenLine>, OutOfMemory>
+    ensures { (events : List GatewayEvent) → Stands gateway.now events → IfOk result (λ lines. map Some lines.items
+        ≡ lines_seen gateway.now.setup (plain gateway.now.setup events) gateway.now.setup.names.lines) }
+{
     let mut lines = Vec::new(alloc);
     for before in 0..gateway.lines() {
         lines.push(seen_line(alloc, gateway, before + 1)?)?;
@@ -97,7 +101,13 @@ impl Watch {
         seconds: u64,
     ) -> Result<bool, OutOfMemory>
         requires { seconds ≤ longest_watch }
-        ensures told { self.new.told ≡ self.old.told }
+        ensures rest { self.new ≡ record self.old { watchers = self.new.watchers; seen = self.new.seen } }
+        ensures anew { (events : List GatewayEvent) → Stands gateway.now events
+            → is_watched (plain gateway.now.setup events).now self.old.watchers.places ≡ false → IfOk result (λ _.
+            map Some self.new.seen.items
+            ≡ lines_seen gateway.now.setup (plain gateway.now.setup events) gateway.now.setup.names.lines) }
+        ensures kept { (events : List GatewayEvent) → Stands gateway.now events
+            → is_watched (plain gateway.now.setup events).now self.old.watchers.places ≡ true → self.new.seen ≡ self.old.seen }
         ensures watches { (events : List GatewayEvent) → Stands gateway.now events → IfOk result (λ watches. watches ≡ true
             → with_watcher self.old.watchers.places address (plain gateway.now.setup events).now seconds ≡ Some self.new.watchers.places) }
         ensures full { IfOk result (λ watches. watches ≡ false → self.new.watchers ≡ self.old.watchers) }
@@ -136,6 +146,8 @@ impl Watch {
         ensures answered { (events : List GatewayEvent) (address : SocketAddrV4) → Stands gateway.now events → sender ≡ Some address
             → IfOk result (λ text. AnswersWatch self.old.watchers.places address (plain gateway.now.setup events).now seconds
             self.old.told.number text.items self.new.watchers.places) }
+        ensures seen { (events : List GatewayEvent) (address : SocketAddrV4) → Stands gateway.now events → sender ≡ Some address
+            → IfOk result (λ _. BeginsToSee gateway.now.setup (plain gateway.now.setup events) self.old self.new) }
         ensures refused { IfErr result (λ _. self.new.watchers ≡ self.old.watchers) }
     {
         let Some(address) = sender else {

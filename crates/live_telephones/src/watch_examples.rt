@@ -1,7 +1,7 @@
 //! What who watches is told, and what the page is shown of a gateway, at worked examples, as theorems.
 #![tactic(auto, unfolding(crate::proofs::Computing::on_examples))]
 
-ghost use Rattle.std.specs.Prelude.{◌≡◌, ◌++◌, ℕ, None, Some, codes, List, [], ◌∷◌};
+ghost use Rattle.std.specs.Prelude.{◌≡◌, ◌++◌, ℕ, None, Some, codes, List, [], ◌∷◌, map};
 ghost use Rattle.plain_machine.specs.Example.{two_lines};
 ghost use Rattle.plain_machine.specs.Lists.{plain};
 ghost use Rattle.plain_machine.specs.Machine.{Machine};
@@ -16,7 +16,7 @@ ghost use Rattle.live_telephones.specs.declared.watch.Watch.{Watch};
 ghost use Rattle.live_telephones.specs.Paging.{IsOf};
 ghost use Rattle.live_telephones.specs.Picturing.{by_name};
 ghost use Rattle.live_telephones.specs.Viewing.{lines_in, viewed};
-ghost use Rattle.live_telephones.specs.Watching.{with_seen, TellsText, TellsLine, TellsLines, WatchesOn};
+ghost use Rattle.live_telephones.specs.Watching.{with_seen, TellsText, TellsLine, TellsLines, WatchesOn, BeginsToSee};
 ghost use Rattle.live_telephones.specs.WatchExample.{Heard, hears, somebody, heard_once};
 
 /// Who watches is told what there is to tell, up to the moment before their time ends. A line is seen so at its place, where it has one.
@@ -49,6 +49,14 @@ pub fn who_watches_has_examples()
     ensures refused { (was is : Watch) (after : Heard) → was.watchers.places ≡ somebody
         → WatchesOn hears two_lines (plain two_lines []) [] was after is → is.watchers.places ≡ nobody
         → (between : Heard) × (after ≡ between ++ heard_once (codes "! 1 OutOfMemory\n")) }
+{}
+
+/// Who asks to watch where nobody does begins with the lines as they are; else what was seen stays. The next number stays each time.
+pub fn who_begins_to_watch_has_examples()
+    ensures begun { (was is : Watch) → was.watchers.places ≡ nobody → BeginsToSee two_lines (plain two_lines []) was is
+        → map (λ line. Some line) is.seen.items ≡ Some resting ∷ Some resting ∷ [] }
+    ensures goes_on { (was is : Watch) → was.watchers.places ≡ somebody → BeginsToSee two_lines (plain two_lines []) was is
+        → (is.seen ≡ was.seen) × (is.told ≡ was.told) }
 {}
 
 /// A gateway's picture shows its own lines, all of them, and what couldn't be written.

@@ -25,3 +25,17 @@ returns-in_ok-full-clause-answered c = λ events address stands is.
       ap (λ (w : Watchers). w.places) (c.in_ok-begin.ensures.full c.if-branch.false),
       c.in_ok-full.ensures,
     ))
+
+pub returns-then-branch-clause-seen : goal.returns-then-branch-clause-seen
+returns-then-branch-clause-seen c = λ events address stands is. record {
+  anew = c.in_ok-begin.ensures.anew events stands;
+  kept = c.begin.ensures.kept events stands;
+  rest = c.begin.ensures.rest;
+}
+
+pub returns-in_ok-full-clause-seen : goal.returns-in_ok-full-clause-seen
+returns-in_ok-full-clause-seen c = λ events address stands is. record {
+  anew = c.in_ok-begin.ensures.anew events stands;
+  kept = c.begin.ensures.kept events stands;
+  rest = c.begin.ensures.rest;
+}
