@@ -12,7 +12,7 @@ use Rattle.gateway_rules.specs.declared.refusal.Refusal.{Refusal}
 use Rattle.traces.specs.Writing.{Input, typed}
 use Rattle.live_play.specs.Running.{Live, RanOf, Takes, Refuses, Asked}
 use Rattle.live_telephones.specs.Asking.{usage}
-use Rattle.live_telephones.specs.Watching.{AnswersWatch}
+use Rattle.live_telephones.specs.Watching.{AnswersWatch, BeginsToSee}
 use Rattle.live_telephones.specs.declared.watch.Watch.{Watch}
 use Rattle.live_gateway.specs.Desk.{Standing, with_input}
 use Rattle.live_gateway.specs.Answering.{no_memory, IsActAnswer, TriesAct, Asks, IsPut, AsksToWatch}
@@ -59,9 +59,11 @@ pub watch_so : {V E : Type 0} (items : V → List ℕ) (put : Result V E) (sende
     (was is : Watch) (tells : List ℕ → Type 0) → (sender ≡ None → (is ≡ was) × IfOk put (λ v. items v ≡ usage))
     → ((events : List GatewayEvent) (address : SocketAddrV4) → Stands gateway events → sender ≡ Some address
     → IfOk put (λ v. AnswersWatch was.watchers.places address (plain gateway.setup events).now seconds was.told.number (items v) is.watchers.places))
+    → ((events : List GatewayEvent) (address : SocketAddrV4) → Stands gateway events → sender ≡ Some address
+    → IfOk put (λ v. BeginsToSee gateway.setup (plain gateway.setup events) was is))
     → IfErr put (λ e. is.watchers ≡ was.watchers) → IfOk put (λ v. tells (items v)) → IfErr put (λ e. tells no_memory)
     → (answer : List ℕ) × AsksToWatch sender gateway seconds answer was is × tells answer
-watch_so items (Ok v) None gateway seconds was is tells nobody some kept told memory = (items v, inr (nobody refl), told)
-watch_so items (Ok v) (Some address) gateway seconds was is tells nobody some kept told memory =
-    (items v, inr (λ events stands. some events address stands refl), told)
-watch_so items (Err why) sender gateway seconds was is tells nobody some kept told memory = (no_memory, inl (refl, kept), memory)
+watch_so items (Ok v) None gateway seconds was is tells nobody some seen kept told memory = (items v, inr (nobody refl), told)
+watch_so items (Ok v) (Some address) gateway seconds was is tells nobody some seen kept told memory =
+    (items v, inr (λ events stands. (some events address stands refl, seen events address stands refl)), told)
+watch_so items (Err why) sender gateway seconds was is tells nobody some seen kept told memory = (no_memory, inl (refl, kept), memory)

@@ -25,7 +25,7 @@ use Rattle.live_play.specs.Running.{Live, RanOf, Takes, Refuses, Asked, lines_sh
 use Rattle.live_telephones.specs.Admitting.{typist_of}
 use Rattle.live_telephones.specs.Asking.{AsksFor, request_in, short_text, usage, wants_memory}
 use Rattle.live_telephones.specs.Losses.{counts_text}
-use Rattle.live_telephones.specs.Watching.{AnswersWatch}
+use Rattle.live_telephones.specs.Watching.{AnswersWatch, BeginsToSee}
 use Rattle.live_telephones.specs.declared.telephones.Typist.{Typist}
 use Rattle.live_telephones.specs.declared.telephones.TelephoneRequest.{TelephoneRequest}
 use Rattle.live_telephones.specs.declared.telephones.TelephoneRequest.TheVariants.{Act as AsksAct, Show, ShowAll, Watch as AsksWatch, Counts, Stop, StopFromAfar, Refused, Unknown, OutOfMemory}
@@ -109,6 +109,7 @@ abbrev pub WatchesFor : Option SocketAddrV4 → GatewayState → ℕ → List �
 WatchesFor None gateway seconds answer was is = (is ≡ was) × (answer ≡ usage)
 WatchesFor (Some address) gateway seconds answer was is = (events : List GatewayEvent) → Stands gateway events →
     AnswersWatch was.watchers.places address (plain gateway.setup events).now seconds was.told.number answer is.watchers.places
+    × BeginsToSee gateway.setup (plain gateway.setup events) was is
 
 -- so it is, or memory is refused, and nobody's watch changes
 abbrev pub AsksToWatch : Option SocketAddrV4 → GatewayState → ℕ → List ℕ → Watch → Watch → Type 0

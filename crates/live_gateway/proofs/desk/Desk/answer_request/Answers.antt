@@ -35,6 +35,7 @@ returns-in-Watch-clause-answered g c =
     (λ (text : List ℕ). AnswersTo g.S.Surroundings.answers c.args.self.now.lines.sender c.args.self.now.exchange.around text c.answer_put-in-Watch.new.around)
     (rw (c.sender-sender.ensures) at c.ask-answer.ensures.nobody)
     (rw (c.deref-in-Watch.ensures, c.sender-sender.ensures) at c.ask-answer.ensures.answered)
+    (rw (c.deref-in-Watch.ensures, c.sender-sender.ensures) at c.ask-answer.ensures.seen)
     c.ask-answer.ensures.refused c.answer_put-in-Watch.ensures.answered c.answer_put-in-Watch.ensures.refused in
     rw (c.in-Watch.is) (
       put.0,
