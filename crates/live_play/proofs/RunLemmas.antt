@@ -4,6 +4,7 @@ use Rattle.std.specs.Prelude.{IfSome, OnOk, Result, Ok, Err}
 use Rattle.std.proofs.lemmas.List.{map-append, take_more, length-append, length-take-le}
 use Rattle.std.proofs.lemmas.Bool.{le-leb}
 use Rattle.std.proofs.lemmas.Grind.{flat_map-append}
+use Rattle.std.specs.declared.net.socket_addr.SocketAddrV4.{SocketAddrV4}
 use Rattle.mg_bytes.specs.Words.{words}
 use Rattle.mg_line.specs.declared.phone.Act.{Act}
 use Rattle.surroundings.specs.Sending.{Sent, Grows}
@@ -31,7 +32,7 @@ use Rattle.rgw_scripts.specs.Printing.{printed_line, refusal_line, shown_line}
 use Rattle.traces.specs.Replaying.{move_in}
 use Rattle.traces.specs.Telling.{told, told_mark, told_text}
 use Rattle.traces.specs.Writing.{Entry, Input, arrived, typed, passed, clock_text, at_clock, showed, became, Says, IsPlay, taken_after, sent_at, sent_in, input_text, after_input, datagrams_in, entry_text, after_entry, written, script_after}
-use Rattle.live_play.specs.Running.{Live, sent_of, Ran, AreOf, RanOf, AreInPlace, AreMarks, HandsOut, Takes, Refuses, Asked, IsAnswer, TellsRefusal}
+use Rattle.live_play.specs.Running.{Live, sent_of, Ran, AreOf, RanOf, AreInPlace, AreMarks, HandsOut, IsNoted, HandsEach, HandsBy, HandsFrom, Takes, TakesBy, Refuses, Asked, IsAnswer, TellsRefusal}
 use Rattle.live_play.specs.Readable.{first_unread, KeepsClock, IsByTick, AreByTicks, IsLater, AreLater}
 use Rattle.traces.proofs.ShowLemmas.{both_not}
 
@@ -149,16 +150,39 @@ hands_on was mid is before some more marks others a b = record {
   all : before + length some + length more ≡ before + length (some ++ more)
   all = rw (length-append some more) (omega arith)
 
-pub one_more : (was mid is : Live) (datagrams : List OutDatagram) (place : ℕ) (d : OutDatagram) → place < length datagrams
-    → (marks : List Entry) × HandsOut was 0 (take place datagrams) marks mid
-    → (marks : List Entry) × HandsOut mid place (get_or datagrams place d ∷ []) marks is
-    → (marks : List Entry) × HandsOut was 0 (take (place + 1) datagrams) marks is
-one_more was mid is datagrams place d inside a b =
+-- so it is of what an outlet said of each
+each_more : {O : Type 0} (hands : O → SocketAddrV4 → List ℕ → Option Mark → O → Type 0) (from via to : O) (before after : ℕ) (some more : List OutDatagram)
+    (marks others : List Entry) → after ≡ before + length some → HandsEach hands before some from marks via → HandsEach hands after more via others to
+    → HandsEach hands before (some ++ more) from (marks ++ others) to
+each_more {O} hands from via to before after [] more marks others same a b =
+    let here : after ≡ before = omega (arith, same) in
+    let marked : HandsEach hands after more via (marks ++ others) to =
+    subst (λ (l : List Entry). HandsEach hands after more via l to) (sym (ap (λ (l : List Entry). l ++ others) a.0)) b in
+    subst (λ (n : ℕ). HandsEach hands n more from (marks ++ others) to) here
+    (subst (λ (o : O). HandsEach hands after more o (marks ++ others) to) a.1 marked)
+each_more hands from via to before after (d ∷ some) more marks others same a b =
+    let next : after ≡ before + 1 + length some = omega (arith, same) in
+    (a.0, a.1, a.2, a.3 ++ others, a.4, a.5, ap (λ (l : List Entry). l ++ others) a.6 ∙ append_assoc a.2 a.3 others,
+      each_more hands a.0 via to (before + 1) after some more a.3 others next a.7 b)
+
+each_one : {O : Type 0} (hands : O → SocketAddrV4 → List ℕ → Option Mark → O → Type 0) (from to : O) (before place : ℕ) (d : OutDatagram) (mark : Option Mark)
+    (noted : List Entry) → place ≡ before + 1 → hands from d.to d.bytes mark to → IsNoted mark place noted → HandsEach hands before (d ∷ []) from noted to
+each_one hands from to before place d mark noted here handed is =
+    (to, mark, noted, [], handed, subst (λ (n : ℕ). IsNoted mark n noted) here is, sym (append-nil noted), (refl, refl))
+
+pub one_more : {O : Type 0} (hands : O → SocketAddrV4 → List ℕ → Option Mark → O → Type 0) (was mid is : Live) (from via to : O) (datagrams : List OutDatagram)
+    (place : ℕ) (d : OutDatagram) → place < length datagrams → HandsBy hands was from 0 (take place datagrams) mid via
+    → HandsBy hands mid via place (get_or datagrams place d ∷ []) is to → HandsBy hands was from 0 (take (place + 1) datagrams) is to
+one_more hands was mid is from via to datagrams place d inside a b =
     let so_far : length (take place datagrams) ≡ place = length-take-le place datagrams (omega arith) in
     let here : place ≡ 0 + length (take place datagrams) = rw so_far (omega arith) in
-    let behind : HandsOut mid (0 + length (take place datagrams)) (get_or datagrams place d ∷ []) b.0 is =
-    subst (λ (n : ℕ). HandsOut mid n (get_or datagrams place d ∷ []) b.0 is) here b.1 in
-    (a.0 ++ b.0, rw (take_more datagrams place d inside) (hands_on was mid is 0 (take place datagrams) (get_or datagrams place d ∷ []) a.0 b.0 a.1 behind))
+    let behind : HandsOut mid (0 + length (take place datagrams)) (get_or datagrams place d ∷ []) b.marks is =
+    subst (λ (n : ℕ). HandsOut mid n (get_or datagrams place d ∷ []) b.marks is) here b.out in
+    subst (λ (l : List OutDatagram). HandsBy hands was from 0 l is to) (sym (take_more datagrams place d inside)) (record {
+      marks = a.marks ++ b.marks;
+      out = hands_on was mid is 0 (take place datagrams) (get_or datagrams place d ∷ []) a.marks b.marks a.out behind;
+      each = each_more hands from via to 0 place (take place datagrams) (get_or datagrams place d ∷ []) a.marks b.marks here a.each b.each;
+    })
 
 pub hands_one : (was is : Live) (before : ℕ) (datagram : OutDatagram) → is.gateway ≡ was.gateway → Grows was.handed (sent_of datagram ∷ []) is.handed → is.told ≡ was.told
     → is.script ≡ was.script → HandsOut was before (datagram ∷ []) [] is
@@ -189,18 +213,28 @@ hands_marked was is before datagram mark place here few gateway handed told scri
   within = omega arith
 
 -- so it is in a loop over datagrams
-pub none_handed : (was : Live) → (marks : List Entry) × HandsOut was 0 [] marks was
-none_handed was = ([], hands_nothing was 0)
+pub none_handed : {O : Type 0} (hands : O → SocketAddrV4 → List ℕ → Option Mark → O → Type 0) (was : Live) (from : O) → HandsBy hands was from 0 [] was from
+none_handed hands was from = record { marks = []; out = hands_nothing was 0; each = (refl, refl) }
 
-pub one_handed : (was is : Live) (datagram : OutDatagram) (place : ℕ) → is.gateway ≡ was.gateway → Grows was.handed (sent_of datagram ∷ []) is.handed → is.told ≡ was.told
-    → is.script ≡ was.script → (before : ℕ) → place ≡ before + 1 → (marks : List Entry) × HandsOut was before (datagram ∷ []) marks is
-one_handed was is datagram place gateway handed told script before here = ([], hands_one was is before datagram gateway handed told script)
+pub one_handed : {O : Type 0} (hands : O → SocketAddrV4 → List ℕ → Option Mark → O → Type 0) (was is : Live) (from to : O) (datagram : OutDatagram)
+    (mark : Option Mark) (before place : ℕ) → place ≡ before + 1 → hands from datagram.to datagram.bytes mark to → IsNoted mark place []
+    → is.gateway ≡ was.gateway → Grows was.handed (sent_of datagram ∷ []) is.handed → is.told ≡ was.told → is.script ≡ was.script
+    → HandsBy hands was from before (datagram ∷ []) is to
+one_handed hands was is from to datagram mark before place here given noted gateway handed told script = record {
+  marks = [];
+  out = hands_one was is before datagram gateway handed told script;
+  each = each_one hands from to before place datagram mark [] here given noted;
+}
 
-pub one_marked : (was is : Live) (before : ℕ) (datagram : OutDatagram) (mark : Mark) (place : ℕ) → place ≡ before + 1
-    → place < first_unread → is.gateway ≡ was.gateway → Grows was.handed (sent_of datagram ∷ []) is.handed → Grows was.told (told_mark mark place) is.told → is.script ≡ was.script
-    → (marks : List Entry) × HandsOut was before (datagram ∷ []) marks is
-one_marked was is before datagram mark place here few gateway handed told script =
-    (became mark place ∷ [], hands_marked was is before datagram mark place here few gateway handed told script)
+pub one_marked : {O : Type 0} (hands : O → SocketAddrV4 → List ℕ → Option Mark → O → Type 0) (was is : Live) (from to : O) (datagram : OutDatagram) (mark : Mark)
+    (before place : ℕ) → place ≡ before + 1 → place < first_unread → hands from datagram.to datagram.bytes (Some mark) to → is.gateway ≡ was.gateway
+    → Grows was.handed (sent_of datagram ∷ []) is.handed → Grows was.told (told_mark mark place) is.told → is.script ≡ was.script
+    → HandsBy hands was from before (datagram ∷ []) is to
+one_marked hands was is from to datagram mark before place here few given gateway handed told script = record {
+  marks = became mark place ∷ [];
+  out = hands_marked was is before datagram mark place here few gateway handed told script;
+  each = each_one hands from to before place datagram (Some mark) (became mark place ∷ []) here given (inl (few, refl));
+}
 
 all_marked : (was is : Live) (datagrams : List OutDatagram) (marks : List Entry) → HandsOut was 0 datagrams marks is → AreMarks 0 (length datagrams) marks
 all_marked was is datagrams marks hands = subst (λ (n : ℕ). AreMarks 0 n marks) all hands.are where
@@ -416,22 +450,28 @@ pub goes_on_quietly : (says : Input → Type 0) (was is : Live) → Took was.gat
     → is.script ≡ was.script → RanOf says was is
 goes_on_quietly says was is took handed told script = record { entries = []; ran = ran_nothing was is took handed told script; inputs = tt }
 
-pub takes_so : (was mid is : Live) (stepped : GatewayState) (input : Input) (event : GatewayEvent) (outputs sent : List OutDatagram) → Says input (give event)
+pub takes_so : {O : Type 0} (turns : O → GatewayState → O → Type 0) (hands : O → SocketAddrV4 → List ℕ → Option Mark → O → Type 0) (was mid is : Live) (from to : O)
+    (stepped : GatewayState) (input : Input) (event : GatewayEvent) (outputs sent : List OutDatagram) → Says input (give event)
     → IsByTick input (give event) (sends sent) → Took was.gateway (event ∷ []) stepped [] outputs → mid.gateway ≡ stepped → sent ≡ outputs
     → ((before : List GatewayEvent) → Stands was.gateway before → Ends (plain was.gateway.setup before) event None)
     → mid.handed ≡ was.handed → Grows was.told (input_text was.script input (sends sent)) mid.told
     → IfSome mid.told (λ text. mid.script ≡ after_input was.script input (sends sent))
-    → (marks : List Entry) × HandsOut mid 0 sent marks is → Takes was input event is
-takes_so was mid is stepped input event outputs sent says ticks took gateway same ends kept told script hands =
+    → HandsFrom turns hands mid from sent is to → TakesBy turns hands was from input event is to
+takes_so turns hands was mid is from to stepped input event outputs sent says ticks took gateway same ends kept told script handed =
     let took_so : Took was.gateway (event ∷ []) mid.gateway [] sent =
     subst (λ (g : GatewayState). Took was.gateway (event ∷ []) g [] sent) (sym gateway)
     (subst (λ (l : List OutDatagram). Took was.gateway (event ∷ []) stepped [] l) (sym same) took) in
     record {
-      outputs = sent;
-      marks = hands.0;
-      took = subst (λ (g : GatewayState). Took was.gateway (event ∷ []) g [] sent) (sym hands.1.gateway) took_so;
-      are = all_marked mid is sent hands.0 hands.1;
-      ran = ran_sent was mid is input event sent hands.0 says ticks took_so ends kept told script hands.1;
+      takes = record {
+        outputs = sent;
+        marks = handed.by.marks;
+        took = subst (λ (g : GatewayState). Took was.gateway (event ∷ []) g [] sent) (sym handed.by.out.gateway) took_so;
+        are = all_marked mid is sent handed.by.marks handed.by.out;
+        ran = ran_sent was mid is input event sent handed.by.marks says ticks took_so ends kept told script handed.by.out;
+      };
+      turned = handed.turned;
+      told = handed.told;
+      each = handed.by.each;
     }
 
 pub goes_on_by : (says : Input → Type 0) (was is : Live) (input : Input) (event : GatewayEvent) → says input → Takes was input event is

@@ -1,5 +1,5 @@
 -- How a gateway runs live.
-use Rattle.std.specs.Prelude.{◌≡◌, ⊤, ◌⊎◌, ℕ, zero, suc, ◌+◌, ◌<◌, ◌≤◌, List, [], ◌∷◌, ◌++◌, length, map, Option, IfSome}
+use Rattle.std.specs.Prelude.{◌≡◌, ⊤, ◌⊎◌, ℕ, zero, suc, ◌+◌, ◌<◌, ◌≤◌, List, [], ◌∷◌, ◌++◌, length, map, Option, Some, None, IfSome}
 use Rattle.std.specs.declared.net.socket_addr.SocketAddrV4.{SocketAddrV4}
 use Rattle.surroundings.specs.Sending.{Sent, Grows}
 use Rattle.transmission.specs.declared.output.OutDatagram.{OutDatagram}
@@ -13,6 +13,7 @@ use Rattle.rgw_scripts.specs.Moves.{give, ask, sends, refuses, line_shown, print
 use Rattle.rgw_scripts.specs.Printing.{printed_line, refusal_line}
 use Rattle.rgw_scripts.specs.Status.{LineStatus}
 use Rattle.traces.specs.declared.script.Script.{Script}
+use Rattle.traces.specs.declared.telling.Mark.{Mark}
 use Rattle.traces.specs.Telling.{told_text}
 use Rattle.traces.specs.Writing.{Entry, Input, arrived, typed, passed, showed, became, datagrams_in, IsPlay, taken_after, sent_in, written, script_after, clock_text, at_clock}
 use Rattle.live_play.specs.Readable.{first_unread, AreByTicks}
@@ -93,6 +94,37 @@ pub record HandsOut (was : Live) (before : ℕ) (datagrams : List OutDatagram) (
   pub told : Grows was.told (written was.script marks) is.told
   pub script : is.script ≡ was.script
 
+-- what is noted of the datagram at a place: what is to be, if anything is; but nothing at a place that isn't read again
+abbrev pub IsNoted : Option Mark → ℕ → List Entry → Type 0
+IsNoted None place noted = noted ≡ []
+IsNoted (Some mark) place noted =
+    ((place < first_unread) × (noted ≡ became mark place ∷ [])) ⊎ ((first_unread ≤ place) × (noted ≡ []))
+
+-- Behind so many others, these datagrams were handed to an outlet, one after the other, and nothing else was done to it: the marks are
+-- what it said of each, in their order.
+abbrev pub HandsEach :
+    {O : Type 0} → (O → SocketAddrV4 → List ℕ → Option Mark → O → Type 0) → ℕ → List OutDatagram → O → List Entry → O → Type 0
+HandsEach hands before [] from marks to = (marks ≡ []) × (to ≡ from)
+HandsEach {O} hands before (datagram ∷ more) from marks to =
+    (next : O) × (mark : Option Mark) × (noted others : List Entry) × hands from datagram.to datagram.bytes mark next
+    × IsNoted mark (before + 1) noted × (marks ≡ noted ++ others) × HandsEach hands (before + 1) more next others to
+
+-- so datagrams were handed out to an outlet, and their trace has what this said of them
+pub record HandsBy {O : Type 0}
+    (hands : O → SocketAddrV4 → List ℕ → Option Mark → O → Type 0)
+    (was : Live) (from : O) (before : ℕ) (datagrams : List OutDatagram) (is : Live) (to : O) : Type 0 where
+  pub marks : List Entry
+  pub out : HandsOut was before datagrams marks is
+  pub each : HandsEach hands before datagrams from marks to
+
+-- an outlet was told of an event, by the gateway that took it, and then what is sent at it was handed to it
+pub record HandsFrom {O : Type 0}
+    (turns : O → GatewayState → O → Type 0) (hands : O → SocketAddrV4 → List ℕ → Option Mark → O → Type 0)
+    (was : Live) (from : O) (datagrams : List OutDatagram) (is : Live) (to : O) : Type 0 where
+  pub turned : O
+  pub told : turns from is.gateway turned
+  pub by : HandsBy hands was turned 0 datagrams is to
+
 -- this is printed of what a line is, whatever events the gateway stands for, or of that there is none
 pub record IsAnswer (g : GatewayState) (line : ℕ) (answered : List ℕ) : Type 0 where
   pub status : Option LineStatus
@@ -112,6 +144,16 @@ pub record Takes (was : Live) (input : Input) (event : GatewayEvent) (is : Live)
   pub took : Took was.gateway (event ∷ []) is.gateway [] outputs
   pub are : AreMarks 0 (length outputs) marks
   pub ran : Ran was (showed input (give event) (sends outputs) ∷ marks) is
+
+-- It took an event so, and an outlet was told of that and handed what was sent at it, one after the other, and nothing else was done to
+-- it: what stands behind the entry is what the outlet said of each.
+pub record TakesBy {O : Type 0}
+    (turns : O → GatewayState → O → Type 0) (hands : O → SocketAddrV4 → List ℕ → Option Mark → O → Type 0)
+    (was : Live) (from : O) (input : Input) (event : GatewayEvent) (is : Live) (to : O) : Type 0 where
+  pub takes : Takes was input event is
+  pub turned : O
+  pub told : turns from is.gateway turned
+  pub each : HandsEach hands 0 takes.outputs turned takes.marks to
 
 -- An act that a line said was refused: that is an entry, and why is printed; or nothing was told, where memory was refused, for the act
 -- or for saying why it can't be done.

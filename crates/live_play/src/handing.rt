@@ -1,9 +1,8 @@
 //! What a gateway sends is handed out, and its trace told what became of it.
-ghost use Rattle.std.specs.Prelude.{◌≡◌, ◌+◌, ◌∷◌, [], List, ℕ};
+ghost use Rattle.std.specs.Prelude.{◌≡◌, ◌+◌, ◌∷◌, [], ℕ};
 ghost use Rattle.gateway_core.specs.GatewayState.{GatewayState};
 ghost use Rattle.traces.specs.declared.script.Script.{Script};
-ghost use Rattle.traces.specs.Writing.{Entry};
-ghost use Rattle.live_play.specs.Running.{live, HandsOut};
+ghost use Rattle.live_play.specs.Running.{live, HandsBy};
 
 use crate::ends::Outlet;
 use crate::placed::Placed;
@@ -35,15 +34,18 @@ fn hand<O: Outlet, T: Teller>(
     messages: &[SentMessage],
     place: u64,
 )
-    ensures handed { (gateway : GatewayState) (script : Script) (before : ℕ) → place ≡ before + 1 → (marks : List Entry) × HandsOut
-        (live gateway script (T.told teller.old) (O.handed out.old)) before (datagram.now ∷ []) marks
-        (live gateway script (T.told teller.new) (O.handed out.new)) }
+    ensures handed { (gateway : GatewayState) (script : Script) (before : ℕ) → place ≡ before + 1 → HandsBy O.hands
+        (live gateway script (T.told teller.old) (O.handed out.old)) out.old before (datagram.now ∷ [])
+        (live gateway script (T.told teller.new) (O.handed out.new)) out.new }
     ensures came { O.came out.new ≡ O.came out.old }
 {
-    if let Some(mark) = out.hand(datagram.to, datagram.bytes.as_bytes(), messages) {
-        if place < FIRST_UNREAD {
-            tell_mark(alloc, teller, mark, place);
+    match out.hand(datagram.to, datagram.bytes.as_bytes(), messages) {
+        Some(mark) => {
+            if place < FIRST_UNREAD {
+                tell_mark(alloc, teller, mark, place);
+            }
         }
+        None => {}
     }
 }
 
@@ -57,9 +59,9 @@ pub(crate) fn hand_all<O: Outlet, T: Teller>(
     messages: &[SentMessage],
     _told: Placed,
 )
-    ensures handed { (gateway : GatewayState) (script : Script) → (marks : List Entry) × HandsOut
-        (live gateway script (T.told teller.old) (O.handed out.old)) 0 datagrams.now marks
-        (live gateway script (T.told teller.new) (O.handed out.new)) }
+    ensures handed { (gateway : GatewayState) (script : Script) → HandsBy O.hands
+        (live gateway script (T.told teller.old) (O.handed out.old)) out.old 0 datagrams.now
+        (live gateway script (T.told teller.new) (O.handed out.new)) out.new }
     ensures came { O.came out.new ≡ O.came out.old }
 {
     let mut place: u64 = 0;

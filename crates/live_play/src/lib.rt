@@ -3,6 +3,7 @@
 #![tactic(auto)]
 
 mod ends;
+mod examples;
 mod handing;
 mod placed;
 mod play;

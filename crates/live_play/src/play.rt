@@ -10,8 +10,8 @@ ghost use Rattle.gateway_core.specs.Stands.{Stands, Took};
 ghost use Rattle.rgw_scripts.specs.declared.step.ScriptStep.TheVariants.{Phone, Show};
 ghost use Rattle.rgw_scripts.specs.declared.step.ScriptLine.TheVariants.{Whole};
 ghost use Rattle.rgw_scripts.specs.Script.{line_in};
-ghost use Rattle.traces.specs.Writing.{Entry, arrived, typed, passed, clock_text, opening_script};
-ghost use Rattle.live_play.specs.Running.{live, Ran, RanOf, HandsOut, Takes, Refuses, Asked, IsAnswer};
+ghost use Rattle.traces.specs.Writing.{arrived, typed, passed, clock_text, opening_script};
+ghost use Rattle.live_play.specs.Running.{live, Ran, RanOf, HandsFrom, Takes, TakesBy, Refuses, Asked, IsAnswer};
 
 use crate::ends::Outlet;
 use crate::handing::hand_all;
@@ -105,9 +105,9 @@ impl<T: Teller + Drop> LivePlay<T> {
 
     // The gateway took an event, at which it sends these datagrams: the trace was told of that, and they are handed out in their order.
     fn hand_out<O: Outlet>(&mut self, out: &mut O, datagrams: &[OutDatagram], told: Placed)
-        ensures handed { (marks : List Entry) × HandsOut
-            (live self.old.gateway.value self.old.script (T.told self.old.teller) (O.handed out.old)) 0 datagrams.now marks
-            (live self.new.gateway.value self.new.script (T.told self.new.teller) (O.handed out.new)) }
+        ensures handed { HandsFrom O.turns O.hands
+            (live self.old.gateway.value self.old.script (T.told self.old.teller) (O.handed out.old)) out.old datagrams.now
+            (live self.new.gateway.value self.new.script (T.told self.new.teller) (O.handed out.new)) out.new }
         ensures came { O.came out.new ≡ O.came out.old }
     {
         out.turned(&self.gateway);
@@ -128,6 +128,10 @@ impl<T: Teller + Drop> LivePlay<T> {
         ensures refused { OnErr result (Ran
             (live self.old.gateway.value self.old.script (T.told self.old.teller) (O.handed out.old)) []
             (live self.new.gateway.value self.new.script (T.told self.new.teller) (O.handed out.new))) }
+        ensures outlet { OnOk result (TakesBy O.turns O.hands
+            (live self.old.gateway.value self.old.script (T.told self.old.teller) (O.handed out.old)) out.old (passed moment) (tick moment)
+            (live self.new.gateway.value self.new.script (T.told self.new.teller) (O.handed out.new)) out.new) }
+        ensures untouched { OnErr result (out.new ≡ out.old) }
         ensures ends { (before : List GatewayEvent) → Stands self.old.gateway.value before →
             Ends (plain self.old.gateway.value.setup before) (tick moment) (result_err result) }
     {
@@ -161,6 +165,10 @@ impl<T: Teller + Drop> LivePlay<T> {
         ensures refused { OnErr result (Ran
             (live self.old.gateway.value self.old.script (T.told self.old.teller) (O.handed out.old)) []
             (live self.new.gateway.value self.new.script (T.told self.new.teller) (O.handed out.new))) }
+        ensures outlet { OnOk result (TakesBy O.turns O.hands
+            (live self.old.gateway.value self.old.script (T.told self.old.teller) (O.handed out.old)) out.old (arrived source bytes.now) (datagram source bytes.now)
+            (live self.new.gateway.value self.new.script (T.told self.new.teller) (O.handed out.new)) out.new) }
+        ensures untouched { OnErr result (out.new ≡ out.old) }
         ensures ends { (before : List GatewayEvent) → Stands self.old.gateway.value before →
             Ends (plain self.old.gateway.value.setup before) (datagram source bytes.now) (result_err result) }
     {
@@ -203,6 +211,10 @@ impl<T: Teller + Drop> LivePlay<T> {
             (live self.old.gateway.value self.old.script (T.told self.old.teller) (O.handed out.old))
             text.now (phone line act) refusal self.new.printed.items
             (live self.new.gateway.value self.new.script (T.told self.new.teller) (O.handed out.new))) }
+        ensures outlet { OnOk result (TakesBy O.turns O.hands
+            (live self.old.gateway.value self.old.script (T.told self.old.teller) (O.handed out.old)) out.old (typed text.now) (phone line act)
+            (live self.new.gateway.value self.new.script (T.told self.new.teller) (O.handed out.new)) out.new) }
+        ensures untouched { OnErr result (out.new ≡ out.old) }
         ensures ends { (before : List GatewayEvent) → Stands self.old.gateway.value before
             → refusal_of (plain self.old.gateway.value.setup before) (phone line act) ≡ None
             → Ends (plain self.old.gateway.value.setup before) (phone line act) (result_err result) }

@@ -3,7 +3,7 @@ use Rattle.live_play.proofs.RunLemmas.{none_handed, one_more}
 use Rattle.live_play.proofs.handing.hand_all.Goals as goal
 
 pub loop-datagram-init : goal.loop-datagram-init
-loop-datagram-init g c = (refl, λ gateway script. none_handed _, refl)
+loop-datagram-init g c = (refl, λ gateway script. none_handed g.O.Outlet.hands _ _, refl)
 
 pub loop-datagram-preserved : goal.loop-datagram-preserved
 loop-datagram-preserved g c =
@@ -12,7 +12,7 @@ loop-datagram-preserved g c =
     let capped = c.saturating_add-place.ensures in
     let next : c.saturating_add-place.result ≡ c.loop-datagram.datagram-index + 1 = omega (arith, here, inside, capped) in (
       next,
-      λ gateway script. one_more _ _ _ _ _ _ inside (c.loop-datagram.invariant.1 gateway script)
+      λ gateway script. one_more g.O.Outlet.hands _ _ _ _ _ _ _ _ _ inside (c.loop-datagram.invariant.1 gateway script)
           (rw (c.datagram-item.is) at (c.hand.ensures.handed gateway script c.loop-datagram.datagram-index next)),
       c.hand.ensures.came ∙ c.loop-datagram.invariant.2,
     )

@@ -5,12 +5,15 @@ use Rattle.live_play.specs.Running.{live}
 use Rattle.live_play.proofs.RunLemmas.{takes_so, goes_on_by, refuses_so, goes_on_refused, says_act, ends_as_told}
 use Rattle.live_play.proofs.play.LivePlay.act.Goals as goal
 
-pub returns-in-Ok-clause-taken : goal.returns-in-Ok-clause-taken
-returns-in-Ok-clause-taken g c =
-    takes_so _
-    (live c.take.new.gateway.value c.tell_act-told.new.script (g.T.Teller.told c.tell_act-told.new.teller) (g.O.Outlet.handed c.args.out.now)) _ c.take.new.gateway.value
+pub returns-in-Ok-clause-outlet : goal.returns-in-Ok-clause-outlet
+returns-in-Ok-clause-outlet g c =
+    takes_so g.O.Outlet.turns g.O.Outlet.hands _
+    (live c.take.new.gateway.value c.tell_act-told.new.script (g.T.Teller.told c.tell_act-told.new.teller) (g.O.Outlet.handed c.args.out.now)) _ _ _ c.take.new.gateway.value
     (typed c.args.text.now) (phone c.args.line c.args.act) _ c.as_slice-sent.result.now (says_act c.args.text.now c.args.line c.args.act c.requires) tt c.in-Ok.ensures.ok refl c.as_slice-sent.ensures c.in-Ok.ensures.ends refl
     c.tell_act-told.ensures.told c.tell_act-told.ensures.script c.hand_out.ensures.handed
+
+pub returns-in-Ok-clause-taken : goal.returns-in-Ok-clause-taken
+returns-in-Ok-clause-taken g c = (returns-in-Ok-clause-outlet g c).takes
 
 pub returns-in-Ok-clause-ran : goal.returns-in-Ok-clause-ran
 returns-in-Ok-clause-ran g c =
