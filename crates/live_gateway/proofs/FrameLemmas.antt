@@ -119,7 +119,7 @@ pub leaves_schedule : {S T : Type 0} (traffic : S → Traffic) (turn : Turn) (wa
 leaves_schedule {S} {T} traffic End was is leaves = ap (λ (x : Desk S T). x.schedule) leaves
 leaves_schedule {S} {T} traffic Look was is leaves = ap (λ (x : Desk S T). x.schedule) leaves.rest
 leaves_schedule {S} {T} traffic (Wait until) was is leaves = ap (λ (x : Desk S T). x.schedule) leaves.rest
-leaves_schedule {S} {T} traffic (Tick moment) was is leaves = ap (λ (x : Desk S T). x.schedule) leaves
+leaves_schedule {S} {T} traffic (Tick moment) was is leaves = ap (λ (x : Desk S T). x.schedule) leaves.0
 leaves_schedule traffic Command was is leaves = leaves.1
 leaves_schedule {S} {T} traffic Datagram was is leaves = ap (λ (x : Desk S T). x.schedule) leaves
 leaves_schedule {S} {T} traffic Visit was is leaves =

@@ -10,3 +10,4 @@ pub mod TurningLemmas
 pub mod LineLemmas
 mod ArrivingLemmas
 pub mod ArrivalLemmas
+pub mod OverLemmas

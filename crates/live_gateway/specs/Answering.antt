@@ -31,6 +31,7 @@ use Rattle.live_telephones.specs.declared.telephones.TelephoneRequest.{Telephone
 use Rattle.live_telephones.specs.declared.telephones.TelephoneRequest.TheVariants.{Act as AsksAct, Show, ShowAll, Watch as AsksWatch, Counts, Stop, StopFromAfar, Refused, Unknown, OutOfMemory}
 use Rattle.live_telephones.specs.declared.watch.Watch.{Watch}
 use Rattle.live_gateway.specs.declared.desk.Desk.{Desk}
+use Rattle.live_gateway.specs.Exchanging.{OnlySends}
 use Rattle.live_gateway.specs.Desk.{Standing, at_desk}
 use Rattle.live_gateway.specs.Leaving.{OnlyReplies}
 
@@ -149,7 +150,7 @@ abbrev pub DoesRequest :
 DoesRequest {S} told traffic answers text (AsksAct line act) was is = (before : S) × (answer : List ℕ)
     × AnswersLine answers before answer was is × (traffic is.exchange.around ≡ traffic before)
     × TriesAct text line act answer (at_desk told traffic was) (at_desk told traffic is)
-    × (is ≡ record was { play = is.play; exchange = is.exchange; lines = is.lines })
+    × OnlySends was.exchange is.exchange × (is ≡ record was { play = is.play; exchange = is.exchange; lines = is.lines })
 DoesRequest told traffic answers text (Show line) was is = (answer : List ℕ) × AnswersLine answers was.exchange.around answer was is
     × Asks text line answer (at_desk told traffic was).live (at_desk told traffic is).live
     × OnlyReplies (record was { play = is.play }) is

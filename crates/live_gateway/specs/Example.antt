@@ -1,11 +1,12 @@
 -- What the worked examples speak of: a desk over surroundings that tell nothing, whose trace tells nothing either.
-use Rattle.std.specs.Prelude.{◌≡◌, ℕ, false, List, [], ◌∷◌, None, Some, Result, Ok, Err}
+use Rattle.std.specs.Prelude.{◌≡◌, ⊤, ℕ, false, List, [], ◌∷◌, Option, None, Some, Result, Ok, Err}
 use Rattle.std.specs.declared.net.socket_addr.SocketAddrV4.{SocketAddrV4}
 use Rattle.bad_network.specs.declared.fate.Fate.{Fate}
 use Rattle.bad_network.specs.declared.fate.Fate.TheVariants.{Lost, Once}
 use Rattle.live_ends.specs.declared.ending.CommonEnding.{CommonEnding}
 use Rattle.live_journal.specs.declared.trace.Trace.{Trace}
 use Rattle.surroundings.specs.Sending.{untold}
+use Rattle.traces.specs.declared.telling.Mark.{Mark}
 use Rattle.surroundings.specs.declared.surroundings.Fault.{Fault}
 use Rattle.message_counts.specs.Tallying.{with_stranger}
 use Rattle.message_counts.specs.declared.message_tally.MessageTally.{MessageTally}
@@ -14,7 +15,7 @@ use Rattle.live_gateway.specs.declared.desk.Desk.{Desk}
 use Rattle.live_gateway.specs.declared.exchange.Exchange.{Exchange}
 use Rattle.live_gateway.specs.Admitting.{is_heard}
 use Rattle.live_gateway.specs.Ending.{EndsWith}
-use Rattle.live_gateway.specs.Exchanging.{Becomes}
+use Rattle.live_gateway.specs.Exchanging.{Becomes, HandsOver}
 use Rattle.live_gateway.specs.Noting.{with_looked}
 use Rattle.live_gateway.specs.Turning.{TriesFound, LooksForOne}
 
@@ -52,3 +53,7 @@ failed = Err 0
 -- something became of a datagram, where nobody sends one
 abbrev pub SendsNowhere : Exchange ℕ → Exchange ℕ → Type 0
 SendsNowhere was is = (became : Result Fate Fault) × Becomes (λ before to bytes sent after. ⊥) was one.0 [] became is
+
+-- a datagram was handed over, of which this was to be noted, whatever sends it
+abbrev pub HandsAnywhere : Option Mark → Exchange ℕ → Exchange ℕ → Type 0
+HandsAnywhere mark was is = HandsOver (λ before to bytes sent after. ⊤) was one.0 [] mark is

@@ -5,8 +5,15 @@ use Rattle.bad_network.specs.declared.fate.Fate.{Fate}
 use Rattle.bad_network.specs.declared.fate.Fate.TheVariants.{Lost as NeverComes, Once, Twice}
 use Rattle.bad_network.specs.declared.packet.Way.TheVariants.{In, Out}
 use Rattle.bad_network.specs.Waiting.{first_due}
+use Rattle.gateway_core.specs.GatewayState.{GatewayState}
 use Rattle.gateway_core.specs.Wire.{counted}
+use Rattle.message_counts.specs.Counting.{counts_in, with_texts}
+use Rattle.message_counts.specs.Places.{with_sends}
+use Rattle.message_counts.specs.SentCounting.{tally_in, with_sent, with_given_up}
+use Rattle.message_counts.specs.Tallying.{with_handed_out, CountsNoDatagram}
+use Rattle.message_counts.specs.Waiting.{unanswered_after}
 use Rattle.message_counts.specs.declared.reporting.Faults.{Faults}
+use Rattle.told_messages.specs.Showing.{GoesOn, Turned}
 use Rattle.live_play.specs.Coming.{Came}
 use Rattle.live_play.specs.Readable.{first_unread}
 use Rattle.std.specs.declared.net.socket_addr.SocketAddrV4.{SocketAddrV4}
@@ -195,3 +202,40 @@ abbrev pub FoundSince :
 FoundSince traffic admission was found room is =
     HeardSince admission (received_by was.network (traffic was.around).received) (found_by found room)
     (received_by is.network (traffic is.around).received)
+
+-- An exchange was told of an event by the gateway that took it: its journal shows and counts what that gateway tells of it, and nothing
+-- else changes.
+pub record IsTold {S : Type 0} (was : Exchange S) (gateway : GatewayState) (is : Exchange S) : Type 0 where
+  pub shown : GoesOn (Turned was.now.clock gateway.outcomes gateway.account.given_up) was.journal.board is.journal.board
+  pub texts : counts_in is.journal.tally.value.texts ≡ with_texts (counts_in was.journal.tally.value.texts) gateway.outcomes
+  pub counted : tally_in is.journal.tally.value.sent
+      ≡ with_given_up (with_sent (tally_in was.journal.tally.value.sent) gateway.account.sent) gateway.account.given_up
+  pub places : is.journal.tally.value.places.sends
+      ≡ with_sends gateway.setup.agent.route was.journal.tally.value.places.sends gateway.account.sent
+  pub unanswered : is.journal.tally.value.unanswered_since
+      ≡ unanswered_after was.journal.tally.value.unanswered_since gateway.outcomes gateway.account.sent
+  pub datagrams : CountsNoDatagram was.journal.tally.value is.journal.tally.value
+  pub rest : is ≡ record was { journal = is.journal }
+
+-- A datagram was handed to an exchange: it became what is to be noted of it, and is counted as handed out; that it wasn't sent counts as
+-- a fault. Nothing was read, and no other fault counts.
+pub record HandsOver {S : Type 0} (sends : S → SocketAddrV4 → List ℕ → Result ⊤ Fault → S → Type 0)
+    (was : Exchange S) (to : SocketAddrV4) (bytes : List ℕ) (mark : Option Mark) (is : Exchange S) : Type 0 where
+  pub became : (became : Result Fate Fault) × Becomes sends was to bytes became is × (mark ≡ mark_of became)
+  pub counted : is.journal.tally.value ≡ with_handed_out was.journal.tally.value
+  pub faults : is.faults ≡ with_mark mark was.faults
+  pub rest : (is.read ≡ was.read) × IsSameTurn was is
+
+-- what the gateway sent went over an exchange: nothing was read, the turn is the same, and of faults only this counts, that so many
+-- datagrams weren't sent, and that an input was refused
+pub record OnlySends {S : Type 0} (was is : Exchange S) : Type 0 where
+  pub unsent : ℕ
+  pub read : is.read ≡ was.read
+  pub turn : IsSameTurn was is
+  pub receive : is.faults.receive ≡ was.faults.receive
+  pub send : is.faults.send ≡ counted was.faults.send unsent
+
+-- nothing was read nor sent, and the turn is the same; of faults only this may count, that an input was refused
+abbrev pub OnlyNotes : {S : Type 0} → Exchange S → Exchange S → Type 0
+OnlyNotes was is =
+    (is.read ≡ was.read) × IsSameTurn was is × (is.faults.receive ≡ was.faults.receive) × (is.faults.send ≡ was.faults.send)

@@ -12,7 +12,7 @@ use Rattle.live_journal.specs.declared.journal.Journal.{Journal}
 use Rattle.live_telephones.specs.Paging.{TakesAct}
 use Rattle.live_gateway.specs.declared.desk.Desk.{Desk}
 use Rattle.live_gateway.specs.declared.exchange.Exchange.{Exchange}
-use Rattle.live_gateway.specs.Exchanging.{moment_at, faults_by, with_read, with_unreceived}
+use Rattle.live_gateway.specs.Exchanging.{OnlySends, moment_at, faults_by, with_read, with_unreceived}
 
 -- of an exchange, only what the page is shown changes
 abbrev pub OnlyShows : {S : Type 0} → Exchange S → Exchange S → Type 0
@@ -21,6 +21,11 @@ OnlyShows was is = is ≡ record was { journal = record was.journal { board = is
 -- only its play and its exchange change
 abbrev pub OnlyPlays : {S T : Type 0} → Desk S T → Desk S T → Type 0
 OnlyPlays was is = is ≡ record was { play = is.play; exchange = is.exchange }
+
+-- the clock went to a moment: only its play and its exchange change, and over that went what the gateway sent
+abbrev pub OnlyTicks : {S T : Type 0} → ℕ → Desk S T → Desk S T → Type 0
+OnlyTicks moment was is =
+    OnlyPlays was is × (is.exchange.now.clock ≡ moment) × OnlySends (record was.exchange { now = is.exchange.now }) is.exchange
 
 -- only its log changes
 abbrev pub OnlyLogs : {S T : Type 0} → Desk S T → Desk S T → Type 0
@@ -84,7 +89,7 @@ abbrev pub Leaves : {S T : Type 0} → (S → Traffic) → Turn → Desk S T →
 Leaves traffic End was is = is ≡ was
 Leaves traffic Look was is = OnlyWaits was is
 Leaves traffic (Wait until) was is = OnlyWaits was is
-Leaves traffic (Tick moment) was is = OnlyPlays was is
+Leaves traffic (Tick moment) was is = OnlyTicks moment was is
 Leaves traffic Command was is = (is.admission ≡ was.admission) × (is.schedule ≡ was.schedule)
 Leaves traffic Datagram was is = OnlyPlays was is
 Leaves traffic Visit was is = DoesVisit traffic was is

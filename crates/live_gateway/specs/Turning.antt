@@ -28,7 +28,7 @@ use Rattle.live_gateway.specs.declared.exchange.Exchange.{Exchange}
 use Rattle.live_gateway.specs.Answering.{DoesLine}
 use Rattle.live_gateway.specs.Ending.{WroteTimes}
 use Rattle.live_gateway.specs.Desk.{Standing, at_desk, IsHeard}
-use Rattle.live_gateway.specs.Exchanging.{CountsReceived, FoundSince, OnlyWrites, came_by, next_due, moment_at, faults_by}
+use Rattle.live_gateway.specs.Exchanging.{CountsReceived, FoundSince, OnlyWrites, OnlySends, came_by, next_due, moment_at, faults_by}
 
 -- the gateway took an event that came in so, as a play tells it; or refused it, which is counted, and nothing was told
 abbrev pub Tries : Input → GatewayEvent → Standing → Standing → Type 0
@@ -37,7 +37,7 @@ Tries input event was is =
     ⊎ (Ran was.live [] is.live × (is.came.refused ≡ counted was.came.refused 1))
 
 -- None came that is heard, and nothing changed but at the exchange that looked. Or this one did, at the front of this room, and the
--- gateway took or refused it: what goes out at it changes nothing of what came.
+-- gateway took or refused it: what goes out at it changes nothing of what came, nor of what the look counted.
 abbrev pub TriesFound :
     {S T : Type 0} → (T → Option (List ℕ)) → (S → Traffic) → Exchange S → Option (SocketAddrV4 × ℕ) → List ℕ → Desk S T → Desk S T → Type 0
 TriesFound told traffic looked None room was is =
@@ -45,7 +45,7 @@ TriesFound told traffic looked None room was is =
     × (looked.faults.refused ≡ was.exchange.faults.refused)
 TriesFound told traffic looked (Some found) room was is =
     IsHeard was.admission found.0 × ((came_by traffic is.exchange).received ≡ (came_by traffic looked).received)
-    × Tries (arrived found.0 (take found.1 room)) (datagram found.0 (take found.1 room))
+    × OnlySends looked is.exchange × Tries (arrived found.0 (take found.1 room)) (datagram found.0 (take found.1 room))
     (at_desk told traffic was) (at_desk told traffic is)
 
 -- it was looked for a datagram at the desk's own exchange, once, and what was found was tried

@@ -16,7 +16,7 @@ ghost use Rattle.live_gateway.specs.Ending.{EndsAt, AsksForEnd};
 ghost use Rattle.live_gateway.specs.Exchanging.{OnlyWrites};
 ghost use Rattle.live_play.specs.Readable.{first_unread};
 ghost use Rattle.live_gateway.specs.Answering.{DoesLine, AnswersRequest};
-ghost use Rattle.live_gateway.specs.Leaving.{OnlyPlays, DoesVisit, Leaves};
+ghost use Rattle.live_gateway.specs.Leaving.{OnlyPlays, OnlyTicks, DoesVisit, Leaves};
 ghost use Rattle.live_gateway.specs.Turning.{Tries, LooksForOne, DoesLines, Does, DoesNext, RunsTurns};
 ghost use Rattle.traces.specs.Writing.{passed};
 
@@ -138,7 +138,7 @@ impl<S: Surroundings + Drop, T: Teller + Drop> Desk<S, T> {
             → (plain self.old.play.gateway.value.setup events).now < moment) }
         ensures play { GoesOn T.told S.traffic self.old self.new }
         ensures tried { Tries (passed moment) (tick moment) (at_desk T.told S.traffic self.old) (at_desk T.told S.traffic self.new) }
-        ensures rest { OnlyPlays self.old self.new }
+        ensures rest { OnlyTicks moment self.old self.new }
     {
         self.exchange.begin(moment);
         let done = self.play.tick(&mut self.exchange, moment);

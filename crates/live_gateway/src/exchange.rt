@@ -1,20 +1,15 @@
 //! What goes between the gateway and others: over sockets, behind a bad network where one is asked for; and its journal.
 ghost use Rattle.std.specs.Prelude.{◌≡◌, ◌<◌, ◌≤◌, ◌∷◌, ◌⊎◌, ⊤, [], true, false, length, take, ℕ, Bool, List, Option, Result, IfSome, is_some, map, option_map};
 ghost use Rattle.small_rules.specs.Counting.{counted};
-ghost use Rattle.message_counts.specs.Counting.{counts_in, with_texts};
-ghost use Rattle.message_counts.specs.Places.{with_sends};
-ghost use Rattle.message_counts.specs.SentCounting.{tally_in, with_sent, with_given_up};
-ghost use Rattle.message_counts.specs.Tallying.{with_handed_out, CountsNoDatagram};
-ghost use Rattle.message_counts.specs.Waiting.{unanswered_after};
 ghost use Rattle.page_answers.specs.declared.ring.Kind.TheVariants.{Sent as OfSent, Received as OfReceived};
 ghost use Rattle.told_messages.specs.Labelling.{sent_label};
-ghost use Rattle.told_messages.specs.Showing.{GoesOn, Happened, HappenedWith, Turned};
+ghost use Rattle.told_messages.specs.Showing.{GoesOn, Happened, HappenedWith};
 ghost use Rattle.surroundings.specs.declared.surroundings.Fault.{Fault};
 ghost use Rattle.surroundings.specs.Hearing.{Hears};
 ghost use Rattle.surroundings.specs.Sending.{Sent, Grows, found_by};
 ghost use Rattle.live_gateway.specs.Admitting.{is_heard};
 ghost use Rattle.live_gateway.specs.Offering.{brought, TakesDue};
-ghost use Rattle.live_gateway.specs.Exchanging.{handed_by, received_by, came_by, next_due, moment_at, faultless, refusals, with_refused, with_mark, with_unreceived, with_read, faults_by, mark_of, Becomes, LosesOver, IsSameTurn, LooksOnce, CountsReceived, FoundSince};
+ghost use Rattle.live_gateway.specs.Exchanging.{handed_by, received_by, came_by, next_due, moment_at, faultless, refusals, with_refused, with_unreceived, with_read, faults_by, Becomes, HandsOver, OnlyNotes, LosesOver, IsSameTurn, LooksOnce, CountsReceived, FoundSince};
 ghost use Rattle.live_gateway.specs.Noting.{TurnsAway, NotesArrival, NotesLate, CountsFound};
 ghost use Rattle.live_play.specs.Readable.{first_unread};
 
@@ -133,6 +128,7 @@ impl<S: Surroundings + Drop> Exchange<S> {
         ensures journal { self.new.journal ≡ self.old.journal }
         ensures read { self.new.read ≡ self.old.read }
         ensures turn { IsSameTurn self.old self.new }
+        ensures notes { OnlyNotes self.old self.new }
     {
         if is_refused {
             count(&mut self.faults.refused);
@@ -526,29 +522,17 @@ impl<S: Surroundings + Drop> Exchange<S> {
 }
 
 impl<S: Surroundings + Drop> Outlet for Exchange<S> {
-    ghost use Rattle.live_gateway.specs.Exchanging.{handed_by, came_by};
+    ghost use Rattle.live_gateway.specs.Exchanging.{handed_by, came_by, IsTold, HandsOver};
 
     ghost handed = { λ e. handed_by e.network (S.traffic e.around).sent };
 
     ghost came = { λ e. came_by S.traffic e };
 
-    fn turned(&mut self, gateway: &Gateway)
-        ensures handed { handed_by self.new.network (S.traffic self.new.around).sent
-            ≡ handed_by self.old.network (S.traffic self.old.around).sent }
-        ensures came { came_by S.traffic self.new ≡ came_by S.traffic self.old }
-        ensures shown { GoesOn (Turned self.old.now.clock gateway.now.outcomes gateway.now.account.given_up)
-            self.old.journal.board self.new.journal.board }
-        ensures texts { counts_in self.new.journal.tally.value.texts
-            ≡ with_texts (counts_in self.old.journal.tally.value.texts) gateway.now.outcomes }
-        ensures counted { tally_in self.new.journal.tally.value.sent
-            ≡ with_given_up (with_sent (tally_in self.old.journal.tally.value.sent) gateway.now.account.sent) gateway.now.account.given_up }
-        ensures places { self.new.journal.tally.value.places.sends
-            ≡ with_sends gateway.now.setup.agent.route self.old.journal.tally.value.places.sends gateway.now.account.sent }
-        ensures unanswered { self.new.journal.tally.value.unanswered_since
-            ≡ unanswered_after self.old.journal.tally.value.unanswered_since gateway.now.outcomes gateway.now.account.sent }
-        ensures datagrams { CountsNoDatagram self.old.journal.tally.value self.new.journal.tally.value }
-        ensures rest { self.new ≡ record self.old { journal = self.new.journal } }
-    {
+    ghost turns = { λ was gateway is. IsTold was gateway is };
+
+    ghost hands = { λ was to bytes mark is. HandsOver S.sends was to bytes mark is };
+
+    fn turned(&mut self, gateway: &Gateway) {
         self.journal.turned(self.now, &taken_of(gateway));
     }
 
@@ -558,10 +542,7 @@ impl<S: Surroundings + Drop> Outlet for Exchange<S> {
         ensures came { came_by S.traffic self.new ≡ came_by S.traffic self.old }
         ensures shown { GoesOn (HappenedWith self.old.now.clock OfSent to bytes.now (map sent_label messages.now))
             self.old.journal.board self.new.journal.board }
-        ensures counted { self.new.journal.tally.value ≡ with_handed_out self.old.journal.tally.value }
-        ensures became { (became : Result Fate Fault) × Becomes S.sends self.old to bytes.now became self.new × (result ≡ mark_of became) }
-        ensures faults { self.new.faults ≡ with_mark result self.old.faults }
-        ensures rest { (self.new.read ≡ self.old.read) × IsSameTurn self.old self.new }
+        ensures hands { HandsOver S.sends self.old to bytes.now result self.new }
     {
         self.journal.sent(self.now, to, bytes, messages);
         match self.send(to, bytes) {

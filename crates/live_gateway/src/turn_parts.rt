@@ -7,7 +7,7 @@ ghost use Rattle.surroundings.specs.declared.surroundings.Fault.{Fault};
 ghost use Rattle.surroundings.specs.declared.surroundings.Told.{Told};
 ghost use Rattle.turns.specs.Clock.{earlier, has_come};
 ghost use Rattle.live_gateway.specs.Answering.{IsTypist, IsActAnswer};
-ghost use Rattle.live_gateway.specs.Exchanging.{refusals, next_due, moment_at, faults_by};
+ghost use Rattle.live_gateway.specs.Exchanging.{OnlyNotes, refusals, next_due, moment_at, faults_by};
 ghost use Rattle.live_gateway.specs.Leaving.{OnlyShows, MayTake};
 ghost use Rattle.live_gateway.specs.Turning.{ready_at};
 ghost use Rattle.live_play.specs.Readable.{first_unread};
@@ -79,6 +79,7 @@ pub(crate) fn note_taken<S: Surroundings + Drop>(
     ensures around { exchange.new.around ≡ exchange.old.around }
     ensures refused { exchange.new.faults.refused ≡ refusals (not is_taken) exchange.old.faults.refused }
     ensures tally { exchange.new.journal.tally ≡ exchange.old.journal.tally }
+    ensures notes { OnlyNotes exchange.old exchange.new }
 {
     exchange.count_refused(!is_taken);
     if is_taken {
@@ -100,6 +101,7 @@ pub(crate) fn note_datagram<S: Surroundings + Drop>(
     ensures around { exchange.new.around ≡ exchange.old.around }
     ensures faults { exchange.new.faults ≡ exchange.old.faults }
     ensures tally { exchange.new.journal.tally ≡ exchange.old.journal.tally }
+    ensures notes { OnlyNotes exchange.old exchange.new }
 {
     let now = exchange.now;
     let journal = &mut exchange.journal;
@@ -134,6 +136,7 @@ pub(crate) fn answer_act<S: Surroundings + Drop>(
     ensures left { left_of lines.new ≡ requests_from (behind (left_of lines.old)) }
     ensures sender { lines.new.sender ≡ lines.old.sender }
     ensures tally { exchange.new.journal.tally ≡ exchange.old.journal.tally }
+    ensures notes { OnlyNotes exchange.old exchange.new }
 {
     let answer = act_answer(done, printed);
     let clock = exchange.now.clock;

@@ -2,6 +2,7 @@
 #![tactic(auto)]
 
 ghost use Rattle.std.specs.Prelude.{◌≡◌, ◌⊎◌, ◌∷◌, ⊤, codes, true, false, ℕ, List, [], Some, None, is_some, Result, Ok, Err};
+ghost use Rattle.gateway_core.specs.GatewayState.{GatewayState};
 ghost use Rattle.gateway_rules.specs.declared.refusal.Refusal.{Refusal as Why};
 ghost use Rattle.live_ends.specs.declared.ending.CommonEnding.{CommonEnding};
 ghost use Rattle.live_ends.specs.declared.ending.CommonEnding.TheVariants.{OutOfMemory};
@@ -12,10 +13,10 @@ ghost use Rattle.live_gateway.specs.declared.exchange.Exchange.{Exchange};
 ghost use Rattle.live_gateway.specs.Admitting.{is_heard};
 ghost use Rattle.live_gateway.specs.Answering.{IsActAnswer};
 ghost use Rattle.live_gateway.specs.Ending.{is_record_refused, IsCounted};
-ghost use Rattle.live_gateway.specs.Example.{one, lost_one, once, failed, LooksNowhere, FindsNothing, SendsNowhere, EndsSaying, CountsStranger};
-ghost use Rattle.live_gateway.specs.Exchanging.{heard_in, mark_of, is_lost, faults_by, faultless, with_unreceived, LosesOver};
+ghost use Rattle.live_gateway.specs.Example.{one, lost_one, once, failed, LooksNowhere, FindsNothing, SendsNowhere, HandsAnywhere, EndsSaying, CountsStranger};
+ghost use Rattle.live_gateway.specs.Exchanging.{heard_in, mark_of, is_lost, faults_by, faultless, with_unreceived, IsTold, OnlySends, LosesOver};
 ghost use Rattle.traces.specs.declared.telling.Mark.TheVariants.{Unsent, Lost};
-ghost use Rattle.live_gateway.specs.Leaving.{OnlyShows, OnlyPlays, OnlyLogs, OnlyHears, OnlyReplies, OnlyWaits, MayTake, DoesVisit};
+ghost use Rattle.live_gateway.specs.Leaving.{OnlyShows, OnlyPlays, OnlyTicks, OnlyLogs, OnlyHears, OnlyReplies, OnlyWaits, MayTake, DoesVisit};
 ghost use Rattle.live_gateway.specs.Turning.{ready_at, RunsTurns};
 ghost use Rattle.surroundings.specs.Sending.{Traffic};
 
@@ -80,4 +81,13 @@ pub fn what_an_exchange_gives_has_examples()
     ensures marks { mark_of lost_one ∷ mark_of once ∷ mark_of failed ∷ [] ≡ Some Lost ∷ None ∷ Some Unsent ∷ [] }
     ensures losses { is_lost lost_one ∷ is_lost once ∷ is_lost failed ∷ [] ≡ true ∷ false ∷ true ∷ [] }
     ensures clock { faults_by {E = ℕ} (Ok 5) faultless ∷ faults_by failed faultless ∷ [] ≡ faultless ∷ with_unreceived faultless ∷ [] }
+{}
+
+/// What a gateway sends leaves what was read, and what couldn't be received; where a datagram goes out, or is lost, nothing fails.
+pub fn what_goes_over_an_exchange_has_examples()
+    ensures sent { (was is : Exchange ℕ) → OnlySends was is → (is.read ≡ was.read) × (is.faults.receive ≡ was.faults.receive) }
+    ensures told { (gateway : GatewayState) (was is : Exchange ℕ) → IsTold was gateway is → is.faults ≡ was.faults }
+    ensures gone { (was is : Exchange ℕ) → HandsAnywhere None was is → is.faults ≡ was.faults }
+    ensures lost { (was is : Exchange ℕ) → HandsAnywhere (Some Lost) was is → is.faults ≡ was.faults }
+    ensures ticked { (was is : Desk ℕ ℕ) → OnlyTicks 5 was is → (is.exchange.now.clock ≡ 5) × (is.exchange.read ≡ was.exchange.read) }
 {}

@@ -1,7 +1,9 @@
-use Rattle.std.proofs.Common.{refl, ap}
+use Rattle.std.proofs.Common.{refl, sym, ◌∙◌, ap}
 use Rattle.live_play.specs.Coming.{Came}
 use Rattle.live_gateway.specs.Desk.{at_desk}
 use Rattle.live_gateway.proofs.DeskLemmas.{standing_of, counted_so, ticks}
+use Rattle.live_ends.specs.declared.now.Now.{Now}
+use Rattle.live_gateway.proofs.OverLemmas.{sends_tried, sends_noted}
 use Rattle.live_gateway.proofs.TurningLemmas.{tries}
 use Rattle.live_gateway.proofs.desk.Desk.tick.Goals as goal
 
@@ -29,3 +31,14 @@ returns-clause-tried g c =
     (rw (c.begin.ensures.network, c.begin.ensures.around, c.begin.ensures.faults) at c.tick-done.ensures.came))
     (counted_so told traffic c.tick-done.new.self c.tick-done.new.out c.note_taken.new.exchange _
     c.note_taken.ensures.network (ap traffic c.note_taken.ensures.around) (rw (c.is_ok.ensures.value) at c.note_taken.ensures.refused))
+
+pub returns-clause-rest : goal.returns-clause-rest
+returns-clause-rest g c =
+    let sent = sends_tried g.S.Surroundings.sends c.tick-done.result _ _ c.begin.new.self c.tick-done.new.out _ _ c.tick-done.ensures.outlet c.tick-done.ensures.untouched in
+    let notes = c.note_taken.ensures.notes in
+    let same = notes.1.0 ∙ sent.turn.0 in (
+      refl,
+      ap (λ (n : Now). n.clock) same ∙ c.begin.ensures.clock,
+      sends_noted _ c.begin.new.self c.tick-done.new.out c.note_taken.new.exchange c.begin.ensures.read (sym same, c.begin.ensures.offering) c.begin.ensures.faults
+          sent notes,
+    )
