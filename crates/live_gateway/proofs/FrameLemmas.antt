@@ -3,6 +3,7 @@ use Rattle.std.proofs.Common.{◌≡◌, ◌⊎◌, inl, inr, ℕ, Bool, List, O
 use Rattle.std.specs.Prelude.{nat_lt, if◌then◌else◌, true, false, Result, Ok, Err}
 use Rattle.std.specs.Global.{Box}
 use Rattle.message_counts.specs.declared.reporting.Faults.{Faults}
+use Rattle.page_answers.specs.Showing.{BoardState}
 use Rattle.surroundings.specs.Sending.{Traffic}
 use Rattle.turns.specs.declared.schedule.Schedule.{Schedule}
 use Rattle.turns.specs.declared.turn.Turn.{Turn}
@@ -106,22 +107,24 @@ page_same {S} {T} told traffic is_of_page was is page = (
 )
 
 -- nor to others where a visitor is served
-pub visit_same : {S T : Type 0} (told : T → Option (List ℕ)) (traffic : S → Traffic) (was is : Desk S T) → DoesVisit traffic was is
+pub visit_same : {S T V : Type 0} (told : T → Option (List ℕ)) (traffic : S → Traffic) (serves : V → S → BoardState → ℕ → V → S → BoardState → Type 0)
+    (moment : ℕ) (visitors left : Option (Box V)) (was is : Desk S T) → DoesVisit traffic serves moment visitors left was is
     → (at_desk told traffic is ≡ at_desk told traffic was) × (is.admission ≡ was.admission)
-visit_same {S} {T} told traffic was is visit =
+visit_same {S} {T} told traffic serves moment visitors left was is visit =
     let page = page_same told traffic was.is_of_page visit.served is visit.page in (
       page.0 ∙ ap (at_desk told traffic) visit.before ∙ ap (λ (x : Traffic). at_desk told (λ (s : S). x) was) visit.kept,
       page.1 ∙ ap (λ (x : Desk S T). x.admission) visit.before,
     )
 
 -- a turn leaves the schedule
-pub leaves_schedule : {S T : Type 0} (traffic : S → Traffic) (turn : Turn) (was is : Desk S T) → Leaves traffic turn was is → is.schedule ≡ was.schedule
-leaves_schedule {S} {T} traffic End was is leaves = ap (λ (x : Desk S T). x.schedule) leaves
-leaves_schedule {S} {T} traffic Look was is leaves = ap (λ (x : Desk S T). x.schedule) leaves.rest
-leaves_schedule {S} {T} traffic (Wait until) was is leaves = ap (λ (x : Desk S T). x.schedule) leaves.rest
-leaves_schedule {S} {T} traffic (Tick moment) was is leaves = ap (λ (x : Desk S T). x.schedule) leaves.0
-leaves_schedule traffic Command was is leaves = leaves.1
-leaves_schedule {S} {T} traffic Datagram was is leaves = ap (λ (x : Desk S T). x.schedule) leaves
-leaves_schedule {S} {T} traffic Visit was is leaves =
+pub leaves_schedule : {S T V : Type 0} (traffic : S → Traffic) (serves : V → S → BoardState → ℕ → V → S → BoardState → Type 0) (now : ℕ) (turn : Turn)
+    (visitors left : Option (Box V)) (was is : Desk S T) → Leaves traffic serves now turn visitors left was is → is.schedule ≡ was.schedule
+leaves_schedule {S} {T} traffic serves now End visitors left was is leaves = ap (λ (x : Desk S T). x.schedule) leaves.0
+leaves_schedule {S} {T} traffic serves now Look visitors left was is leaves = ap (λ (x : Desk S T). x.schedule) leaves.0.rest
+leaves_schedule {S} {T} traffic serves now (Wait until) visitors left was is leaves = ap (λ (x : Desk S T). x.schedule) leaves.0.rest
+leaves_schedule {S} {T} traffic serves now (Tick moment) visitors left was is leaves = ap (λ (x : Desk S T). x.schedule) leaves.0.0
+leaves_schedule traffic serves now Command visitors left was is leaves = leaves.1
+leaves_schedule {S} {T} traffic serves now Datagram visitors left was is leaves = ap (λ (x : Desk S T). x.schedule) leaves.0
+leaves_schedule {S} {T} traffic serves now Visit visitors left was is leaves =
     ap (λ (x : Desk S T). x.schedule) leaves.page.rest ∙ ap (λ (x : Desk S T). x.schedule) leaves.before
-leaves_schedule {S} {T} traffic (Note pause) was is leaves = ap (λ (x : Desk S T). x.schedule) leaves
+leaves_schedule {S} {T} traffic serves now (Note pause) visitors left was is leaves = ap (λ (x : Desk S T). x.schedule) leaves.0

@@ -10,4 +10,5 @@ pub mod TurningLemmas
 pub mod LineLemmas
 mod ArrivingLemmas
 pub mod ArrivalLemmas
+pub mod VisitingLemmas
 pub mod OverLemmas

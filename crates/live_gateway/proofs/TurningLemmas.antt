@@ -51,15 +51,15 @@ tick_is_short s at turn next to now few comes is same (inr still) =
     absurd (omega (arith, on, within, same, still))
 
 -- one turn more, and what was recorded at it was written
-pub runs_once_more : {S T W : Type 0} (passes : S → Result ℕ Fault → Type 0) (does : Desk S T → Desk S T → Type 0) (writes : W → W → Type 0) (count : ℕ)
-    (was : Desk S T) (before : W) (between : Desk S T) (amid : W) (done is : Desk S T) (after : W)
-    → RunsTurns passes does writes count was before between amid → does between done → writes amid after
+pub runs_once_more : {S T V W : Type 0} (passes : S → Result ℕ Fault → Type 0) (does : Desk S T → V → Desk S T → V → Type 0) (writes : W → W → Type 0)
+    (count : ℕ) (was : Desk S T) (came : V) (before : W) (between : Desk S T) (there : V) (amid : W) (done is : Desk S T) (left : V) (after : W)
+    → RunsTurns passes does writes count was came before between there amid → does between there done left → writes amid after
     → is.play ≡ record done.play { teller = is.play.teller } → OnlyWrites done.exchange is.exchange
     → is ≡ record done { play = is.play; exchange = is.exchange }
-    → RunsTurns passes does writes (count + 1) was before is after
-runs_once_more passes does writes count was before between amid done is after some turn wrote teller exchange rest = record {
+    → RunsTurns passes does writes (count + 1) was came before is left after
+runs_once_more passes does writes count was came before between there amid done is left after some turn wrote teller exchange rest = record {
   begun = some.begun;
   starts = some.starts;
-  turns = wrote_once_more (TurnsAndWrites does writes) count (some.begun, before) (between, amid) (is, after) some.turns
+  turns = wrote_once_more (TurnsAndWrites does writes) count (some.begun, came, before) (between, there, amid) (is, left, after) some.turns
       (record { done = done; turn = turn; wrote = wrote; teller = teller; exchange = exchange; rest = rest });
 }

@@ -1,6 +1,8 @@
 -- What a turn leaves of a desk as it was, by its kind, and what is so as a run begins.
-use Rattle.std.specs.Prelude.{◌≡◌, ◌⊎◌, ℕ, Bool, true, Result}
+use Rattle.std.specs.Prelude.{◌≡◌, ◌⊎◌, ℕ, Bool, true, Option, Result}
+use Rattle.std.specs.Global.{Box}
 use Rattle.mg_bytes.specs.Lists.{is_empty}
+use Rattle.page_answers.specs.Showing.{BoardState}
 use Rattle.surroundings.specs.Sending.{Traffic}
 use Rattle.surroundings.specs.Typing.{left_of}
 use Rattle.surroundings.specs.declared.lines.Lines.{Lines}
@@ -12,6 +14,7 @@ use Rattle.live_journal.specs.declared.journal.Journal.{Journal}
 use Rattle.live_telephones.specs.Paging.{TakesAct}
 use Rattle.live_gateway.specs.declared.desk.Desk.{Desk}
 use Rattle.live_gateway.specs.declared.exchange.Exchange.{Exchange}
+use Rattle.live_gateway.specs.Visiting.{ServesOnce}
 use Rattle.live_gateway.specs.Exchanging.{OnlySends, moment_at, faults_by, with_read, with_unreceived}
 
 -- of an exchange, only what the page is shown changes
@@ -60,16 +63,19 @@ pub record TakesFromPage {S T : Type 0} (is_of_page : Bool) (was is : Desk S T) 
   pub shown : OnlyShows was.exchange is.exchange
   pub took : MayTake was.exchange.journal was.lines is_of_page is.exchange.journal is.lines is.is_of_page
 
--- A visitor is served: only what is around it changes, though not what went over that, and what the page is shown. Then the page may be
--- asked for the next line.
-pub record DoesVisit {S T : Type 0} (traffic : S → Traffic) (was is : Desk S T) : Type 0 where
+-- The page is shown the gateway, and then its visitors have a turn, once: only what is around the desk changes, though not what went over
+-- that, and what the page is shown. Then the page may be asked for the next line.
+pub record DoesVisit {S T V : Type 0} (traffic : S → Traffic) (serves : V → S → BoardState → ℕ → V → S → BoardState → Type 0) (moment : ℕ)
+    (visitors left : Option (Box V)) (was is : Desk S T) : Type 0 where
   pub served : Desk S T
+  pub shown : Option (Box BoardState)
   pub before : served ≡ record was {
     exchange = record was.exchange {
       around = served.exchange.around;
       journal = record was.exchange.journal { board = served.exchange.journal.board };
     };
   }
+  pub turn : ServesOnce serves moment visitors was.exchange.around shown left served.exchange.around served.exchange.journal.board
   pub kept : traffic served.exchange.around ≡ traffic was.exchange.around
   pub page : TakesFromPage was.is_of_page served is
 
@@ -84,13 +90,16 @@ pub record Starts {S T : Type 0} (passes : S → Result ℕ Fault → Type 0) (w
   }
   pub faults : is.exchange.faults ≡ faults_by clock was.exchange.faults
 
--- what a turn of this kind leaves; of one for who types `DoesLines` says more
-abbrev pub Leaves : {S T : Type 0} → (S → Traffic) → Turn → Desk S T → Desk S T → Type 0
-Leaves traffic End was is = is ≡ was
-Leaves traffic Look was is = OnlyWaits was is
-Leaves traffic (Wait until) was is = OnlyWaits was is
-Leaves traffic (Tick moment) was is = OnlyTicks moment was is
-Leaves traffic Command was is = (is.admission ≡ was.admission) × (is.schedule ≡ was.schedule)
-Leaves traffic Datagram was is = OnlyPlays was is
-Leaves traffic Visit was is = DoesVisit traffic was is
-Leaves traffic (Note pause) was is = OnlyLogs was is
+-- what a turn of this kind leaves, at this moment; of one for who types `DoesLines` says more. Visitors have a turn where it is theirs.
+abbrev pub Leaves :
+    {S T V : Type 0} → (S → Traffic) → (V → S → BoardState → ℕ → V → S → BoardState → Type 0) → ℕ → Turn
+    → Option (Box V) → Option (Box V) → Desk S T → Desk S T → Type 0
+Leaves traffic serves now End visitors left was is = (is ≡ was) × (left ≡ visitors)
+Leaves traffic serves now Look visitors left was is = OnlyWaits was is × (left ≡ visitors)
+Leaves traffic serves now (Wait until) visitors left was is = OnlyWaits was is × (left ≡ visitors)
+Leaves traffic serves now (Tick moment) visitors left was is = OnlyTicks moment was is × (left ≡ visitors)
+Leaves traffic serves now Command visitors left was is =
+    (is.admission ≡ was.admission) × (is.schedule ≡ was.schedule) × (left ≡ visitors)
+Leaves traffic serves now Datagram visitors left was is = OnlyPlays was is × (left ≡ visitors)
+Leaves traffic serves now Visit visitors left was is = DoesVisit traffic serves now visitors left was is
+Leaves traffic serves now (Note pause) visitors left was is = OnlyLogs was is × (left ≡ visitors)

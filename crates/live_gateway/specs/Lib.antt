@@ -7,6 +7,7 @@ pub mod Admitting
 pub mod Naming
 pub mod Desk
 pub mod Ending
+pub mod Visiting
 pub mod Leaving
 pub mod Answering
 pub mod Turning

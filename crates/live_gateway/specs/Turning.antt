@@ -1,5 +1,6 @@
 -- What a turn does, by its kind.
 use Rattle.std.specs.Prelude.{◌≡◌, ◌⊎◌, ℕ, Bool, false, ◌||◌, not, List, [], take, Option, None, Some, option_map, Result}
+use Rattle.std.specs.Global.{Box}
 use Rattle.std.specs.declared.net.socket_addr.SocketAddr.{SocketAddr}
 use Rattle.std.specs.declared.net.socket_addr.SocketAddrV4.{SocketAddrV4}
 use Rattle.mg_bytes.specs.Lists.{is_empty}
@@ -8,6 +9,7 @@ use Rattle.gateway_core.specs.Wire.{counted}
 use Rattle.plain_machine.specs.Event.{GatewayEvent, datagram, tick}
 use Rattle.plain_machine.specs.Falling.{first_due}
 use Rattle.plain_machine.specs.Lists.{plain}
+use Rattle.page_answers.specs.Showing.{BoardState}
 use Rattle.surroundings.specs.Hearing.{Hears}
 use Rattle.surroundings.specs.Sending.{Traffic}
 use Rattle.surroundings.specs.Typing.{left_of}
@@ -26,6 +28,7 @@ use Rattle.live_gateway.specs.Leaving.{OnlyHears, TakesFromPage, Starts, Leaves}
 use Rattle.live_gateway.specs.declared.desk.Desk.{Desk}
 use Rattle.live_gateway.specs.declared.exchange.Exchange.{Exchange}
 use Rattle.live_gateway.specs.Answering.{DoesLine}
+use Rattle.live_gateway.specs.Visiting.{AreReady, ClosesAt}
 use Rattle.live_gateway.specs.Ending.{WroteTimes}
 use Rattle.live_gateway.specs.Desk.{Standing, at_desk, IsHeard}
 use Rattle.live_gateway.specs.Exchanging.{CountsReceived, FoundSince, OnlyWrites, OnlySends, came_by, next_due, moment_at, faults_by}
@@ -99,16 +102,19 @@ ready_at told is_line_left network ticked is_visited = record {
   visitors = is_visited;
 }
 
--- How things stand at a desk: by what the clock and the sockets told when they were asked, and visitors.
-pub record IsSituation {S T : Type 0} (passes : S → Result ℕ Fault → Type 0) (tells : S → Told → Type 0) (was : Desk S T) (at : Situation)
-    : Type 0 where
+-- How things stand at a desk: by what the clock, the sockets and visitors told when they were asked.
+pub record IsSituation {S T V : Type 0}
+    (passes : S → Result ℕ Fault → Type 0) (tells : S → Told → Type 0) (waits : V → S → ℕ → Bool → Type 0) (closes : V → Option ℕ → Type 0)
+    (visitors : Option (Box V)) (was : Desk S T) (at : Situation) : Type 0 where
   pub clock : Result ℕ Fault
   pub read_so : passes was.exchange.around clock
   pub told : Told
   pub told_so : tells was.exchange.around told
   pub is_visited : Bool
+  pub visited_so : AreReady waits visitors was.exchange.around at.moment is_visited
   pub own : Option ℕ
   pub deadline : Option ℕ
+  pub closes_so : ClosesAt closes visitors deadline
   pub moment : at.moment ≡ moment_at clock at.ticked
   pub ticked : (events : List GatewayEvent) → Stands was.play.gateway.value events
       → at.ticked ≡ (plain was.play.gateway.value.setup events).now
@@ -120,18 +126,19 @@ pub record IsSituation {S T : Type 0} (passes : S → Result ℕ Fault → Type 
   pub ready : at.ready ≡ ready_at told (not (is_empty (left_of was.lines))) (next_due was.exchange.network) at.ticked is_visited
 
 -- It does what comes next by its schedule, as things stand, and goes on with the schedule behind that. Who watches is told then what
--- changed.
-pub record DoesNext {S T : Type 0}
+-- changed. Visitors have a turn where that is what comes next, and no other one.
+pub record DoesNext {S T V : Type 0}
     (told : T → Option (List ℕ)) (traffic : S → Traffic) (sockets : S → List SocketAddrV4)
     (passes : S → Result ℕ Fault → Type 0) (tells : S → Told → Type 0)
     (receives : S → Result (Option (SocketAddrV4 × ℕ)) Fault → List ℕ → S → Type 0)
-    (hears : S → Option (SocketAddr × ℕ) → List ℕ → S → Type 0) (answers : S → SocketAddr → List ℕ → S → Type 0) (was is : Desk S T)
-    : Type 0 where
+    (hears : S → Option (SocketAddr × ℕ) → List ℕ → S → Type 0) (answers : S → SocketAddr → List ℕ → S → Type 0)
+    (waits : V → S → ℕ → Bool → Type 0) (closes : V → Option ℕ → Type 0) (serves : V → S → BoardState → ℕ → V → S → BoardState → Type 0)
+    (was : Desk S T) (visitors : Option (Box V)) (is : Desk S T) (left : Option (Box V)) : Type 0 where
   pub at : Situation
   pub turn : Turn
   pub begun : Desk S T
   pub done : Desk S T
-  pub situation : IsSituation passes tells was at
+  pub situation : IsSituation passes tells waits closes visitors was at
   pub next : (turn, is.schedule) ≡ next_of was.schedule at
   pub before : begun ≡ record was {
     exchange = record was.exchange { now = begun.exchange.now; faults = begun.exchange.faults };
@@ -140,7 +147,7 @@ pub record DoesNext {S T : Type 0}
   pub clock : begun.exchange.now.clock ≡ at.ticked
   pub faults : begun.exchange.faults ≡ faults_by situation.clock was.exchange.faults
   pub does : Does told traffic sockets receives hears answers turn begun done
-  pub leaves : Leaves traffic turn begun done
+  pub leaves : Leaves traffic serves at.moment turn visitors left begun done
   pub behind : is ≡ record done { exchange = record done.exchange { around = is.exchange.around }; watch = is.watch }
   pub kept : traffic is.exchange.around ≡ traffic done.exchange.around
   pub watch : (events : List GatewayEvent) → Stands done.play.gateway.value events
@@ -149,18 +156,19 @@ pub record DoesNext {S T : Type 0}
 
 -- A turn was done, and then what was recorded was written: of the desk, that changes only what is recorded and told, and whether some of
 -- it waits to be taken.
-pub record TurnsAndWrites {S T W : Type 0} (does : Desk S T → Desk S T → Type 0) (writes : W → W → Type 0) (was is : Desk S T × W)
-    : Type 0 where
+pub record TurnsAndWrites {S T V W : Type 0}
+    (does : Desk S T → V → Desk S T → V → Type 0) (writes : W → W → Type 0) (was is : Desk S T × V × W) : Type 0 where
   pub done : Desk S T
-  pub turn : does was.0 done
-  pub wrote : writes was.1 is.1
+  pub turn : does was.0 was.1 done is.1
+  pub wrote : writes was.2 is.2
   pub teller : is.0.play ≡ record done.play { teller = is.0.play.teller }
   pub exchange : OnlyWrites done.exchange is.0.exchange
   pub rest : is.0 ≡ record done { play = is.0.play; exchange = is.0.exchange }
 
 -- it began, and then there were so many turns, and nothing else
-pub record RunsTurns {S T W : Type 0} (passes : S → Result ℕ Fault → Type 0) (does : Desk S T → Desk S T → Type 0) (writes : W → W → Type 0)
-    (count : ℕ) (was : Desk S T) (before : W) (is : Desk S T) (after : W) : Type 0 where
+pub record RunsTurns {S T V W : Type 0}
+    (passes : S → Result ℕ Fault → Type 0) (does : Desk S T → V → Desk S T → V → Type 0) (writes : W → W → Type 0)
+    (count : ℕ) (was : Desk S T) (visitors : V) (before : W) (is : Desk S T) (left : V) (after : W) : Type 0 where
   pub begun : Desk S T
   pub starts : Starts passes was begun
-  pub turns : WroteTimes (TurnsAndWrites does writes) count (begun, before) (is, after)
+  pub turns : WroteTimes (TurnsAndWrites does writes) count (begun, visitors, before) (is, left, after)

@@ -288,7 +288,7 @@ impl<S: Surroundings + Drop, T: Teller + Drop> Desk<S, T> {
 
     // A visitor is served, if one is there.
     fn visit<V: Visitors<S>>(&mut self, visitors: &mut Option<Box<V>>, moment: u64)
-        ensures { DoesVisit S.traffic self.old self.new }
+        ensures { DoesVisit S.traffic V.serves moment visitors.old visitors.new self.old self.new }
     {
         let faults = self.exchange.faults;
         let behind = moment.saturating_sub(self.play.gateway.now());
@@ -316,7 +316,7 @@ impl<S: Surroundings + Drop, T: Teller + Drop> Desk<S, T> {
             → (plain self.old.play.gateway.value.setup events).now < to) }
         ensures play { GoesOn T.told S.traffic self.old self.new }
         ensures does { Does T.told S.traffic S.sockets S.receives S.hears S.answers turn self.old self.new }
-        ensures leaves { Leaves S.traffic turn self.old self.new }
+        ensures leaves { Leaves S.traffic V.serves moment turn visitors.old visitors.new self.old self.new }
         ensures over { is_end turn ≡ true → (self.new.play ≡ self.old.play) × (self.new.end ≡ self.old.end) }
     {
         match turn {
@@ -340,7 +340,8 @@ impl<S: Surroundings + Drop, T: Teller + Drop> Desk<S, T> {
     pub fn turn<V: Visitors<S>>(&mut self, visitors: &mut Option<Box<V>>) -> bool
         ensures play { GoesOn T.told S.traffic self.old self.new }
         ensures end { EndsAt self.old.end self.old.play.gateway.value (not result) }
-        ensures does { DoesNext T.told S.traffic S.sockets S.passes S.tells S.receives S.hears S.answers self.old self.new }
+        ensures does { DoesNext T.told S.traffic S.sockets S.passes S.tells S.receives S.hears S.answers V.waits V.closes V.serves
+            self.old visitors.old self.new visitors.new }
         ensures over { result ≡ false → (self.new.play ≡ self.old.play) × (self.new.end ≡ self.old.end) }
     {
         let ticked = self.play.gateway.now();
@@ -387,8 +388,8 @@ impl<S: Surroundings + Drop, T: Teller + Drop> Desk<S, T> {
     )
         ensures play { GoesOn T.told S.traffic self.old self.new }
         ensures end { (count : ℕ)
-            × RunsTurns S.passes (DoesNext T.told S.traffic S.sockets S.passes S.tells S.receives S.hears S.answers) W.writes
-            count self.old recorder.old self.new recorder.new
+            × RunsTurns S.passes (DoesNext T.told S.traffic S.sockets S.passes S.tells S.receives S.hears S.answers
+            V.waits V.closes V.serves) W.writes count self.old visitors.old recorder.old self.new visitors.new recorder.new
             × ((EndsAt self.new.end self.new.play.gateway.value true) ⊎ (count ≡ 2 ^ 64 - 1)) }
     {
         // It begins now: what its start took isn't a pause.

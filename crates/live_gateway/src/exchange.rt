@@ -10,6 +10,7 @@ ghost use Rattle.surroundings.specs.Sending.{Sent, Grows, found_by};
 ghost use Rattle.live_gateway.specs.Admitting.{is_heard};
 ghost use Rattle.live_gateway.specs.Offering.{brought, TakesDue};
 ghost use Rattle.live_gateway.specs.Exchanging.{handed_by, received_by, came_by, next_due, moment_at, faultless, refusals, with_refused, with_unreceived, with_read, faults_by, Becomes, HandsOver, OnlyNotes, LosesOver, IsSameTurn, LooksOnce, CountsReceived, FoundSince};
+ghost use Rattle.live_gateway.specs.Visiting.{ServesOnce};
 ghost use Rattle.live_gateway.specs.Noting.{TurnsAway, NotesArrival, NotesLate, CountsFound};
 ghost use Rattle.live_play.specs.Readable.{first_unread};
 
@@ -175,6 +176,8 @@ impl<S: Surroundings + Drop> Exchange<S> {
         ensures read { self.new.read ≡ self.old.read }
         ensures turn { IsSameTurn self.old self.new }
         ensures journal { self.new.journal ≡ record self.old.journal { board = self.new.journal.board } }
+        ensures served { ServesOnce V.serves moment visitors.old self.old.around self.old.journal.board
+            visitors.new self.new.around self.new.journal.board }
     {
         if let Some(visitors) = visitors {
             if let Some(board) = &mut self.journal.board {

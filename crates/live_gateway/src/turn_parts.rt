@@ -10,6 +10,7 @@ ghost use Rattle.live_gateway.specs.Answering.{IsTypist, IsActAnswer};
 ghost use Rattle.live_gateway.specs.Exchanging.{OnlyNotes, refusals, next_due, moment_at, faults_by};
 ghost use Rattle.live_gateway.specs.Leaving.{OnlyShows, MayTake};
 ghost use Rattle.live_gateway.specs.Turning.{ready_at};
+ghost use Rattle.live_gateway.specs.Visiting.{AreReady, ClosesAt};
 ghost use Rattle.live_play.specs.Readable.{first_unread};
 
 use crate::exchange::Exchange;
@@ -43,11 +44,12 @@ pub(crate) fn situation<S: Surroundings + Drop, V: Visitors<S>>(
     ensures end { result.end ≡ end }
     ensures ticked { result.ticked ≡ ticked }
     ensures short { (result.moment < first_unread) ⊎ (result.moment ≡ ticked) }
-    ensures due { (deadline : Option ℕ) × (result.due ≡ earlier (earlier due (next_due exchange.old.network)) deadline) }
+    ensures due { (deadline : Option ℕ) × ClosesAt V.closes visitors.now deadline × (result.due ≡ earlier (earlier due (next_due exchange.old.network)) deadline) }
     ensures read { result.read ≡ exchange.old.read }
     ensures clock { (clock : Result ℕ Fault) × S.passes exchange.old.around clock × (result.moment ≡ moment_at clock ticked)
         × (exchange.new.faults ≡ faults_by clock exchange.old.faults) }
     ensures ready { (told : Told) × (is_visited : Bool) × S.tells exchange.old.around told
+        × AreReady V.waits visitors.now exchange.old.around result.moment is_visited
         × (result.ready ≡ ready_at told is_line_left (next_due exchange.old.network) ticked is_visited) }
 {
     let moment = exchange.moment(ticked);

@@ -1,7 +1,7 @@
 //! Worked examples of what a turn does, as theorems.
 #![tactic(auto)]
 
-ghost use Rattle.std.specs.Prelude.{◌≡◌, ◌⊎◌, ◌∷◌, ⊤, codes, true, false, ℕ, List, [], Some, None, is_some, Result, Ok, Err};
+ghost use Rattle.std.specs.Prelude.{◌≡◌, ◌⊎◌, ◌∷◌, ⊤, codes, true, false, ℕ, List, [], Bool, Option, Some, None, is_some, Result, Ok, Err};
 ghost use Rattle.gateway_core.specs.GatewayState.{GatewayState};
 ghost use Rattle.gateway_rules.specs.declared.refusal.Refusal.{Refusal as Why};
 ghost use Rattle.live_ends.specs.declared.ending.CommonEnding.{CommonEnding};
@@ -18,7 +18,10 @@ ghost use Rattle.live_gateway.specs.Exchanging.{heard_in, mark_of, is_lost, faul
 ghost use Rattle.traces.specs.declared.telling.Mark.TheVariants.{Unsent, Lost};
 ghost use Rattle.live_gateway.specs.Leaving.{OnlyShows, OnlyPlays, OnlyTicks, OnlyLogs, OnlyHears, OnlyReplies, OnlyWaits, MayTake, DoesVisit};
 ghost use Rattle.live_gateway.specs.Turning.{ready_at, RunsTurns};
-ghost use Rattle.surroundings.specs.Sending.{Traffic};
+ghost use Rattle.surroundings.specs.Sending.{untold};
+ghost use Rattle.std.specs.Global.{Box};
+ghost use Rattle.page_answers.specs.Showing.{BoardState};
+ghost use Rattle.live_gateway.specs.Visiting.{AreReady, ClosesAt, ServesOnce};
 
 /// Where nothing changes of what may, nothing does. Neither a wait nor a visitor changes how much was read; without a turn the end stays.
 pub fn what_stays_has_examples()
@@ -29,9 +32,10 @@ pub fn what_stays_has_examples()
         → is ≡ was }
     ensures said { (was is : Desk ℕ ℕ) → OnlyReplies was is → is.exchange.around ≡ was.exchange.around → is.lines ≡ was.lines → is ≡ was }
     ensures waited { (was is : Desk ℕ ℕ) → OnlyWaits was is → (is.exchange.read ≡ was.exchange.read) × (is.end ≡ was.end) }
-    ensures visited { (traffic : ℕ → Traffic) (was is : Desk ℕ ℕ) → DoesVisit traffic was is → is.exchange.read ≡ was.exchange.read }
+    ensures visited { (visitors left : Option (Box ℕ)) (was is : Desk ℕ ℕ)
+        → DoesVisit {V = ℕ} (λ around. untold) (λ v s b at w t c. ⊤) 5 visitors left was is → is.exchange.read ≡ was.exchange.read }
     ensures unasked { (desk : Desk ℕ ℕ) → MayTake desk.exchange.journal desk.lines true desk.exchange.journal desk.lines true }
-    ensures unrun { (was is : Desk ℕ ℕ) → RunsTurns {W = ℕ} (λ s told. ⊤) (λ a b. ⊤) (λ a b. ⊤) 0 was 7 is 7 → is.end ≡ was.end }
+    ensures unrun { (was is : Desk ℕ ℕ) → RunsTurns {V = ℕ} {W = ℕ} (λ s told. ⊤) (λ a v b w. ⊤) (λ a b. ⊤) 0 was 3 7 is 3 7 → is.end ≡ was.end }
 {}
 
 /// Who types may have something where a line is left, or as was told of their socket; the network where one that spoils it hands something
@@ -90,4 +94,13 @@ pub fn what_goes_over_an_exchange_has_examples()
     ensures gone { (was is : Exchange ℕ) → HandsAnywhere None was is → is.faults ≡ was.faults }
     ensures lost { (was is : Exchange ℕ) → HandsAnywhere (Some Lost) was is → is.faults ≡ was.faults }
     ensures ticked { (was is : Desk ℕ ℕ) → OnlyTicks 5 was is → (is.exchange.now.clock ≡ 5) × (is.exchange.read ≡ was.exchange.read) }
+{}
+
+/// Visitors are held to what they said, and to their turns: where nobody can be served, nobody was; where nobody visits, none is ready.
+pub fn what_visitors_have_has_examples()
+    ensures nobody { (ready : Bool) → AreReady {V = ℕ} {S = ℕ} (λ v s at r. ⊤) None 0 5 ready → ready ≡ false }
+    ensures unsaid { (one : Box ℕ) (ready : Bool) → AreReady {S = ℕ} (λ v s at r. ⊥) (Some one) 0 5 ready → ⊥ }
+    ensures never { (deadline : Option ℕ) → ClosesAt {V = ℕ} (λ v at. ⊤) None deadline → deadline ≡ None }
+    ensures unserved { (one : Box ℕ) (board : Box BoardState) (left : Option (Box ℕ)) (shown : Option (Box BoardState))
+        → ServesOnce {S = ℕ} (λ v s b at w t c. ⊥) 5 (Some one) 0 (Some board) left 0 shown → ⊥ }
 {}

@@ -1,20 +1,37 @@
 //! What the loop asks of the visitors of a page.
 ghost use Rattle.std.specs.Prelude.{◌≡◌};
+ghost use Rattle.live_gateway.specs.Visiting.{AreReady, ClosesAt};
 
 use page_answers::Board;
 use surroundings::Surroundings;
 
-/// Visitors of a page, who come over the same surroundings and are served between the gateway's turns.
+/// Visitors of a page, who come over the same surroundings and are served between the gateway's turns. They can be held to what they said
+/// when they were asked, and to each turn that they had.
 pub trait Visitors<S: Surroundings> {
+    ghost use Rattle.std.specs.Prelude.{ℕ, Bool, Option};
+    ghost use Rattle.page_answers.specs.Showing.{BoardState};
+
+    /// They were asked whether they are ready over these surroundings, at this moment in ms: that gave this.
+    ghost waits: { Self → S → ℕ → Bool → Type 0 };
+
+    /// They were asked when somebody's time is over, in ms: that gave this.
+    ghost closes: { Self → Option ℕ → Type 0 };
+
+    /// They had a turn at this moment, in ms, and were answered by this board, once.
+    ghost serves: { Self → S → BoardState → ℕ → Self → S → BoardState → Type 0 };
+
     /// Whether one has more to do at this moment, in ms, somebody may have come, or somebody's time is over.
-    fn is_ready(&self, around: &S, moment: u64) -> bool;
+    fn is_ready(&self, around: &S, moment: u64) -> bool
+        ensures { waits self.now around.now moment result };
 
     /// The moment at which somebody's time is over, in ms, if there is one.
-    fn next_deadline(&self) -> Option<u64>;
+    fn next_deadline(&self) -> Option<u64>
+        ensures { closes self.now result };
 
     /// A turn: those whose time is over go, somebody is let in, and one who has more to do is answered by the board.
     fn turn(&mut self, around: &mut S, board: &mut Board, moment: u64)
-        ensures { S.traffic around.new ≡ S.traffic around.old };
+        ensures traffic { S.traffic around.new ≡ S.traffic around.old }
+        ensures served { serves self.old around.old board.old moment self.new around.new board.new };
 }
 
 /// Whether one of them has more to do at this moment, in ms, or comes, where there are visitors.
@@ -22,7 +39,9 @@ pub(crate) fn are_ready<S: Surroundings, V: Visitors<S>>(
     visitors: &Option<Box<V>>,
     around: &S,
     moment: u64,
-) -> bool {
+) -> bool
+    ensures { AreReady V.waits visitors.now around.now moment result }
+{
     match visitors {
         Some(visitors) => visitors.is_ready(around, moment),
         None => false,
@@ -32,7 +51,9 @@ pub(crate) fn are_ready<S: Surroundings, V: Visitors<S>>(
 /// The moment at which somebody's time is over, in ms, if there is one.
 pub(crate) fn next_deadline<S: Surroundings, V: Visitors<S>>(
     visitors: &Option<Box<V>>,
-) -> Option<u64> {
+) -> Option<u64>
+    ensures { ClosesAt V.closes visitors.now result }
+{
     match visitors {
         Some(visitors) => visitors.next_deadline(),
         None => None,

@@ -2,6 +2,8 @@
 //!
 //! A library hands on, with a type that it shows, all that the type's private fields are made of, and its check pays for that: here
 //! sockets and a server of HTTP. So the site isn't shown. A program is told of it as of some type that receives visitors.
+ghost use Rattle.std.specs.Prelude.{◌≡◌};
+
 use crate::host_names::HostNames;
 use crate::site::Site;
 use live_ends::Readiness;
@@ -13,6 +15,19 @@ use std::random::RandomSource;
 
 /// Who receives the visitors of a page.
 pub trait Reception: Drop {
+    ghost use Rattle.std.specs.Prelude.{ℕ, Bool, Option};
+    ghost use Rattle.live_ends.specs.declared.readiness.Readiness.{Readiness};
+    ghost use Rattle.page_answers.specs.Showing.{BoardState};
+
+    /// A visitor has more to do at once, or somebody may have come.
+    ghost busy: { Self → Bool };
+
+    /// The moment at which somebody's time is over, in ms, if there is one.
+    ghost closes: { Self → Option ℕ };
+
+    /// It had a turn at this moment, in ms, and a visitor was answered by this board, if one was.
+    ghost serves: { Self → Readiness → BoardState → ℕ → Self → Readiness → BoardState → Type 0 };
+
     /// At this address, and under these further names; its sockets are watched from now on.
     fn at<R: Net>(
         rt: &R,
@@ -26,19 +41,16 @@ pub trait Reception: Drop {
     fn address(&self) -> Option<SocketAddrV4>;
 
     /// Whether a visitor has more to do at once, or somebody may have come.
-    fn is_busy(&self) -> bool;
+    fn is_busy(&self) -> bool
+        ensures { result ≡ busy self.now };
 
     /// The moment at which somebody's time is over, in ms.
-    fn next_deadline(&self) -> Option<u64>;
+    fn next_deadline(&self) -> Option<u64>
+        ensures { result ≡ closes self.now };
 
     /// A turn: those whose time is over go, somebody is let in, and one who has more to do is answered by this board.
-    fn serve<R: RandomSource>(
-        &mut self,
-        rt: &R,
-        ready: &mut Readiness,
-        board: &mut Board,
-        now: u64,
-    );
+    fn serve<R: RandomSource>(&mut self, rt: &R, ready: &mut Readiness, board: &mut Board, now: u64)
+        ensures { serves self.old ready.old board.old now self.new ready.new board.new };
 }
 
 /// A program that has a page.

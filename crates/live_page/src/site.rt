@@ -287,6 +287,15 @@ impl Site {
 }
 
 impl Reception for Site {
+    ghost use Rattle.std.specs.Prelude.{⊤, ◌||◌, None, is_some};
+    ghost use Rattle.live_page.specs.Waiting.{soonest_from, next_turn};
+
+    ghost busy = { λ site. site.may_accept || is_some (next_turn site.last site.places.items) };
+
+    ghost closes = { λ site. soonest_from None site.places.items };
+
+    ghost serves = { λ was before board now is after shown. ⊤ };
+
     fn at<R: Net>(
         rt: &R,
         alloc: Global,
@@ -303,15 +312,11 @@ impl Reception for Site {
         self.address
     }
 
-    fn is_busy(&self) -> bool
-        ensures { result ≡ (self.now.may_accept || is_some (next_turn self.now.last self.now.places.items)) }
-    {
+    fn is_busy(&self) -> bool {
         self.may_accept || self.has_turn()
     }
 
-    fn next_deadline(&self) -> Option<u64>
-        ensures { result ≡ soonest_from None self.now.places.items }
-    {
+    fn next_deadline(&self) -> Option<u64> {
         soonest(self.places.as_slice())
     }
 

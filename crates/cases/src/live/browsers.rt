@@ -95,6 +95,14 @@ impl Browsers {
 }
 
 impl Visitors<Machine<'_>> for Browsers {
+    ghost use Rattle.std.specs.Prelude.{⊤};
+
+    ghost waits = { λ browsers around moment ready. ⊤ };
+
+    ghost closes = { λ browsers deadline. ⊤ };
+
+    ghost serves = { λ was before board moment is after shown. ⊤ };
+
     fn is_ready(&self, _around: &Machine<'_>, moment: u64) -> bool {
         match self.next() {
             Some(next) => next <= moment,

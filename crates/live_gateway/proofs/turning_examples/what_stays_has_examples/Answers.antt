@@ -30,7 +30,7 @@ returns-clause-waited c = λ was is only. (
 )
 
 pub returns-clause-visited : goal.returns-clause-visited
-returns-clause-visited c = λ traffic was is visit.
+returns-clause-visited c = λ visitors left was is visit.
     ap (λ (exchange : Exchange ℕ). exchange.read) visit.page.shown ∙ ap (λ (desk : Desk ℕ ℕ). desk.exchange.read) visit.before
 
 pub returns-clause-unasked : goal.returns-clause-unasked
@@ -38,4 +38,4 @@ returns-clause-unasked c = λ desk. inl (refl, refl, refl)
 
 pub returns-clause-unrun : goal.returns-clause-unrun
 returns-clause-unrun c = λ was is runs.
-    ap (λ (at : Desk ℕ ℕ × ℕ). at.0.end) runs.turns ∙ ap (λ (desk : Desk ℕ ℕ). desk.end) runs.starts.rest
+    ap (λ (at : Desk ℕ ℕ × ℕ × ℕ). at.0.end) runs.turns ∙ ap (λ (desk : Desk ℕ ℕ). desk.end) runs.starts.rest

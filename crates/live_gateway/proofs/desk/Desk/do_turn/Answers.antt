@@ -26,36 +26,36 @@ returns-in-Datagram-clause-does g c = rw (c.in-Datagram.is) c.datagram.ensures.l
 
 pub returns-in-Visit-clause-play : goal.returns-in-Visit-clause-play
 returns-in-Visit-clause-play g c =
-    let same = visit_same g.T.Teller.told g.S.Surroundings.traffic _ _ c.visit.ensures in
+    let same = visit_same g.T.Teller.told g.S.Surroundings.traffic _ _ _ _ _ _ c.visit.ensures in
     stays_so g.T.Teller.told g.S.Surroundings.traffic _ _ same.0 same.1
 
 pub returns-in-Visit-clause-does : goal.returns-in-Visit-clause-does
-returns-in-Visit-clause-does g c = rw (c.in-Visit.is) (visit_same g.T.Teller.told g.S.Surroundings.traffic _ _ c.visit.ensures).0
+returns-in-Visit-clause-does g c = rw (c.in-Visit.is) (visit_same g.T.Teller.told g.S.Surroundings.traffic _ _ _ _ _ _ c.visit.ensures).0
 
 -- what stays as it was
 
 pub returns-in-End-clause-leaves : goal.returns-in-End-clause-leaves
-returns-in-End-clause-leaves g c = rw (c.in-End.is) refl
+returns-in-End-clause-leaves g c = rw (c.in-End.is) (refl, refl)
 
 pub returns-in-Look-clause-leaves : goal.returns-in-Look-clause-leaves
 returns-in-Look-clause-leaves g c =
-    rw (c.in-Look.is) (record { rest = with_exchange c.args.self.now _ _ c.wait.ensures.rest; faults = c.wait.ensures.faults })
+    rw (c.in-Look.is) (record { rest = with_exchange c.args.self.now _ _ c.wait.ensures.rest; faults = c.wait.ensures.faults }, refl)
 
 pub returns-in-Wait-clause-leaves : goal.returns-in-Wait-clause-leaves
 returns-in-Wait-clause-leaves g c =
-    rw (c.in-Wait.is) (record { rest = with_exchange c.args.self.now _ _ c.wait-in-Wait.ensures.rest; faults = c.wait-in-Wait.ensures.faults })
+    rw (c.in-Wait.is) (record { rest = with_exchange c.args.self.now _ _ c.wait-in-Wait.ensures.rest; faults = c.wait-in-Wait.ensures.faults }, refl)
 
 pub returns-in-Tick-clause-leaves : goal.returns-in-Tick-clause-leaves
-returns-in-Tick-clause-leaves g c = rw (c.in-Tick.is) c.tick.ensures.rest
+returns-in-Tick-clause-leaves g c = rw (c.in-Tick.is) (c.tick.ensures.rest, refl)
 
 pub returns-in-Command-clause-leaves : goal.returns-in-Command-clause-leaves
-returns-in-Command-clause-leaves g c = rw (c.in-Command.is) (c.command.ensures.play.admission, c.command.ensures.schedule)
+returns-in-Command-clause-leaves g c = rw (c.in-Command.is) (c.command.ensures.play.admission, c.command.ensures.schedule, refl)
 
 pub returns-in-Datagram-clause-leaves : goal.returns-in-Datagram-clause-leaves
-returns-in-Datagram-clause-leaves g c = rw (c.in-Datagram.is) c.datagram.ensures.rest
+returns-in-Datagram-clause-leaves g c = rw (c.in-Datagram.is) (c.datagram.ensures.rest, refl)
 
 pub returns-in-Visit-clause-leaves : goal.returns-in-Visit-clause-leaves
 returns-in-Visit-clause-leaves g c = rw (c.in-Visit.is) c.visit.ensures
 
 pub returns-in-Note-clause-leaves : goal.returns-in-Note-clause-leaves
-returns-in-Note-clause-leaves g c = rw (c.in-Note.is) refl
+returns-in-Note-clause-leaves g c = rw (c.in-Note.is) (refl, refl)

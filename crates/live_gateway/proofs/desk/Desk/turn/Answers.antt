@@ -68,17 +68,19 @@ returns-clause-does g c =
         told = c.situation-at.ensures.ready.0;
         told_so = c.situation-at.ensures.ready.2;
         is_visited = c.situation-at.ensures.ready.1;
+        visited_so = c.situation-at.ensures.ready.3;
         own = c.next_due-due.result;
         deadline = c.situation-at.ensures.due.0;
+        closes_so = c.situation-at.ensures.due.1;
         moment = subst (λ (n : ℕ). at.moment ≡ moment_at c.situation-at.ensures.clock.0 n) (sym c.situation-at.ensures.ticked) c.situation-at.ensures.clock.2;
         ticked = λ events stands. c.situation-at.ensures.ticked ∙ here events stands;
         by_gateway = rw (c.deref-2.ensures) at c.next_due-due.ensures;
-        due = c.situation-at.ensures.due.1;
+        due = c.situation-at.ensures.due.2;
         end = c.situation-at.ensures.end;
         read = c.situation-at.ensures.read;
-        ready = rw (sym c.is_empty-is_line_left.ensures, c.situation-at.ensures.ticked) c.situation-at.ensures.ready.3;
+        ready = rw (sym c.is_empty-is_line_left.ensures, c.situation-at.ensures.ticked) c.situation-at.ensures.ready.4;
       };
-      next = rw (leaves_schedule g.S.Surroundings.traffic c.next-turn.result
+      next = rw (leaves_schedule g.S.Surroundings.traffic g.V.Visitors.serves at.moment c.next-turn.result c.args.visitors.now c.do_turn.new.visitors
           (record c.args.self.now { exchange = c.begin.new.self; schedule = c.next-turn.new.self }) c.do_turn.new.self c.do_turn.ensures.leaves)
           c.next-turn.ensures;
       before = with_exchange (record c.args.self.now { schedule = c.next-turn.new.self }) _ _
