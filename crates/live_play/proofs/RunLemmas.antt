@@ -161,9 +161,16 @@ each_more {O} hands from via to before after [] more marks others same a b =
     subst (λ (n : ℕ). HandsEach hands n more from (marks ++ others) to) here
     (subst (λ (o : O). HandsEach hands after more o (marks ++ others) to) a.1 marked)
 each_more hands from via to before after (d ∷ some) more marks others same a b =
-    let next : after ≡ before + 1 + length some = omega (arith, same) in
-    (a.0, a.1, a.2, a.3 ++ others, a.4, a.5, ap (λ (l : List Entry). l ++ others) a.6 ∙ append_assoc a.2 a.3 others,
-      each_more hands a.0 via to (before + 1) after some more a.3 others next a.7 b)
+    let next : after ≡ before + 1 + length some = omega (arith, same) in (
+      a.0,
+      a.1,
+      a.2,
+      a.3 ++ others,
+      a.4,
+      a.5,
+      ap (λ (l : List Entry). l ++ others) a.6 ∙ append_assoc a.2 a.3 others,
+      each_more hands a.0 via to (before + 1) after some more a.3 others next a.7 b,
+    )
 
 each_one : {O : Type 0} (hands : O → SocketAddrV4 → List ℕ → Option Mark → O → Type 0) (from to : O) (before place : ℕ) (d : OutDatagram) (mark : Option Mark)
     (noted : List Entry) → place ≡ before + 1 → hands from d.to d.bytes mark to → IsNoted mark place noted → HandsEach hands before (d ∷ []) from noted to
