@@ -14,3 +14,6 @@ pub mod WaitingLemmas
 pub mod AnnounceLemmas
 pub mod StepExampleLemmas
 pub mod DueLemmas
+pub mod SendingLemmas
+pub mod DatagramLemmas
+pub mod TypedCommandLemmas

@@ -13,7 +13,8 @@ use Rattle.live_agent.specs.declared.session.Request.TheVariants.{Nothing}
 use Rattle.live_agent.specs.declared.switchboard.Switchboard.{Switchboard}
 use Rattle.live_agent.specs.declared.wire.Wire.{Wire}
 use Rattle.live_agent.specs.GivingUp.{GivesUp}
-use Rattle.live_agent.specs.Turning.{line_request, first_request, AnswersFirst, HearsTyped, SettlesLines, TakesTyped}
+use Rattle.live_agent.specs.Sending.{SettlesLines}
+use Rattle.live_agent.specs.Turning.{line_request, first_request, AnswersFirst, HearsTyped, TakesTyped}
 
 pub asks_nothing : (is_near : Bool) (left : List (List ℕ)) → left ≡ [] → Nothing ≡ first_request is_near left
 asks_nothing is_near left none = sym (ap (first_request is_near) none)

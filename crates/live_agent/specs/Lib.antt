@@ -26,3 +26,6 @@ pub mod GivingUp
 pub mod Tallying
 pub mod Hearing
 pub mod Taking
+pub mod Sending
+pub mod Datagrams
+pub mod TypedCommands

@@ -1,5 +1,5 @@
--- What a turn does at a board and over a wire: of what is typed exactly, but for a command; of the other turns what stays as it was.
-use Rattle.std.specs.Prelude.{◌≡◌, ◌⊎◌, ◌↔◌, ⊤, ℕ, Bool, if◌then◌else◌, codes, List, [], ◌∷◌, Option, Some, None, Result, IsTrue, IsSomeAnd}
+-- What a turn does at a board and over a wire: of what is typed, and of a datagram; of the other turns what stays as it was.
+use Rattle.std.specs.Prelude.{◌≡◌, ◌⊎◌, ◌↔◌, ℕ, Bool, if◌then◌else◌, codes, List, [], ◌∷◌, Option, Some, None, Result, IsTrue, IsSomeAnd}
 use Rattle.std.specs.Global.{Box}
 use Rattle.std.specs.Net.Addr.{IsLoopbackV4, IsLoopbackV6, MatchIp}
 use Rattle.std.specs.Net.Socket.{socket_ip}
@@ -25,6 +25,10 @@ use Rattle.live_agent.specs.declared.session.Request.TheVariants.{Nothing, Count
 use Rattle.live_agent.specs.declared.switchboard.Switchboard.{Switchboard}
 use Rattle.live_agent.specs.declared.wire.Wire.{Wire}
 use Rattle.live_agent.specs.Ending.{counted_in}
+use Rattle.live_agent.specs.Clock.{is_behind}
+use Rattle.live_agent.specs.Datagrams.{TakesDatagram}
+use Rattle.live_agent.specs.Sending.{SendsOver, SettlesLines}
+use Rattle.live_agent.specs.TypedCommands.{DoesCommand}
 use Rattle.live_agent.specs.Wiring.{with_read, IsSituation}
 
 -- What a line asks for
@@ -63,7 +67,7 @@ AnswersWith answers text was is =
 abbrev pub TellsCounts : Journal → List ℕ → Type 0
 TellsCounts journal text = (text ≡ counted_in journal) ⊎ (text ≡ codes "! 1 OutOfMemory\n")
 
--- But for a command the board stays as it was. The end has come where that was asked for.
+-- But for a command that was typed the board stays as it was. The end has come where that was asked for.
 abbrev pub DoesRequest : {S : Type 0} → (S → SocketAddr → List ℕ → S → Type 0) → Request → Switchboard → Switchboard → Wire S → Wire S → Type 0
 DoesRequest answers Nothing board now was is = (now ≡ board) × (is ≡ was)
 DoesRequest answers Counts board now was is =
@@ -72,7 +76,7 @@ DoesRequest {S} answers Stop board now was is =
     (now ≡ board) × ((answered : Wire S) × AnswersWith answers (codes "done\n") was answered × (is ≡ record answered { end = Some 0 }))
 DoesRequest answers StopFromAfar board now was is =
     (now ≡ board) × AnswersWith answers (codes "! stop is taken from a loopback address alone, 127.0.0.0/8\n") was is
-DoesRequest answers Command board now was is = ⊤
+DoesRequest answers Command board now was is = DoesCommand answers board now was is
 
 pub record AnswersFirst {S : Type 0} (answers : S → SocketAddr → List ℕ → S → Type 0) (board now : Switchboard) (was is : Wire S) : Type 0 where
   pub request : Request
@@ -98,32 +102,58 @@ TakesTyped {S} sockets hears answers None board now was is =
 abbrev pub Waits : {S : Type 0} → Wire S → Wire S → Type 0
 Waits was is = is ≡ record was { around = is.around; journal = is.journal }
 
--- Lines to which something has happened are settled: of a board that changes the gateways and the exchange alone. So does a tick.
-abbrev pub SettlesLines : Switchboard → Switchboard → Type 0
-SettlesLines was is = is ≡ record was { gateways = is.gateways; office = is.office }
+-- The clock goes on to this moment, and what falls due is sent; whether it is behind is known anew. What was typed stays, and what was read.
+abbrev pub TickedOver : {S : Type 0} → ℕ → Wire S → Wire S → Type 0
+TickedOver moment was is =
+    is ≡ record was {
+      around = is.around;
+      network = is.network;
+      journal = is.journal;
+      load = is.load;
+      now = record was.now { clock = moment };
+      is_behind = is.is_behind;
+    }
+
+-- what is due of a load is done besides; where that is over the end has come
+abbrev pub TicksOver : {S : Type 0} → ℕ → Wire S → Wire S → Type 0
+TicksOver moment was is =
+    ((is.end ≡ was.end) ⊎ (is.end ≡ Some 0)) × (is ≡ record was {
+      around = is.around;
+      network = is.network;
+      journal = is.journal;
+      load = is.load;
+      now = record was.now { clock = moment };
+      is_behind = is.is_behind;
+      end = is.end;
+    })
 
 -- What a turn of a kind does: a tick, a command that was typed and a datagram alone change the board. A pause is noted in the journal.
 abbrev pub DoesTurn :
-    {S : Type 0} → (S → List SocketAddrV4) → (S → Option (SocketAddr × ℕ) → List ℕ → S → Type 0)
+    {S : Type 0} → (S → List SocketAddrV4) → (S → Result (Option (SocketAddrV4 × ℕ)) Fault → List ℕ → S → Type 0)
+    → (S → Option (SocketAddr × ℕ) → List ℕ → S → Type 0)
     → (S → SocketAddr → List ℕ → S → Type 0) → Turn → Switchboard → Switchboard → Wire S → Wire S → Type 0
-DoesTurn sockets hears answers turns.End board now was is = (now ≡ board) × (is ≡ was)
-DoesTurn sockets hears answers turns.Look board now was is = (now ≡ board) × Waits was is
-DoesTurn sockets hears answers (turns.Wait until) board now was is = (now ≡ board) × Waits was is
-DoesTurn sockets hears answers (turns.Tick moment) board now was is = SettlesLines board now
-DoesTurn sockets hears answers turns.Command board now was is = TakesTyped sockets hears answers was.load board now was is
-DoesTurn sockets hears answers turns.Datagram board now was is = ⊤
-DoesTurn sockets hears answers turns.Visit board now was is = (now ≡ board) × (is ≡ was)
-DoesTurn sockets hears answers (turns.Note pause) board now was is = (now ≡ board) × (is ≡ record was { journal = is.journal })
+DoesTurn sockets receives hears answers turns.End board now was is = (now ≡ board) × (is ≡ was)
+DoesTurn sockets receives hears answers turns.Look board now was is = (now ≡ board) × Waits was is
+DoesTurn sockets receives hears answers (turns.Wait until) board now was is = (now ≡ board) × Waits was is
+DoesTurn sockets receives hears answers (turns.Tick moment) board now was is = SettlesLines board now × TicksOver moment was is
+DoesTurn sockets receives hears answers turns.Command board now was is = TakesTyped sockets hears answers was.load board now was is
+DoesTurn sockets receives hears answers turns.Datagram board now was is = TakesDatagram receives board was now is
+DoesTurn sockets receives hears answers turns.Visit board now was is = (now ≡ board) × (is ≡ was)
+DoesTurn sockets receives hears answers (turns.Note pause) board now was is = (now ≡ board) × (is ≡ record was { journal = is.journal })
 
 -- what comes next by a schedule, as things stand, is done, once lines are settled
 pub record DoesNext {S : Type 0}
     (sockets : S → List SocketAddrV4) (passes : S → Result ℕ Fault → Type 0) (tells : S → Told → Type 0)
+    (receives : S → Result (Option (SocketAddrV4 × ℕ)) Fault → List ℕ → S → Type 0)
     (hears : S → Option (SocketAddr × ℕ) → List ℕ → S → Type 0) (answers : S → SocketAddr → List ℕ → S → Type 0)
     (board now : Switchboard) (was is : Wire S) (schedule : Schedule)
     : Type 0 where
   pub at : Situation
   pub settled : Switchboard
   pub begun : Wire S
+  pub sent : Wire S
   pub situation : IsSituation passes tells board was at
+  pub begins : begun ≡ record was { now = record was.now { time = begun.now.time }; is_behind = is_behind at.moment at.ticked }
   pub settles : SettlesLines board settled
-  pub does : DoesTurn sockets hears answers (next_of schedule at).0 settled now begun is
+  pub over : SendsOver begun sent
+  pub does : DoesTurn sockets receives hears answers (next_of schedule at).0 settled now sent is

@@ -1,5 +1,5 @@
 //! Makes a load: calls at a rate between the telephones of gateways, which another call agent serves, or this program's own exchange.
-ghost use Rattle.std.specs.Prelude.{◌≡◌, false, is_some};
+ghost use Rattle.std.specs.Prelude.{◌≡◌, ◌⊎◌, false, is_some, Some};
 ghost use Rattle.live_agent.specs.Wiring.{due_of, FallsDueOver};
 
 use crate::recorder::Recorder;
@@ -134,7 +134,10 @@ impl<S: Surroundings + Drop> Wire<S> {
     }
 
     /// It is this moment, in ms: what is due of a load is done, where one is made, and it is logged how far it is.
-    pub(crate) fn pass_load(&mut self, alloc: Global, moment: u64) {
+    pub(crate) fn pass_load(&mut self, alloc: Global, moment: u64)
+        ensures ends { (self.new.end ≡ self.old.end) ⊎ (self.new.end ≡ Some 0) }
+        ensures rest { self.new ≡ record self.old { around = self.new.around; journal = self.new.journal; load = self.new.load; end = self.new.end } }
+    {
         let Some(load) = &mut self.load else {
             return;
         };

@@ -4,9 +4,12 @@ ghost use Rattle.live_agent.specs.Boards.{Answers};
 ghost use Rattle.live_agent.specs.Issuing.{IssuesUnder};
 ghost use Rattle.live_agent.specs.Orders.{shown};
 ghost use Rattle.live_agent.specs.Steps.{Sends};
+ghost use Rattle.live_agent.specs.TypedCommands.{IssuesNamed};
 
 use crate::gateway::Gateway;
+use crate::naming::whole_name;
 use crate::office::{Office, Order};
+use crate::typed::TypedFault;
 use agent_texts::Station;
 use call_agent::{IssueFault, Issued};
 use std::alloc::Global;
@@ -25,6 +28,28 @@ pub(crate) fn issue_by(
     let name = station.name.as_bytes();
     let rest = order.rest.as_bytes();
     gateway.issue(alloc, order.verb, name, rest, Some(line))
+}
+
+/// Issues a command that was typed for a gateway, under a name without its domain.
+pub(crate) fn issue_named(
+    alloc: Global,
+    gateway: &mut Gateway,
+    verb: &[u8],
+    local: &[u8],
+    rest: &[u8],
+) -> Result<Issued, TypedFault>
+    ensures issues { IssuesNamed verb.now local.now rest.now result gateway.old gateway.new }
+    ensures sends { Sends gateway.old gateway.new }
+{
+    let Ok(name) = whole_name(alloc, local, gateway.domain.as_bytes()) else {
+        return Err(TypedFault::OutOfMemory);
+    };
+    match gateway.issue(alloc, verb, name.as_slice(), rest, None) {
+        Ok(issued) => Ok(issued),
+        Err(IssueFault::OutOfMemory) => Err(TypedFault::OutOfMemory),
+        Err(IssueFault::NoMoreIds) => Err(TypedFault::NoMoreIds),
+        Err(IssueFault::BadCommand) => Err(TypedFault::BadCommand),
+    }
 }
 
 /// The exchange's command to a line of a gateway was answered. Where memory is refused for keeping when it is sent again, it is so at

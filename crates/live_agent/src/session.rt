@@ -1,8 +1,13 @@
 //! Serves gateways and whoever types commands, a turn at a time, as a schedule says what comes next.
-ghost use Rattle.std.specs.Prelude.{◌≡◌, ◌||◌, ℕ, true, false, List, Option, Err, IfOk, IfErr};
+ghost use Rattle.std.specs.Prelude.{◌≡◌, ◌||◌, ℕ, [], true, false, List, Option, Err, IfOk, IfErr};
 ghost use Rattle.live_agent.specs.Clock.{is_behind};
+ghost use Rattle.live_agent.specs.Datagrams.{HearsAt, HearsDatagram, HearsTexts, TakesAll, TakesDatagram, TakesEach, TakesNext, TakesOver, TakesReceived};
+ghost use Rattle.live_agent.specs.Sending.{SendsOutputs, SendsOver, SettlesLines};
 ghost use Rattle.live_agent.specs.Tallying.{with_command, CountsSent};
-ghost use Rattle.live_agent.specs.Turning.{stop_request, line_request, AsksFirst, AnswersWith, TellsCounts, DoesRequest, AnswersFirst, TakesTyped, SettlesLines, DoesTurn, DoesNext};
+ghost use Rattle.transmission.specs.Texts.{texts_of};
+ghost use Rattle.live_agent.specs.Turning.{TickedOver, stop_request, line_request, AsksFirst, AnswersWith, TellsCounts, DoesRequest, AnswersFirst, TakesTyped, DoesTurn, DoesNext};
+ghost use Rattle.live_agent.specs.TypedCommands.{fault_text, issued_text, AnswersCommand, DoesCommand, IsTypedNext};
+ghost use Rattle.surroundings.specs.Typing.{left_of};
 ghost use Rattle.live_agent.specs.Wiring.{due_of, ms_until, longest_until, IsSituation, IsWaitedFor, FallsDueFirst, AsksNext};
 
 use crate::loading::count_came;
@@ -34,6 +39,7 @@ const ISSUED_ROOM: usize = 17;
 // A command was issued.
 fn send_issued<S: Surroundings + Drop>(wire: &mut Wire<S>, issued: &Issued)
     ensures tally { CountsSent false wire.old.network (with_command wire.old.journal.value.tally) wire.new.journal.value.tally }
+    ensures over { SendsOver wire.old wire.new }
 {
     count(&mut wire.journal.tally.commands);
     wire.send(issued.datagram.to, issued.datagram.bytes.as_bytes(), false);
@@ -48,7 +54,8 @@ fn is_behind(moment: u64, ticked: u64) -> bool
 
 // Sends the line that is settled so many behind the first what it is to be sent.
 fn send_next<S: Surroundings + Drop>(board: &mut Switchboard, wire: &mut Wire<S>, index: usize)
-    ensures { SettlesLines board.old board.new }
+    ensures settles { SettlesLines board.old board.new }
+    ensures over { SendsOver wire.old wire.new }
 {
     match board.issue_next(index) {
         Ok(Some(issued)) => send_issued(wire, &issued),
@@ -61,6 +68,7 @@ fn send_next<S: Surroundings + Drop>(board: &mut Switchboard, wire: &mut Wire<S>
 // on waiting.
 fn settle<S: Surroundings + Drop>(board: &mut Switchboard, wire: &mut Wire<S>)
     ensures settles { SettlesLines board.old board.new }
+    ensures over { SendsOver wire.old wire.new }
     ensures waits { wire.old.is_behind ≡ true → (board.new ≡ board.old) × (wire.new ≡ wire.old) }
 {
     if wire.is_behind {
@@ -81,7 +89,9 @@ fn send_outputs<S: Surroundings + Drop>(
     wire: &mut Wire<S>,
     outputs: Result<Outputs, Refusal>,
     is_repeat: bool,
-) -> bool {
+) -> bool
+    ensures { SendsOutputs is_repeat outputs result wire.old wire.new }
+{
     match outputs {
         Ok(outputs) => {
             wire.send_all(outputs.as_slice(), is_repeat);
@@ -100,7 +110,9 @@ fn deal_with<S: Surroundings + Drop>(
     wire: &mut Wire<S>,
     place: usize,
     bytes: &[u8],
-) {
+)
+    ensures { HearsTexts place (texts_of bytes.now) board.old wire.old board.new wire.new }
+{
     let Some(mut rest) = texts(bytes) else {
         return;
     };
@@ -110,13 +122,59 @@ fn deal_with<S: Surroundings + Drop>(
     }
 }
 
-// What the lines of a gateway told is taken, a line at a time.
-fn take_told<S: Surroundings + Drop>(board: &mut Switchboard, wire: &mut Wire<S>, place: usize) {
-    for index in 0..board.begin_taking(place) {
-        if board.take(&mut wire.journal, place, index) {
-            settle(board, wire);
-        }
+// What the line told that is taken so many behind the first is taken; where it told anything, lines are settled.
+fn take_next<S: Surroundings + Drop>(
+    board: &mut Switchboard,
+    wire: &mut Wire<S>,
+    place: usize,
+    index: usize,
+)
+    ensures { TakesNext place index board.old wire.old board.new wire.new }
+{
+    if !board.take(&mut wire.journal, place, index) {
+        return;
     }
+    settle(board, wire);
+}
+
+// What so many lines of a gateway told is taken, a line at a time.
+fn take_each<S: Surroundings + Drop>(
+    board: &mut Switchboard,
+    wire: &mut Wire<S>,
+    place: usize,
+    lines: usize,
+)
+    ensures { TakesEach place lines board.old wire.old board.new wire.new }
+{
+    for index in 0..lines {
+        take_next(board, wire, place, index);
+    }
+}
+
+// What the lines of a gateway told is taken.
+fn take_told<S: Surroundings + Drop>(board: &mut Switchboard, wire: &mut Wire<S>, place: usize)
+    ensures { TakesAll place board.old wire.old board.new wire.new }
+{
+    let lines = board.begin_taking(place);
+    take_each(board, wire, place, lines);
+}
+
+// A datagram came from the gateway at this place: its agent hears it, then the board its texts.
+fn hear_at<S: Surroundings + Drop>(
+    board: &mut Switchboard,
+    wire: &mut Wire<S>,
+    place: usize,
+    source: SocketAddrV4,
+    bytes: &[u8],
+)
+    ensures { HearsAt place source bytes.now board.old wire.old board.new wire.new }
+{
+    let outputs = board.step(place, source, bytes);
+    if !send_outputs(wire, outputs, false) {
+        return;
+    }
+    deal_with(board, wire, place, bytes);
+    take_told(board, wire, place);
 }
 
 // A datagram is heard.
@@ -125,21 +183,22 @@ fn hear<S: Surroundings + Drop>(
     wire: &mut Wire<S>,
     source: SocketAddrV4,
     bytes: &[u8],
-) {
+)
+    ensures { HearsDatagram source bytes.now board.old wire.old board.new wire.new }
+{
     wire.journal.came(wire.now.time, source, bytes);
     count_came(&mut wire.load, wire.now.time, source, bytes);
     let Some(place) = board.place_of(source) else {
         count(&mut wire.journal.tally.strange);
         return;
     };
-    if send_outputs(wire, board.step(place, source, bytes), false) {
-        deal_with(board, wire, place, bytes);
-        take_told(board, wire, place);
-    }
+    hear_at(board, wire, place, source, bytes);
 }
 
 // Takes the next packet that the bad network hands over, where it does: whether it did.
-fn take_over<S: Surroundings + Drop>(board: &mut Switchboard, wire: &mut Wire<S>) -> bool {
+fn take_over<S: Surroundings + Drop>(board: &mut Switchboard, wire: &mut Wire<S>) -> bool
+    ensures { TakesOver result board.old wire.old board.new wire.new }
+{
     match wire.handed_over() {
         Some(packet) => {
             hear(board, wire, packet.peer, packet.bytes.as_bytes());
@@ -149,25 +208,41 @@ fn take_over<S: Surroundings + Drop>(board: &mut Switchboard, wire: &mut Wire<S>
     }
 }
 
+// Takes a datagram that has come: it is offered to the bad network, where there is one, which may hand one over by then.
+fn take_received<S: Surroundings + Drop>(
+    board: &mut Switchboard,
+    wire: &mut Wire<S>,
+    source: SocketAddrV4,
+    bytes: &[u8],
+)
+    ensures { TakesReceived wire.old.network source bytes.now board.old wire.old board.new wire.new }
+{
+    if wire.offer(Way::In, source, bytes) {
+        let _ = take_over(board, wire);
+        return;
+    }
+    hear(board, wire, source, bytes);
+}
+
 // Takes a datagram, if one is there: of those that the bad network held, or that has come.
-fn take_datagram<S: Surroundings + Drop>(board: &mut Switchboard, wire: &mut Wire<S>) {
+fn take_datagram<S: Surroundings + Drop>(board: &mut Switchboard, wire: &mut Wire<S>)
+    ensures { TakesDatagram S.receives board.old wire.old board.new wire.new }
+{
     if take_over(board, wire) {
         return;
     }
     let mut room = [0u8; ROOM];
-    let Some((source, len)) = wire.receive(&mut room) else {
+    let Some(found) = wire.receive(&mut room) else {
         return;
     };
-    let bytes = room.get(..len).unwrap_or(&[]);
-    if wire.offer(Way::In, source, bytes) {
-        let _ = take_over(board, wire);
-    } else {
-        hear(board, wire, source, bytes);
-    }
+    let bytes = room.get(..found.1).unwrap_or(&[]);
+    take_received(board, wire, found.0, bytes);
 }
 
 // What is answered where a command isn't issued.
-fn fault_text(fault: TypedFault) -> &'static [u8] {
+fn fault_text(fault: TypedFault) -> &'static [u8]
+    ensures { result.now ≡ fault_text fault }
+{
     match fault {
         TypedFault::OutOfMemory => NO_MEMORY,
         TypedFault::NoMoreIds => b"! 2 NoMoreIds\n",
@@ -178,7 +253,10 @@ fn fault_text(fault: TypedFault) -> &'static [u8] {
 }
 
 // What is answered where a command is issued, in the room that there is for it.
-fn issued_text(alloc: Global, mut room: Vec<u8>, id: u32) -> Result<Vec<u8>, OutOfMemory> {
+fn issued_text(alloc: Global, mut room: Vec<u8>, id: u32) -> Result<Vec<u8>, OutOfMemory>
+    requires { room.items ≡ [] }
+    ensures { IfOk result (λ text. text.items ≡ issued_text id) }
+{
     room.extend_from_slice(b"issued ")?;
     put_decimal(alloc, &mut room, u64::from(id))?;
     room.extend_from_slice(b"\n")?;
@@ -192,7 +270,9 @@ fn answer_typed<S: Surroundings + Drop>(
     board: &mut Switchboard,
     wire: &mut Wire<S>,
     text: &[u8],
-) {
+)
+    ensures { AnswersCommand S.answers text.now board.old board.new wire.old wire.new }
+{
     let Ok(room) = Vec::with_capacity(alloc, ISSUED_ROOM) else {
         return wire.answer_all(NO_MEMORY);
     };
@@ -265,7 +345,9 @@ fn request_in(lines: &Lines) -> Request
 }
 
 // The command that is typed next, as it is issued; empty where nothing is.
-fn command_in(alloc: Global, lines: &Lines) -> Result<Vec<u8>, OutOfMemory> {
+fn command_in(alloc: Global, lines: &Lines) -> Result<Vec<u8>, OutOfMemory>
+    ensures { IfOk result (λ text. IsTypedNext (left_of lines.now) text.items) }
+{
     let Some(line) = lines.line() else {
         return Ok(Vec::new(alloc));
     };
@@ -277,7 +359,9 @@ fn answer_command<S: Surroundings + Drop>(
     alloc: Global,
     board: &mut Switchboard,
     wire: &mut Wire<S>,
-) {
+)
+    ensures { DoesCommand S.answers board.old board.new wire.old wire.new }
+{
     match command_in(alloc, &wire.lines) {
         Ok(text) => answer_typed(alloc, board, wire, text.as_slice()),
         Err(_) => wire.answer_all(NO_MEMORY),
@@ -335,7 +419,8 @@ fn take_line<S: Surroundings + Drop>(
 
 // What is given up by now of the commands to a gateway.
 fn give_up<S: Surroundings + Drop>(board: &mut Switchboard, wire: &mut Wire<S>, place: usize)
-    ensures { SettlesLines board.old board.new }
+    ensures settles { SettlesLines board.old board.new }
+    ensures over { SendsOver wire.old wire.new }
 {
     for _ in 0..u16::MAX {
         if !board.give_up(&mut wire.journal, place, wire.now.time) {
@@ -347,7 +432,8 @@ fn give_up<S: Surroundings + Drop>(board: &mut Switchboard, wire: &mut Wire<S>, 
 
 // The same of all gateways.
 fn give_up_all<S: Surroundings + Drop>(board: &mut Switchboard, wire: &mut Wire<S>)
-    ensures { SettlesLines board.old board.new }
+    ensures settles { SettlesLines board.old board.new }
+    ensures over { SendsOver wire.old wire.new }
 {
     for place in 0..board.gateways() {
         give_up(board, wire, place);
@@ -367,7 +453,8 @@ fn wake(board: &mut Switchboard, place: usize)
 
 // The same of all gateways, and they are settled.
 fn wake_all<S: Surroundings + Drop>(board: &mut Switchboard, wire: &mut Wire<S>)
-    ensures { SettlesLines board.old board.new }
+    ensures settles { SettlesLines board.old board.new }
+    ensures over { SendsOver wire.old wire.new }
 {
     for place in 0..board.gateways() {
         wake(board, place);
@@ -377,7 +464,8 @@ fn wake_all<S: Surroundings + Drop>(board: &mut Switchboard, wire: &mut Wire<S>)
 
 // The clock goes on, that of each agent first: by one that was behind what is issued now would be sent again at once.
 fn tick<S: Surroundings + Drop>(board: &mut Switchboard, wire: &mut Wire<S>, to: u64, moment: u64)
-    ensures { SettlesLines board.old board.new }
+    ensures settles { SettlesLines board.old board.new }
+    ensures over { TickedOver to wire.old wire.new }
 {
     wire.now.clock = to;
     for place in 0..board.gateways() {
@@ -486,7 +574,7 @@ fn do_turn<S: Surroundings + Drop>(
     turn: Turn,
     moment: u64,
 )
-    ensures { DoesTurn S.sockets S.hears S.answers turn board.old board.new wire.old wire.new }
+    ensures { DoesTurn S.sockets S.receives S.hears S.answers turn board.old board.new wire.old wire.new }
 {
     match turn {
         Turn::Tick { moment: to } => {
@@ -514,7 +602,7 @@ fn turn<S: Surroundings + Drop>(
     schedule: &mut Schedule,
 ) -> Result<bool, Fault>
     ensures next { IfOk result (λ goes_on. AsksNext S.passes S.tells board.old wire.old schedule.old goes_on schedule.new) }
-    ensures does { IfOk result (λ goes_on. goes_on ≡ true → DoesNext S.sockets S.passes S.tells S.hears S.answers
+    ensures does { IfOk result (λ goes_on. goes_on ≡ true → DoesNext S.sockets S.passes S.tells S.receives S.hears S.answers
         board.old board.new wire.old wire.new schedule.old) }
     ensures ended { IfOk result (λ goes_on. goes_on ≡ false → (wire.new ≡ wire.old) × (board.new ≡ board.old)) }
     ensures failed { IfErr result (λ fault. S.passes wire.old.around (Err fault)) }

@@ -17,15 +17,14 @@ ghost use Rattle.live_agent.specs.Showing.{ShowsIn};
 ghost use Rattle.live_agent.specs.Steps.{exchange_if, cares_if, settled_in, Announces, AnnouncesTo, AtPlace, Begins, Forgets, HearsSome, Issues, IssuesAt, OfOffice, OthersStay, Ticks, ToldAt, Wakens};
 ghost use Rattle.live_agent.specs.Taking.{first_of, taken_place, TakesOf, TakesTold};
 ghost use Rattle.live_agent.specs.Tallying.{counted_if};
+ghost use Rattle.live_agent.specs.TypedCommands.{IssuesThere, IssuesTyped};
 ghost use Rattle.live_agent.specs.Waiting.{Settles};
 
 use crate::flight::Flight;
 use crate::gateway::{Gateway, Wake};
-use crate::naming::{
-    has_domain, is_meant, is_unknown, line_behind, line_meant, method_of, whole_name,
-};
+use crate::naming::{has_domain, is_meant, is_unknown, line_behind, line_meant, method_of};
 use crate::office::{Office, Order};
-use crate::orders::{answer_at, issue_by};
+use crate::orders::{answer_at, issue_by, issue_named};
 use crate::taking::take_from;
 use crate::typed::{TypedFault, typed_in};
 use crate::worklist::Worklist;
@@ -323,25 +322,32 @@ impl Switchboard {
     }
 
     /// Issues a command that was typed (`typed_text`): what is to be sent.
-    pub fn issue_typed(&mut self, text: &[u8]) -> Result<Issued, TypedFault> {
+    pub fn issue_typed(&mut self, text: &[u8]) -> Result<Issued, TypedFault>
+        ensures { IssuesTyped text.now result self.old self.new }
+    {
         let Some(typed) = typed_in(text) else {
             return Err(TypedFault::Unknown);
         };
-        let Some((place, local)) = self.meant(typed.name) else {
+        let Some(found) = self.meant(typed.name) else {
             return Err(TypedFault::NoSuchGateway);
         };
+        self.issue_there(found.0, typed.verb, found.1, typed.rest)
+    }
+
+    // Issues it by the gateway at this place, under a name without its domain.
+    fn issue_there(
+        &mut self,
+        place: usize,
+        verb: &[u8],
+        local: &[u8],
+        rest: &[u8],
+    ) -> Result<Issued, TypedFault>
+        ensures { IssuesThere place verb.now local.now rest.now (slice_get self.old.gateways.items place) result self.old self.new }
+    {
         let Some(gateway) = self.gateways.get_mut(place) else {
             return Err(TypedFault::NoSuchGateway);
         };
-        let Ok(name) = whole_name(self.alloc, local, gateway.domain.as_bytes()) else {
-            return Err(TypedFault::OutOfMemory);
-        };
-        match gateway.issue(self.alloc, typed.verb, name.as_slice(), typed.rest, None) {
-            Ok(issued) => Ok(issued),
-            Err(IssueFault::OutOfMemory) => Err(TypedFault::OutOfMemory),
-            Err(IssueFault::NoMoreIds) => Err(TypedFault::NoMoreIds),
-            Err(IssueFault::BadCommand) => Err(TypedFault::BadCommand),
-        }
+        issue_named(self.alloc, gateway, verb, local, rest)
     }
 
     // Issues a command of the exchange to a line.

@@ -1,8 +1,10 @@
 //! The wire: what datagrams and typed lines come over, and a bad network, where one lies between; and the journal of what goes over it.
 ghost use Rattle.std.specs.Prelude.{◌≡◌, ◌≤◌, ◌∷◌, ℕ, Bool, Option, Some, Result, [], true, false, not, length, is_some, IfOk, IfSome};
 ghost use Rattle.std.specs.declared.net.socket_addr.SocketAddrV4.{SocketAddrV4 as Peer};
+ghost use Rattle.bad_network.specs.declared.packet.Way.TheVariants.{In};
 ghost use Rattle.mg_bytes.specs.Lists.{is_empty};
 ghost use Rattle.live_agent.specs.Wiring.{due_of, with_read, read_at, heard_at, ready_by};
+ghost use Rattle.live_agent.specs.Sending.{SendsAll, SendsOver};
 ghost use Rattle.live_agent.specs.Tallying.{looked_counted, with_fate, CountsLeaving, CountsOffer, CountsSent};
 ghost use Rattle.surroundings.specs.Hearing.{Hears, AnswersTo};
 ghost use Rattle.surroundings.specs.Requests.{requests_from};
@@ -198,6 +200,7 @@ impl<S: Surroundings + Drop> Wire<S> {
         ensures looked { (outcome : Result (Option (Peer × ℕ)) Fault) × S.receives self.old.around outcome room.new self.new.around
             × (result ≡ heard_at outcome) × (self.new.read ≡ read_at outcome self.old.read)
             × (self.new.journal.value.tally ≡ looked_counted outcome self.old.journal.value.tally) }
+        ensures rest { self.new ≡ record self.old { around = self.new.around; read = self.new.read; journal = self.new.journal } }
     {
         match self.around.receive(room) {
             Ok(Some((source, len))) => {
@@ -249,6 +252,8 @@ impl<S: Surroundings + Drop> Wire<S> {
         ensures spoilt { result ≡ is_some self.old.network }
         ensures around { self.new.around ≡ self.old.around }
         ensures tally { CountsOffer self.old.network self.old.journal.value.tally self.new.journal.value.tally }
+        ensures none { result ≡ false → self.new ≡ self.old }
+        ensures rest { self.new ≡ record self.old { network = self.new.network; journal = self.new.journal } }
     {
         let stamp = Stamp {
             moment: self.now.time,
@@ -263,7 +268,9 @@ impl<S: Surroundings + Drop> Wire<S> {
     }
 
     // The next packet that the network hands out now, if there is one.
-    fn take_due(&mut self) -> Option<Packet> {
+    fn take_due(&mut self) -> Option<Packet>
+        ensures { self.new ≡ record self.old { network = self.new.network } }
+    {
         match &mut self.network {
             Some(network) => network.take_due(self.now.clock),
             None => None,
@@ -271,9 +278,14 @@ impl<S: Surroundings + Drop> Wire<S> {
     }
 
     /// The next packet that the network hands over now, if there is one. Those before it that go out are sent.
-    pub(crate) fn handed_over(&mut self) -> Option<Packet> {
+    pub(crate) fn handed_over(&mut self) -> Option<Packet>
+        ensures comes { IfSome result (λ packet. packet.way ≡ In) }
+        ensures over { SendsOver self.old self.new }
+    {
         for _ in 0..u16::MAX {
-            let packet = self.take_due()?;
+            let Some(packet) = self.take_due() else {
+                return None;
+            };
             if packet.way == Way::In {
                 return Some(packet);
             }
@@ -288,6 +300,7 @@ impl<S: Surroundings + Drop> Wire<S> {
             (S.traffic self.new.around).sent }
         ensures received { (S.traffic self.new.around).received ≡ (S.traffic self.old.around).received }
         ensures tally { CountsLeaving self.old.journal.value.tally self.new.journal.value.tally }
+        ensures rest { self.new ≡ record self.old { around = self.new.around; journal = self.new.journal } }
     {
         if self.around.send(to, bytes).is_ok() {
             return;
@@ -306,6 +319,7 @@ impl<S: Surroundings + Drop> Wire<S> {
             Grows (S.traffic self.old.around).sent (record { to = to; bytes = bytes.now } ∷ []) (S.traffic self.new.around).sent }
         ensures offered { is_some self.old.network ≡ true → self.new.around ≡ self.old.around }
         ensures tally { CountsSent is_repeat self.old.network self.old.journal.value.tally self.new.journal.value.tally }
+        ensures over { SendsOver self.old self.new }
     {
         self.journal.sent(self.now.time, to, bytes, is_repeat);
         count_sent(&mut self.load, self.now.time, to, bytes, is_repeat);
@@ -316,7 +330,9 @@ impl<S: Surroundings + Drop> Wire<S> {
     }
 
     /// Sends datagrams, for the first time or again.
-    pub(crate) fn send_all(&mut self, datagrams: &[OutDatagram], is_repeat: bool) {
+    pub(crate) fn send_all(&mut self, datagrams: &[OutDatagram], is_repeat: bool)
+        ensures { SendsAll is_repeat datagrams.now self.old self.new }
+    {
         for datagram in datagrams {
             self.send(datagram.to, datagram.bytes.as_bytes(), is_repeat);
         }

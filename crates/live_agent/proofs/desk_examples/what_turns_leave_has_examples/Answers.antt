@@ -13,7 +13,7 @@ pub returns-clause-notes : goal.returns-clause-notes
 returns-clause-notes c = λ pause board now was is does. (does.0, ap (λ (wire : Wire ℕ). wire.around) does.1)
 
 pub returns-clause-ticks : goal.returns-clause-ticks
-returns-clause-ticks c = λ board now was is does. ap (λ (one : Switchboard). one.notifying) does
+returns-clause-ticks c = λ board now was is does. ap (λ (one : Switchboard). one.notifying) does.0
 
 pub returns-clause-settles : goal.returns-clause-settles
 returns-clause-settles c = λ board now so.

@@ -24,4 +24,4 @@ returns-in-StopFromAfar g c =
     )
 
 pub returns-in-Command : goal.returns-in-Command
-returns-in-Command g c = rw (c.in-Command.is) tt
+returns-in-Command g c = rw (c.in-Command.is) c.answer_command.ensures

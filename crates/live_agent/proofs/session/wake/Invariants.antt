@@ -1,4 +1,4 @@
-use Rattle.live_agent.specs.Turning.{SettlesLines}
+use Rattle.live_agent.specs.Sending.{SettlesLines}
 use Rattle.live_agent.proofs.session.wake.Given as goal
 
 abbrev pub invariant-loop : goal.invariant-loop

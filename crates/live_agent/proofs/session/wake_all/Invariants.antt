@@ -1,4 +1,4 @@
-use Rattle.live_agent.specs.Turning.{SettlesLines}
+use Rattle.live_agent.specs.Sending.{SettlesLines}
 use Rattle.live_agent.proofs.session.wake_all.Given as goal
 
 abbrev pub invariant-loop-place : goal.invariant-loop-place

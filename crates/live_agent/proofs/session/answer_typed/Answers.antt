@@ -1,0 +1,40 @@
+use Rattle.std.proofs.Common.{Ok, inl, inr, refl, ◌∙◌}
+use Rattle.live_agent.proofs.session.answer_typed.Goals as goal
+
+pub returns-in-Ok-issued_text : goal.returns-in-Ok-issued_text
+returns-in-Ok-issued_text g c =
+    inr (
+      Ok c.in-Ok-issue_typed.issued,
+      c.in-Ok-issue_typed.ensures,
+      (
+        c.send_issued.new.wire,
+        c.as_slice.result.now,
+        c.send_issued.ensures.over,
+        c.send_issued.ensures.tally,
+        inl (c.as_slice.ensures.value ∙ c.in-Ok-issued_text.ensures),
+        record {
+          answered = c.answer_all-in-Ok-issued_text.ensures.answered;
+          left = c.answer_all-in-Ok-issued_text.ensures.left;
+          rest = c.answer_all-in-Ok-issued_text.ensures.rest;
+        },
+      ),
+    )
+
+pub returns : goal.returns
+returns g c =
+    inr (
+      Ok c.in-Ok-issue_typed.issued,
+      c.in-Ok-issue_typed.ensures,
+      (
+        c.send_issued.new.wire,
+        _,
+        c.send_issued.ensures.over,
+        c.send_issued.ensures.tally,
+        inr refl,
+        record {
+          answered = c.answer_all-in-Err-issued_text.ensures.answered;
+          left = c.answer_all-in-Err-issued_text.ensures.left;
+          rest = c.answer_all-in-Err-issued_text.ensures.rest;
+        },
+      ),
+    )

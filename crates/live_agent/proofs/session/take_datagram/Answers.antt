@@ -1,0 +1,45 @@
+use Rattle.std.proofs.Common.{◌≡◌, Some, None, take, refl, rules}
+use Rattle.live_agent.proofs.DatagramLemmas.{found_so, looked_so}
+use Rattle.live_agent.proofs.session.take_datagram.Goals as goal
+
+pub returns-in_default : goal.returns-in_default
+returns-in_default g c = record {
+  found = c.take_over.result;
+  between = c.take_over.new.board;
+  left = c.take_over.new.wire;
+  over = c.take_over.ensures;
+  looks = looked_so g.S.Surroundings.receives c.take_over.result c.take_over.new.board c.take_over.new.board c.take_over.new.wire c.receive.new.self
+      c.if-take_over.false (record {
+    outcome = c.in_default.ensures.looked.0;
+    room = c.receive.new.room;
+    looked = c.receive.new.self;
+    looks = c.in_default.ensures.looked.1;
+    counts = c.in_default.ensures.looked.4;
+    reads = c.in_default.ensures.looked.3;
+    leaves = c.in_default.ensures.rest;
+    takes = found_so None _ c.receive.new.room c.take_over.new.board c.take_over.new.board c.receive.new.self c.receive.new.self
+        c.in_default.ensures.looked.2 (refl, refl);
+  });
+}
+
+pub returns : goal.returns
+returns g c =
+    let bytes : c.unwrap_or-bytes.result.now ≡ take c.in-Some.found.1 c.receive.new.room = search rules in
+    record {
+      found = c.take_over.result;
+      between = c.take_over.new.board;
+      left = c.take_over.new.wire;
+      over = c.take_over.ensures;
+      looks = looked_so g.S.Surroundings.receives c.take_over.result c.take_over.new.board c.take_received.new.board c.take_over.new.wire
+          c.take_received.new.wire c.if-take_over.false (record {
+        outcome = c.in-Some.ensures.looked.0;
+        room = c.receive.new.room;
+        looked = c.receive.new.self;
+        looks = c.in-Some.ensures.looked.1;
+        counts = c.in-Some.ensures.looked.4;
+        reads = c.in-Some.ensures.looked.3;
+        leaves = c.in-Some.ensures.rest;
+        takes = found_so (Some c.in-Some.found) _ c.receive.new.room c.take_over.new.board c.take_received.new.board c.receive.new.self
+            c.take_received.new.wire c.in-Some.ensures.looked.2 (rw bytes at c.take_received.ensures);
+      });
+    }
