@@ -1,3 +1,4 @@
 pub mod Computing
 pub mod BucketLaws
 pub mod RankLaws
+pub mod DueLemmas

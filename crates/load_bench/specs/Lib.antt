@@ -15,3 +15,4 @@ pub mod Heard
 pub mod Watched
 pub mod Asked
 pub mod Success
+pub mod Due

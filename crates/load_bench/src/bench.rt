@@ -1,5 +1,6 @@
 //! A bench: its gateways and lines, from the first question to the end.
-ghost use Rattle.std.specs.Prelude.{◌≡◌, [], true, is_some};
+ghost use Rattle.std.specs.Prelude.{◌≡◌, [], true, is_some, Option, Some};
+ghost use Rattle.load_bench.specs.Due.{behind_start, bench_due, due_at_line, sooner};
 ghost use Rattle.load_bench.specs.Success.{is_success};
 
 use crate::boxing::boxed;
@@ -30,6 +31,36 @@ const LONGEST_END: u64 = 60_000;
 
 // So often at least it is looked what is to be done, in ms.
 const LONGEST_LOOK: u64 = 100;
+
+// No later than this moment, and than when something falls due, if it does.
+fn sooner(least: u64, due: Option<u64>) -> u64
+    ensures { result ≡ sooner least due }
+{
+    match due {
+        Some(due) => least.min(due),
+        None => least,
+    }
+}
+
+// The moment at which the next call is attempted, where calls began at this one, if one is.
+fn behind_start(started: u64, due: Option<u64>) -> Option<u64>
+    ensures { result ≡ behind_start started due }
+{
+    match due {
+        Some(moment) => Some(moment.saturating_add(started)),
+        None => None,
+    }
+}
+
+// The moment at which time makes something of the call that a line makes, if it does.
+fn due_at_line(line: &Option<Attempt>, hold: u64) -> Option<u64>
+    ensures { result ≡ due_at_line hold line.now }
+{
+    match line {
+        Some(attempt) => attempt.call.due(hold),
+        None => None,
+    }
+}
 
 /// A call to a line, by its place.
 #[derive(Clone, Copy)]
@@ -392,20 +423,17 @@ impl Bench {
     }
 
     /// The moment at which something is to be done, in ms, at the latest.
-    pub fn due(&self, now: u64) -> u64 {
+    pub fn due(&self, now: u64) -> u64
+        ensures { result ≡ bench_due now self.now }
+    {
         let longest = now.saturating_add(LONGEST_LOOK);
         let Some(started) = self.course.started else {
             return longest;
         };
-        let mut due = match self.course.plan.due() {
-            Some(moment) => moment.saturating_add(started).min(longest),
-            None => longest,
-        };
         let hold = self.course.settings.hold;
-        for slot in self.attempts.iter() {
-            if let Some(attempt) = slot {
-                due = due.min(attempt.call.due(hold).unwrap_or(longest));
-            }
+        let mut due = sooner(longest, behind_start(started, self.course.plan.due()));
+        for line in self.attempts.iter() {
+            due = sooner(due, due_at_line(line, hold));
         }
         due
     }

@@ -9,6 +9,9 @@ ghost use Rattle.load_bench.specs.Heard.{heard_of, signal_heard, goes_both_ways,
 ghost use Rattle.load_bench.specs.Watched.{missing_before, next_behind, better_of, here_at, place_of};
 ghost use Rattle.load_bench.specs.declared.said.Order.TheVariants as orders;
 ghost use Rattle.load_bench.specs.Asked.{is_due, is_to_be_asked, order_text};
+ghost use Rattle.load_bench.specs.declared.bench.Course.{Course};
+ghost use Rattle.load_bench.specs.declared.stage.Stage.TheVariants as stages;
+ghost use Rattle.load_bench.specs.Due.{behind_start, due_among, due_begun, sooner};
 ghost use Rattle.load_bench.specs.Success.{success_of, is_success};
 
 /// A signal is heard as what it is, a lamp isn't heard, and the first that is heard counts.
@@ -81,4 +84,16 @@ pub fn success_is_told()
     ensures enough { is_success 9900 99 100 ≡ true }
     ensures too_few { is_success 9901 99 100 ≡ false }
     ensures nothing { is_success 0 0 0 ≡ false }
+{}
+
+/// When something is to be done.
+pub fn what_is_due_has_examples()
+    // It is looked a tenth of a second later; sooner, where a call is attempted or where time makes something of one.
+    ensures looks { (course : Course) → due_begun None 700 course [] ≡ 800 }
+    ensures attempts { sooner 800 (behind_start 500 (Some 250)) ≡ 750 }
+    ensures later { sooner 800 (behind_start 500 (Some 350)) ≡ 800 }
+    ensures no_more { sooner 800 (behind_start 500 None) ≡ 800 }
+    ensures no_line { due_among 3000 [] 800 ≡ 800 }
+    ensures no_call { due_among 3000 (None ∷ []) 800 ≡ 800 }
+    ensures talks { due_among 90 (None ∷ Some (record { called = 1; call = record { stage = stages.Talking; since = 700; why = None } }) ∷ []) 800 ≡ 790 }
 {}
