@@ -1,7 +1,7 @@
 -- What a datagram does, text by text and line by line.
-use Rattle.std.proofs.Common.{◌≡◌, ℕ, ◌+◌, ◌<◌, ◌≤◌, zero, suc, Bool, true, false, List, [], ◌∷◌, length, get_or, drop, Option, Some, None, Result, refl, sym, ap, subst, ◌∙◌}
+use Rattle.std.proofs.Common.{◌≡◌, ℕ, ◌+◌, ◌<◌, ◌≤◌, suc, Bool, true, false, List, [], ◌∷◌, length, get_or, drop, Option, Some, None, Result, refl, sym, subst, arith}
 use Rattle.std.proofs.lemmas.List.{drop_more, at_drop_all}
-use Rattle.std.specs.Prelude.{is_some, take}
+use Rattle.std.specs.Prelude.{is_some}
 use Rattle.std.specs.declared.net.socket_addr.SocketAddrV4.{SocketAddrV4}
 use Rattle.transmission.specs.declared.output.OutDatagram.{OutDatagram}
 use Rattle.transmission.specs.Texts.{texts_of}
@@ -9,7 +9,7 @@ use Rattle.live_agent.specs.declared.switchboard.Switchboard.{Switchboard}
 use Rattle.live_agent.specs.declared.wire.Wire.{Wire}
 use Rattle.bad_network.specs.declared.network.BadNetwork.{BadNetwork}
 use Rattle.surroundings.specs.declared.surroundings.Fault.{Fault}
-use Rattle.live_agent.specs.Datagrams.{DealsIf, HearsBy, HearsOne, HearsTexts, SettlesIf, TakesAll, TakesElse, TakesFound, TakesLooked, TakesOver, TakesReceived}
+use Rattle.live_agent.specs.Datagrams.{DealsIf, HearsBy, HearsOne, HearsTexts, SettlesIf, TakesAll, TakesEach, TakesElse, TakesFound, TakesLooked, TakesNext, TakesOver, TakesReceived}
 use Rattle.live_agent.specs.Sending.{SendsAll, SendsOne, SendsOver, SettlesLines}
 use Rattle.live_agent.specs.Tallying.{CountsOffer}
 
@@ -51,8 +51,9 @@ module _ {S : Type 0} where
 
   -- one more datagram of these is sent
   pub sends_next : (is_repeat : Bool) (datagrams : List OutDatagram) (place : ℕ) (datagram : OutDatagram) (was sent is : Wire S) → place < length datagrams
-      → SendsOne is_repeat was sent → SendsAll is_repeat (drop (place + 1) datagrams) sent is → SendsAll is_repeat (drop place datagrams) was is
-  sends_next is_repeat datagrams place datagram was sent is within first rest =
+      → datagram ≡ get_or datagrams place datagram → SendsOne is_repeat was sent
+      → SendsAll is_repeat (drop (place + 1) datagrams) sent is → SendsAll is_repeat (drop place datagrams) was is
+  sends_next is_repeat datagrams place datagram was sent is within item first rest =
       subst (λ (left : List OutDatagram). SendsAll is_repeat left was is) (sym (drop_more datagrams place datagram within)) (sent, first, rest)
 
   pub sends_none : (is_repeat : Bool) (datagrams : List OutDatagram) (place : ℕ) (was : Wire S) → length datagrams ≤ place
@@ -60,6 +61,17 @@ module _ {S : Type 0} where
   sends_none is_repeat datagrams place was past =
       subst (λ (left : List OutDatagram). SendsAll is_repeat left was was)
       (sym (at_drop_all (λ (left : List OutDatagram). left) datagrams place past)) refl
+
+  -- what one line more told is taken
+  takes_by : (place index next : ℕ) (board taken now : Switchboard) (was sent is : Wire S) → next ≡ suc index
+      → TakesEach place index board was taken sent → TakesNext place index taken sent now is → TakesEach place next board was now is
+  takes_by place index next board taken now was sent is one_more before line =
+      subst (λ (count : ℕ). TakesEach place count board was now is) (sym one_more) (taken, sent, before, line)
+
+  pub takes_more : (place index : ℕ) (board taken now : Switchboard) (was sent is : Wire S)
+      → TakesEach place index board was taken sent → TakesNext place index taken sent now is → TakesEach place (index + 1) board was now is
+  takes_more place index board taken now was sent is before line =
+      takes_by place index (index + 1) board taken now was sent is (omega arith) before line
 
   -- the network that spoils it is offered it
   pub offered_to : (network : Option BadNetwork) (found : Bool) (source : SocketAddrV4) (bytes : List ℕ) (board now : Switchboard) (was offered is : Wire S)

@@ -8,7 +8,7 @@ pub loop-datagram-preserved : goal.loop-datagram-preserved
 loop-datagram-preserved g c = λ is sends.
     c.loop-datagram.invariant is
     (sends_next c.args.is_repeat c.args.datagrams.now c.loop-datagram.datagram-index _ c.loop-datagram.self c.send.new.self is
-    c.loop-datagram-test.true (record { over = c.send.ensures.over; counts = c.send.ensures.tally; }) sends)
+    c.loop-datagram-test.true c.datagram-item.is (record { over = c.send.ensures.over; counts = c.send.ensures.tally; }) sends)
 
 pub returns : goal.returns
 returns g c =
