@@ -30,6 +30,10 @@ use Rattle.told_laws.proofs.PassedLemmas.{AllSettled, IsLately, Settled, world_p
 abbrev pub return_time : ℕ
 return_time = 71000
 
+-- so many commands of one line are more than the agent takes in that time
+abbrev crowd : ℕ
+crowd = 30000
+
 abbrev pub ReturnLate : List Begun → Type 0
 ReturnLate [] = Unit {0}
 ReturnLate (b ∷ begun) = Each (λ (c : Begun). b.id ≡ c.id → b.moment + return_time ≤ c.moment) begun × ReturnLate begun
@@ -313,7 +317,7 @@ module _ (arrived : List Reached) (now : ℕ) where
   taken = fold executed_with [] arrived
 
   -- a list with so many between two would be too long
-  module _ (number free : ℕ) (b : Begun) (front back more tail : List Begun) (y : Begun) (after : List Begun) (rest : more ++ tail ≡ y ∷ after) (many : length front ≡ 30000)
+  module _ (number free : ℕ) (b : Begun) (front back more tail : List Begun) (y : Begun) (after : List Begun) (rest : more ++ tail ≡ y ∷ after) (many : length front ≡ crowd)
       (all : AllSettled taken now (b ∷ front ++ (back ++ more)) tail) (numbered : Numbered number (b ∷ front ++ (back ++ (more ++ tail))) free) where
     one : Settled taken now b ((front ++ (back ++ more)) ++ tail)
     one = all.0
@@ -375,7 +379,7 @@ module _ (arrived : List Reached) (now : ℕ) where
         let n = numbered_to number b between y after (done ++ tail) free numbered is in
         let many : numbers - 2 ≤ length between = far_apart number b between y n.0 n.1 same in
         let p = prefix done tail between y after one is in
-        let c = cut_at 30000 between (omega (arith, many)) in
+        let c = cut_at crowd between (omega (arith, many)) in
         let whole : done ≡ c.front ++ (c.back ++ p.more) = p.is ∙ ap (λ (z : List Begun). z ++ p.more) c.is ∙ append_assoc c.front c.back p.more in
         too_many number free b c.front c.back p.more tail y after p.rest c.many (subst (λ (z : List Begun). AllSettled taken now (b ∷ z) tail) whole all)
         (subst (λ (z : List Begun). Numbered number (b ∷ z) free)
