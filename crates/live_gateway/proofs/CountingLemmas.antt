@@ -1,5 +1,5 @@
 -- What is counted of looks for datagrams.
-use Rattle.std.proofs.Common.{inl, inr, ◌≡◌, ℕ, Bool, true, false, cond, List, Option, None, Some, ◌∙◌, sym, ap, subst}
+use Rattle.std.proofs.Common.{inr, ◌≡◌, ℕ, Bool, true, false, cond, List, Option, None, Some, ◌∙◌, sym, ap, subst}
 use Rattle.std.specs.Prelude.{Result, is_some}
 use Rattle.std.specs.declared.net.socket_addr.SocketAddrV4.{SocketAddrV4}
 use Rattle.surroundings.specs.declared.surroundings.Fault.{Fault}
@@ -35,14 +35,3 @@ heard_given admission found may = sym (ap (λ (b : Bool). cond b (Some found) No
 
 pub strange_kept : (admission : Admission) (found : SocketAddrV4 × ℕ) → is_heard admission found.0 ≡ false → None ≡ heard_in admission (Some found)
 strange_kept admission found other = sym (ap (λ (b : Bool). cond b (Some found) None) other)
-
-not_both : (b : Bool) → b ≡ true → b ≡ false → ⊥
-not_both true some none = cc
-not_both false some none = cc
-
--- nothing is found of a socket that isn't looked at
-pub nobody_looked : {S : Type 0} (admission : Admission) (was is : Exchange S) (given : Option (SocketAddrV4 × ℕ)) (room : List ℕ)
-    → is_some was.network ≡ false → CountsReceived
-    (λ (before : S) (outcome : Result (Option (SocketAddrV4 × ℕ)) Fault) (room : List ℕ) (after : S). ⊥) admission was given room is → ⊥
-nobody_looked admission was is given room none (inl here) = here.1.1.looked
-nobody_looked admission was is given room none (inr over) = not_both (is_some was.network) over.0 none

@@ -1,5 +1,5 @@
 -- When a desk comes to its end.
-use Rattle.std.proofs.Common.{◌≡◌, ◌⊎◌, inl, inr, ℕ, suc, ◌+◌, Bool, true, false, List, Option, refl, sym, ◌∙◌, ap, subst, arith}
+use Rattle.std.proofs.Common.{◌≡◌, inl, inr, ℕ, suc, ◌+◌, Bool, true, false, List, Option, refl, sym, ◌∙◌, ap, subst, arith}
 use Rattle.std.specs.Prelude.{not, Result, Ok, Err, IfOk, OnErr}
 use Rattle.plain_machine.specs.Event.{GatewayEvent}
 use Rattle.plain_machine.specs.Lists.{plain}
@@ -21,7 +21,7 @@ use Rattle.live_journal.specs.declared.trace.Trace.{Trace}
 use Rattle.live_telephones.specs.Losses.{counts_text}
 use Rattle.live_gateway.specs.declared.desk.Desk.{Desk}
 use Rattle.live_gateway.specs.declared.exchange.Exchange.{Exchange}
-use Rattle.live_gateway.specs.Ending.{EndsAt, WroteTimes, AsksForEnd, is_record_refused, IsCounted, EndsWith, OnlyEnds}
+use Rattle.live_gateway.specs.Ending.{EndsAt, WroteTimes, AsksForEnd, is_record_refused, EndsWith, OnlyEnds}
 use Rattle.live_gateway.specs.Exchanging.{OnlyWrites}
 use Rattle.surroundings.specs.Hearing.{AnswersTo}
 use Rattle.surroundings.specs.declared.lines.Lines.{Lines}
@@ -69,19 +69,6 @@ ended_by {S} items ends desk after (Ok v) is_refused was is ending says refused 
     (subst (λ (e : Exchange S). EndsWith ends (let d : Desk S Trace = record desk { exchange = e; lines = after.lines } in d) was is ending) (sym kept)
     (inr (items v, counted.0, says, counted.1, subst (λ (b : Bool). ending ≡ served_ending b (faults_in counted.0)) refused counted.2)))
 ended_by items ends desk after (Err why) is_refused was is ending says refused counted lacks kept rest = inl lacks
-
--- memory was refused for a record: so it ends
-pub refused_ends : {S W : Type 0} (ends : List ℕ → W → Written → W → Type 0) (desk : Desk S Trace) (was is : W) (ending : CommonEnding)
-    → is_record_refused desk.play.teller desk.exchange.journal ≡ true → EndsWith ends desk was is ending → ending ≡ OutOfMemory
-refused_ends ends desk was is ending refused (inl none) = none.1
-refused_ends ends desk was is ending refused (inr told) = told.4 ∙ ap (λ (b : Bool). served_ending b (faults_in told.1)) refused
-
--- what was counted is said last, or memory was refused for it
-pub counts_end : {S W : Type 0} (last : List ℕ) (desk : Desk S Trace) (was is : W) (ending : CommonEnding)
-    → EndsWith (λ (words : List ℕ) (before : W) (written : Written) (after : W). words ≡ last) desk was is ending
-    → (ending ≡ OutOfMemory) ⊎ IsCounted desk last
-counts_end last desk was is ending (inl none) = inl none.1
-counts_end last desk was is ending (inr told) = inr (subst (λ (words : List ℕ). IsCounted desk words) told.3 told.2)
 
 -- ---- what stays
 

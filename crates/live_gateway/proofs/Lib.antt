@@ -10,5 +10,4 @@ pub mod TurningLemmas
 pub mod LineLemmas
 mod ArrivingLemmas
 pub mod ArrivalLemmas
-pub mod VisitingLemmas
 pub mod OverLemmas

@@ -1,5 +1,5 @@
 -- What becomes of datagrams that go over a network, or aren't to, from what its calls say.
-use Rattle.std.proofs.Common.{◌≡◌, ℕ, Bool, true, false, List, Option, None, Some, refl, sym, subst}
+use Rattle.std.proofs.Common.{◌≡◌, ℕ, Bool, false, List, Option, None, Some, refl, sym, subst}
 use Rattle.std.specs.Prelude.{⊤, Result, Ok, Err}
 use Rattle.std.specs.Global.{Box}
 use Rattle.std.specs.declared.net.socket_addr.SocketAddrV4.{SocketAddrV4}
@@ -47,20 +47,6 @@ sent_directly sends was is to bytes became sent none still sends' so =
 pub late_so : {S : Type 0} (sends : S → SocketAddrV4 → List ℕ → Result ⊤ Fault → S → Type 0) (before mid after : S) (to : SocketAddrV4) (bytes : List ℕ)
     (sent : Result ⊤ Fault) → after ≡ mid → sends before to bytes sent mid → sends before to bytes sent after
 late_so {S} sends before mid after to bytes sent same went = subst (λ (s : S). sends before to bytes sent s) (sym same) went
-
--- nothing becomes of what isn't handed to a socket
-
-nobody_over : {S : Type 0} (to : SocketAddrV4) (bytes : List ℕ) (now : ℕ) (became : Result Fate Fault) (next : Option (Box SpoiltWay)) (before after : S)
-    → SendsOver (λ (before : S) (to : SocketAddrV4) (bytes : List ℕ) (sent : Result ⊤ Fault) (after : S). ⊥) to bytes now became None before next after → ⊥
-nobody_over to bytes now became None before after so = so.1
-nobody_over to bytes now became (Some way) before after so = so
-
-pub nobody_sends : {S : Type 0} (was is : Exchange S) (to : SocketAddrV4) (bytes : List ℕ) (became : Result Fate Fault) → was.network ≡ None
-    → Becomes (λ (before : S) (to : SocketAddrV4) (bytes : List ℕ) (sent : Result ⊤ Fault) (after : S). ⊥) was to bytes became is → ⊥
-nobody_sends {S} was is to bytes became none sends =
-    nobody_over to bytes was.now.clock became is.network was.around is.around
-    (subst (λ (o : Option (Box SpoiltWay)). SendsOver (λ (before : S) (to : SocketAddrV4) (bytes : List ℕ) (sent : Result ⊤ Fault) (after : S). ⊥) to bytes
-    was.now.clock became o was.around is.network is.around) none sends)
 
 -- ---- what comes
 

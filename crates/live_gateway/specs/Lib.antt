@@ -1,4 +1,3 @@
-pub mod Example
 pub mod Offering
 pub mod Exchanging
 pub mod Noting

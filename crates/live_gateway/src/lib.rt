@@ -14,7 +14,6 @@ mod naming;
 mod opening;
 mod spoilt_way;
 mod turn_parts;
-pub mod turning_examples;
 mod visitors;
 
 pub use crate::admission::{Admission, speakers_of};

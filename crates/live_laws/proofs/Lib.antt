@@ -5,3 +5,4 @@ pub mod ReplayLaws
 pub mod HearingLaws
 pub mod LiveLaws
 pub mod Computing
+pub mod TurnExampleLemmas

@@ -1,2 +1,3 @@
 pub mod Replay
 pub mod Example
+pub mod TurnExample

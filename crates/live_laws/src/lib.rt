@@ -5,3 +5,4 @@
 pub mod examples;
 pub mod laws;
 pub mod play_laws;
+pub mod turning_examples;

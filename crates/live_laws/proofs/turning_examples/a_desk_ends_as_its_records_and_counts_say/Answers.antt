@@ -1,7 +1,7 @@
 use Rattle.std.proofs.Common.{◌≡◌, ℕ, List, []}
 use Rattle.live_ends.specs.declared.written.Written.{Written}
-use Rattle.live_gateway.proofs.EndingLemmas.{refused_ends, counts_end}
-use Rattle.live_gateway.proofs.turning_examples.a_desk_ends_as_its_records_and_counts_say.Goals as goal
+use Rattle.live_laws.proofs.TurnExampleLemmas.{refused_ends, counts_end}
+use Rattle.live_laws.proofs.turning_examples.a_desk_ends_as_its_records_and_counts_say.Goals as goal
 
 pub returns-clause-refused : goal.returns-clause-refused
 returns-clause-refused c = λ desk ending refused ends.

@@ -13,7 +13,7 @@ ghost use Rattle.live_gateway.specs.declared.exchange.Exchange.{Exchange};
 ghost use Rattle.live_gateway.specs.Admitting.{is_heard};
 ghost use Rattle.live_gateway.specs.Answering.{IsActAnswer};
 ghost use Rattle.live_gateway.specs.Ending.{is_record_refused, IsCounted};
-ghost use Rattle.live_gateway.specs.Example.{one, lost_one, once, failed, LooksNowhere, FindsNothing, SendsNowhere, HandsAnywhere, EndsSaying, CountsStranger};
+ghost use Rattle.live_laws.specs.TurnExample.{one, lost_one, once, failed, LooksNowhere, FindsNothing, SendsNowhere, HandsAnywhere, EndsSaying, CountsStranger};
 ghost use Rattle.live_gateway.specs.Exchanging.{heard_in, mark_of, is_lost, faults_by, faultless, with_unreceived, IsTold, OnlySends, LosesOver};
 ghost use Rattle.traces.specs.declared.telling.Mark.TheVariants.{Unsent, Lost};
 ghost use Rattle.live_gateway.specs.Leaving.{OnlyShows, OnlyPlays, OnlyTicks, OnlyLogs, OnlyHears, OnlyReplies, OnlyWaits, MayTake, DoesVisit};

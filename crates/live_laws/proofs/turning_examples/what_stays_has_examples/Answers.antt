@@ -1,7 +1,7 @@
 use Rattle.std.proofs.Common.{inl, ℕ, refl, ◌∙◌, ap}
 use Rattle.live_gateway.specs.declared.desk.Desk.{Desk}
 use Rattle.live_gateway.specs.declared.exchange.Exchange.{Exchange}
-use Rattle.live_gateway.proofs.turning_examples.what_stays_has_examples.Goals as goal
+use Rattle.live_laws.proofs.turning_examples.what_stays_has_examples.Goals as goal
 
 pub returns-clause-shown : goal.returns-clause-shown
 returns-clause-shown c =

@@ -1,10 +1,10 @@
 use Rattle.std.proofs.Common.{ℕ, Bool, cond, [], refl, sym, ap}
 use Rattle.message_counts.specs.Tallying.{with_received, with_stranger}
 use Rattle.live_gateway.specs.declared.desk.Desk.{Desk}
-use Rattle.live_gateway.specs.Example.{one}
-use Rattle.live_gateway.proofs.CountingLemmas.{nobody_looked, heard_given, strange_kept}
-use Rattle.live_gateway.proofs.SendingLemmas.{nobody_sends}
-use Rattle.live_gateway.proofs.turning_examples.what_an_exchange_gives_has_examples.Goals as goal
+use Rattle.live_laws.specs.TurnExample.{one}
+use Rattle.live_gateway.proofs.CountingLemmas.{heard_given, strange_kept}
+use Rattle.live_laws.proofs.TurnExampleLemmas.{nobody_looked, nobody_sends}
+use Rattle.live_laws.proofs.turning_examples.what_an_exchange_gives_has_examples.Goals as goal
 
 pub returns-clause-unlooked : goal.returns-clause-unlooked
 returns-clause-unlooked c = λ was is none l. nobody_looked was.admission was.exchange l.looked l.found l.room none l.counts

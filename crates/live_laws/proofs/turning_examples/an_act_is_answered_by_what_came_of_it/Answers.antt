@@ -1,5 +1,5 @@
 use Rattle.std.proofs.Common.{refl}
-use Rattle.live_gateway.proofs.turning_examples.an_act_is_answered_by_what_came_of_it.Goals as goal
+use Rattle.live_laws.proofs.turning_examples.an_act_is_answered_by_what_came_of_it.Goals as goal
 
 pub returns-clause-done : goal.returns-clause-done
 returns-clause-done c = λ printed answer is. is.done_so

@@ -1,6 +1,6 @@
 use Rattle.std.proofs.Common.{ℕ, ap}
 use Rattle.live_gateway.specs.declared.exchange.Exchange.{Exchange}
-use Rattle.live_gateway.proofs.turning_examples.what_goes_over_an_exchange_has_examples.Goals as goal
+use Rattle.live_laws.proofs.turning_examples.what_goes_over_an_exchange_has_examples.Goals as goal
 
 pub returns-clause-sent : goal.returns-clause-sent
 returns-clause-sent c = λ was is only. (only.read, only.receive)

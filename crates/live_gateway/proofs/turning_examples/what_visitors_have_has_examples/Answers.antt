@@ -1,5 +1,0 @@
-use Rattle.live_gateway.proofs.VisitingLemmas.{nobody_served}
-use Rattle.live_gateway.proofs.turning_examples.what_visitors_have_has_examples.Goals as goal
-
-pub returns-clause-unserved : goal.returns-clause-unserved
-returns-clause-unserved c = nobody_served

@@ -1,0 +1,70 @@
+-- What the worked examples of turns, of visitors and of datagrams want shown.
+use Rattle.std.proofs.Common.{◌≡◌, ◌⊎◌, inl, inr, ℕ, Bool, true, false, List, Option, None, Some, ◌∙◌, ap, subst}
+use Rattle.std.specs.Prelude.{⊤, Result, is_some}
+use Rattle.std.specs.Global.{Box}
+use Rattle.std.specs.declared.net.socket_addr.SocketAddrV4.{SocketAddrV4}
+use Rattle.bad_network.specs.declared.fate.Fate.{Fate}
+use Rattle.page_answers.specs.Showing.{BoardState}
+use Rattle.surroundings.specs.declared.surroundings.Fault.{Fault}
+use Rattle.live_ends.specs.declared.ending.CommonEnding.{CommonEnding}
+use Rattle.live_ends.specs.declared.ending.CommonEnding.TheVariants.{OutOfMemory}
+use Rattle.live_ends.specs.declared.written.Written.{Written}
+use Rattle.live_ends.specs.Ending.{served_ending}
+use Rattle.live_ends.specs.Written.{faults_in}
+use Rattle.live_journal.specs.declared.trace.Trace.{Trace}
+use Rattle.live_gateway.specs.declared.admission.Admission.{Admission}
+use Rattle.live_gateway.specs.declared.desk.Desk.{Desk}
+use Rattle.live_gateway.specs.declared.exchange.Exchange.{Exchange}
+use Rattle.live_gateway.specs.declared.spoilt_way.SpoiltWay.{SpoiltWay}
+use Rattle.live_gateway.specs.Ending.{is_record_refused, IsCounted, EndsWith}
+use Rattle.live_gateway.specs.Exchanging.{SendsOver, Becomes, CountsReceived}
+use Rattle.live_gateway.specs.Visiting.{ServesOnce}
+
+-- ---- the end
+
+-- memory was refused for a record: so it ends
+pub refused_ends : {S W : Type 0} (ends : List ℕ → W → Written → W → Type 0) (desk : Desk S Trace) (was is : W) (ending : CommonEnding)
+    → is_record_refused desk.play.teller desk.exchange.journal ≡ true → EndsWith ends desk was is ending → ending ≡ OutOfMemory
+refused_ends ends desk was is ending refused (inl none) = none.1
+refused_ends ends desk was is ending refused (inr told) = told.4 ∙ ap (λ (b : Bool). served_ending b (faults_in told.1)) refused
+
+-- what was counted is said last, or memory was refused for it
+pub counts_end : {S W : Type 0} (last : List ℕ) (desk : Desk S Trace) (was is : W) (ending : CommonEnding)
+    → EndsWith (λ (words : List ℕ) (before : W) (written : Written) (after : W). words ≡ last) desk was is ending
+    → (ending ≡ OutOfMemory) ⊎ IsCounted desk last
+counts_end last desk was is ending (inl none) = inl none.1
+counts_end last desk was is ending (inr told) = inr (subst (λ (words : List ℕ). IsCounted desk words) told.3 told.2)
+
+-- ---- visitors
+
+pub nobody_served : (one : Box ℕ) (board : Box BoardState) (left : Option (Box ℕ)) (shown : Option (Box BoardState))
+    → ServesOnce {V = ℕ} {S = ℕ} (λ v s b at w t c. ⊥) 5 (Some one) 0 (Some board) left 0 shown → ⊥
+nobody_served one board None shown served = served
+nobody_served one board (Some left) None served = served
+nobody_served one board (Some left) (Some shown) served = served
+
+-- ---- datagrams
+
+not_both : (b : Bool) → b ≡ true → b ≡ false → ⊥
+not_both true some none = cc
+not_both false some none = cc
+
+-- nothing is found of a socket that isn't looked at
+pub nobody_looked : {S : Type 0} (admission : Admission) (was is : Exchange S) (given : Option (SocketAddrV4 × ℕ)) (room : List ℕ)
+    → is_some was.network ≡ false → CountsReceived
+    (λ (before : S) (outcome : Result (Option (SocketAddrV4 × ℕ)) Fault) (room : List ℕ) (after : S). ⊥) admission was given room is → ⊥
+nobody_looked admission was is given room none (inl here) = here.1.1.looked
+nobody_looked admission was is given room none (inr over) = not_both (is_some was.network) over.0 none
+
+nobody_over : {S : Type 0} (to : SocketAddrV4) (bytes : List ℕ) (now : ℕ) (became : Result Fate Fault) (next : Option (Box SpoiltWay)) (before after : S)
+    → SendsOver (λ (before : S) (to : SocketAddrV4) (bytes : List ℕ) (sent : Result ⊤ Fault) (after : S). ⊥) to bytes now became None before next after → ⊥
+nobody_over to bytes now became None before after so = so.1
+nobody_over to bytes now became (Some way) before after so = so
+
+-- nothing becomes of what isn't handed to a socket
+pub nobody_sends : {S : Type 0} (was is : Exchange S) (to : SocketAddrV4) (bytes : List ℕ) (became : Result Fate Fault) → was.network ≡ None
+    → Becomes (λ (before : S) (to : SocketAddrV4) (bytes : List ℕ) (sent : Result ⊤ Fault) (after : S). ⊥) was to bytes became is → ⊥
+nobody_sends {S} was is to bytes became none sends =
+    nobody_over to bytes was.now.clock became is.network was.around is.around
+    (subst (λ (o : Option (Box SpoiltWay)). SendsOver (λ (before : S) (to : SocketAddrV4) (bytes : List ℕ) (sent : Result ⊤ Fault) (after : S). ⊥) to bytes
+    was.now.clock became o was.around is.network is.around) none sends)
