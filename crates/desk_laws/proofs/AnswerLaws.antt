@@ -2,12 +2,12 @@
 use Rattle.std.proofs.Common.{◌≡◌, ℕ, List, Option, Some, None, refl, sym, ap, ◌∙◌}
 use Rattle.std.specs.Prelude.{slice_get}
 use Rattle.std.proofs.lemmas.Option.{none-some}
-use Rattle.live_agent.specs.declared.care.Duty.{Duty}
-use Rattle.live_agent.specs.declared.care.Care.{Care}
-use Rattle.live_agent.specs.declared.gateway.Gateway.{Gateway}
-use Rattle.live_agent.specs.declared.office.Office.{Office}
-use Rattle.live_agent.specs.Boards.{Answers}
-use Rattle.live_agent.specs.Orders.{is_outlived}
+use Rattle.call_office.specs.declared.care.Duty.{Duty}
+use Rattle.call_office.specs.declared.care.Care.{Care}
+use Rattle.switchboard.specs.declared.gateway.Gateway.{Gateway}
+use Rattle.call_office.specs.declared.office.Office.{Office}
+use Rattle.switchboard.specs.Boards.{Answers}
+use Rattle.call_office.specs.Orders.{is_outlived}
 use Rattle.desk_laws.specs.Desk.{Desk, DeskTurn, after_turns, desk_of, opening_desk}
 use Rattle.desk_laws.proofs.AnswerLemmas.{an_answer}
 use Rattle.desk_laws.proofs.DeskLaws.{is_alone}

@@ -5,15 +5,15 @@ use Rattle.call_routing.specs.declared.command.Outcome.TheVariants.{GivenUp}
 use Rattle.call_routing.specs.declared.fate.PutOff.{PutOff}
 use Rattle.call_routing.specs.declared.told.Told.TheVariants.{Flash}
 use Rattle.call_routing.specs.Exchange.{ExchangeState, put_off_at}
-use Rattle.live_agent.specs.declared.care.Duty.{Duty}
-use Rattle.live_agent.specs.declared.care.Duty.TheVariants.{Clear, Audit, Route}
-use Rattle.live_agent.specs.declared.care.Care.{Care}
-use Rattle.live_agent.specs.declared.gateway.Wake.{Wake}
-use Rattle.live_agent.specs.Boards.{Holds}
-use Rattle.live_agent.specs.Duties.{duty_answered, found, held_from, is_put_off, landed, lost, owed, woken}
-use Rattle.live_agent.specs.Hooks.{is_off_hook}
-use Rattle.live_agent.specs.Orders.{again_of, cared, flight_of, has_told, is_put_off_in}
-use Rattle.live_agent.specs.Turns.{AnswersAudit, Routes, TakesAnswer, TakesAudit, TakesResponse, outcome_with, told_by_audit}
+use Rattle.call_office.specs.declared.care.Duty.{Duty}
+use Rattle.call_office.specs.declared.care.Duty.TheVariants.{Clear, Audit, Route}
+use Rattle.call_office.specs.declared.care.Care.{Care}
+use Rattle.switchboard.specs.declared.gateway.Wake.{Wake}
+use Rattle.switchboard.specs.Boards.{Holds}
+use Rattle.call_office.specs.Duties.{duty_answered, found, held_from, is_put_off, landed, lost, owed, woken}
+use Rattle.call_office.specs.Hooks.{is_off_hook}
+use Rattle.call_office.specs.Orders.{again_of, cared, flight_of, has_told, is_put_off_in}
+use Rattle.call_office.specs.Turns.{AnswersAudit, Routes, TakesAnswer, TakesAudit, TakesResponse, outcome_with, told_by_audit}
 use Rattle.desk_laws.specs.Desk.{Desk, DeskTurn, Happening, after_turn, after_turns, answered_for, answers, behind, finds, happens, held_by, loses, taken_at}
 use Rattle.desk_laws.proofs.CareLemmas.{here_after, keeps_again, same_some}
 

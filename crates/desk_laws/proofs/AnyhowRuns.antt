@@ -14,17 +14,17 @@ use Rattle.call_routing.specs.Exchange.{ExchangeState, line_of, opening, phase_o
 use Rattle.call_laws.specs.Turns as calls
 use Rattle.call_laws.specs.Turns.{Turn, after_one, is_in_flight}
 use Rattle.call_laws.proofs.FlightLaws.{clear_by, new_free, tell_by}
-use Rattle.live_agent.specs.declared.care.Duty.{Duty}
-use Rattle.live_agent.specs.declared.care.Duty.TheVariants.{Clear, Audit, Route}
-use Rattle.live_agent.specs.declared.care.Care.{Care}
-use Rattle.live_agent.specs.declared.gateway.Gateway.{Gateway}
-use Rattle.live_agent.specs.declared.gateway.Wake.{Wake}
-use Rattle.live_agent.specs.declared.office.Office.{Office}
-use Rattle.live_agent.specs.Boards.{Answers, Holds}
-use Rattle.live_agent.specs.Duties.{again_at, duty_answered, found, is_due_at, landed, lost, new_care, owed_again, routed_by, woken}
-use Rattle.live_agent.specs.Hooks.{is_off_hook}
-use Rattle.live_agent.specs.Orders.{again_of, cared, cared_to, flight_of, has_told, is_outlived, is_put_off_in}
-use Rattle.live_agent.specs.Turns.{AnswersAudit, Routes, TakesAnswer, TakesAudit, TakesResponse, TellsAudit, cleared_by, forsaken, kept_behind, outcome_with, told_by_audit}
+use Rattle.call_office.specs.declared.care.Duty.{Duty}
+use Rattle.call_office.specs.declared.care.Duty.TheVariants.{Clear, Audit, Route}
+use Rattle.call_office.specs.declared.care.Care.{Care}
+use Rattle.switchboard.specs.declared.gateway.Gateway.{Gateway}
+use Rattle.switchboard.specs.declared.gateway.Wake.{Wake}
+use Rattle.call_office.specs.declared.office.Office.{Office}
+use Rattle.switchboard.specs.Boards.{Answers, Holds}
+use Rattle.call_office.specs.Duties.{again_at, duty_answered, found, is_due_at, landed, lost, new_care, owed_again, routed_by, woken}
+use Rattle.call_office.specs.Hooks.{is_off_hook}
+use Rattle.call_office.specs.Orders.{again_of, cared, cared_to, flight_of, has_told, is_outlived, is_put_off_in}
+use Rattle.call_office.specs.Turns.{AnswersAudit, Routes, TakesAnswer, TakesAudit, TakesResponse, TellsAudit, cleared_by, forsaken, kept_behind, outcome_with, told_by_audit}
 use Rattle.desk_laws.specs.Attended.{Attended, attended_of, line_in}
 use Rattle.desk_laws.specs.Desk.{GoesOn, StandsAmong, desk_of}
 use Rattle.desk_laws.specs.Steps as steps

@@ -1,4 +1,4 @@
--- Each turn of an exchange and its desk is what a call of `live_agent` leaves.
+-- Each turn of an exchange and its desk is what a call of `switchboard` leaves.
 use Rattle.std.proofs.Common.{◌≡◌, ℕ, Bool, true, false, ◌||◌, if◌then◌else◌, List, [], ◌∷◌, Option, Some, None, inl, inr, refl, sym, ap, subst, ◌∙◌}
 use Rattle.std.specs.Prelude.{◌+◌, option_map, slice_get}
 use Rattle.call_routing.specs.declared.command.Command.{Command}
@@ -9,19 +9,19 @@ use Rattle.call_routing.specs.declared.told.Told.TheVariants.{Flash}
 use Rattle.call_routing.specs.Exchange.{ExchangeState, due, put_off_at, sent_by, sent_to}
 use Rattle.call_laws.specs.Turns as calls
 use Rattle.call_laws.specs.Turns.{Turn, after, after_one}
-use Rattle.live_agent.specs.declared.care.Duty.{Duty}
-use Rattle.live_agent.specs.declared.care.Duty.TheVariants.{Clear, Audit, Route}
-use Rattle.live_agent.specs.declared.care.Care.{Care}
-use Rattle.live_agent.specs.declared.gateway.Gateway.{Gateway}
-use Rattle.live_agent.specs.declared.gateway.Wake.{Wake}
-use Rattle.live_agent.specs.declared.office.Office.{Office}
-use Rattle.live_agent.specs.Boards.{Answers, Holds}
-use Rattle.live_agent.specs.Duties.{announced, begun, duty_answered, held_from, is_put_off, landed, lost, owed, told_care, told_of, woken}
-use Rattle.live_agent.specs.Hooks.{is_off_hook, notified}
-use Rattle.live_agent.specs.Orders.{again_of, cared, duty_of, flight_of, has_told, is_outlived, is_put_off_in, was_found_off}
-use Rattle.live_agent.specs.Showing.{shown_in}
-use Rattle.live_agent.specs.Turns.{AnswersAudit, Routes, TakesAnswer, TakesAudit, TakesResponse, TellsAudit, announced_by, cleared_by, forsaken, heard_by, outcome_with, told_by_audit}
-use Rattle.live_agent.specs.Wakes.{behind_woken, first_woken}
+use Rattle.call_office.specs.declared.care.Duty.{Duty}
+use Rattle.call_office.specs.declared.care.Duty.TheVariants.{Clear, Audit, Route}
+use Rattle.call_office.specs.declared.care.Care.{Care}
+use Rattle.switchboard.specs.declared.gateway.Gateway.{Gateway}
+use Rattle.switchboard.specs.declared.gateway.Wake.{Wake}
+use Rattle.call_office.specs.declared.office.Office.{Office}
+use Rattle.switchboard.specs.Boards.{Answers, Holds}
+use Rattle.call_office.specs.Duties.{announced, begun, duty_answered, held_from, is_put_off, landed, lost, owed, told_care, told_of, woken}
+use Rattle.call_office.specs.Hooks.{is_off_hook, notified}
+use Rattle.call_office.specs.Orders.{again_of, cared, duty_of, flight_of, has_told, is_outlived, is_put_off_in, was_found_off}
+use Rattle.call_office.specs.Showing.{shown_in}
+use Rattle.call_office.specs.Turns.{AnswersAudit, Routes, TakesAnswer, TakesAudit, TakesResponse, TellsAudit, announced_by, cleared_by, forsaken, heard_by, outcome_with, told_by_audit}
+use Rattle.switchboard.specs.Wakes.{behind_woken, first_woken}
 use Rattle.desk_laws.specs.Attended.{Attended, AttendedTurn, announced_for, attended_by, attended_of, attended_one, attended_with, audited_for, begun_for, believed_for, cleared_for, displays, ended_for, forsaken_for, found_for, gives_up, heard_for, hears_announced, hears_answer, hears_told, is_passed_over, lets_pass, lost_or_taken, misses_told, sent_for, sent_or_landed, settles, told_for, wakes_line}
 use Rattle.desk_laws.specs.Desk.{Desk, DeskTurn, after_turn, after_turns, answers, begins, desk_of, finds, happens, loses, taken_at, ticks, woken_by}
 use Rattle.desk_laws.proofs.AnswerLemmas.{answers_as, desk_at, finds_as, given_up_as}

@@ -18,16 +18,16 @@ use Rattle.call_routing.specs.Exchange.{ExchangeState, due, line_of, opening, ph
 use Rattle.call_laws.specs.Turns as calls
 use Rattle.call_laws.specs.Turns.{Turn, after, after_one, is_in_flight}
 use Rattle.call_laws.proofs.FlightLaws.{clear_by, new_free, tell_by}
-use Rattle.live_agent.specs.declared.care.Duty.{Duty}
-use Rattle.live_agent.specs.declared.care.Duty.TheVariants.{Clear, Audit, Route}
-use Rattle.live_agent.specs.declared.care.Care.{Care}
-use Rattle.live_agent.specs.declared.gateway.Wake.{Wake}
-use Rattle.live_agent.specs.AgentClock.{tick_to}
-use Rattle.live_agent.specs.Duties.{announced, begun, found, is_held, landed, new_care, next_behind, owed, told_care, told_of, told_still}
-use Rattle.live_agent.specs.Hooks.{is_off_hook, notified}
-use Rattle.live_agent.specs.Orders.{cared, duty_of, flight_of, is_outlived, is_put_off_in, ordered, ordered_by, routed, routed_by, was_found_off}
-use Rattle.live_agent.specs.Showing.{shown_in}
-use Rattle.live_agent.specs.Wakes.{first_woken}
+use Rattle.call_office.specs.declared.care.Duty.{Duty}
+use Rattle.call_office.specs.declared.care.Duty.TheVariants.{Clear, Audit, Route}
+use Rattle.call_office.specs.declared.care.Care.{Care}
+use Rattle.switchboard.specs.declared.gateway.Wake.{Wake}
+use Rattle.switchboard.specs.AgentClock.{tick_to}
+use Rattle.call_office.specs.Duties.{announced, begun, found, is_held, landed, new_care, next_behind, owed, told_care, told_of, told_still}
+use Rattle.call_office.specs.Hooks.{is_off_hook, notified}
+use Rattle.call_office.specs.Orders.{cared, duty_of, flight_of, is_outlived, is_put_off_in, ordered, ordered_by, routed, routed_by, was_found_off}
+use Rattle.call_office.specs.Showing.{shown_in}
+use Rattle.switchboard.specs.Wakes.{first_woken}
 use Rattle.desk_laws.specs.Attended.{AreApart, Attended, AttendedTurn, WaitsFor, answered_to, attended_all, attended_by, attended_one, audited_for, begun_for, believed_for, care_in, cleared_for, desk_turns, displays, elsewhere, ended_for, exchange_turns, forsaken_for, found_for, gives_up, heard_for, hears_announced, hears_answer, hears_told, is_apart, is_passed_over, lets_pass, line_in, lost_or_taken, misses_told, opening_attended, sent_for, sent_or_landed, settles, taken_for, told_for, wakes_line}
 use Rattle.desk_laws.specs.Desk.{Desk, DeskTurn, GoesOn, after_turn, after_turns, answers, begins, happens, loses, opening_desk}
 use Rattle.desk_laws.proofs.AttendedLemmas.{AreElsewhere, AreOfOthers, announced_keeps, answered_here, answers_here, begins_here, care_here, desk_of_others, flight_at, flight_kept, free_before, lands_here, lost_here, new_idle, sent_here, ticks_keep, turn_elsewhere, turns_elsewhere, wakes_keep}

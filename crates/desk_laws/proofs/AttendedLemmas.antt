@@ -12,11 +12,11 @@ use Rattle.call_routing.proofs.ElementLemmas.{changed_here, changed_other, set_h
 use Rattle.call_laws.specs.Turns as calls
 use Rattle.call_laws.specs.Turns.{Turn, after, after_one, is_flying, is_in_flight}
 use Rattle.call_laws.proofs.FlightLaws.{clear_by, free_where_due, landed_flying, sent_far, sent_flying, tell_by}
-use Rattle.live_agent.specs.declared.care.Duty.{Duty}
-use Rattle.live_agent.specs.declared.care.Care.{Care}
-use Rattle.live_agent.specs.declared.gateway.Wake.{Wake}
-use Rattle.live_agent.specs.Duties.{announced, begun, is_due_at, is_held, landed, lost, new_care, next_behind, told_still, woken}
-use Rattle.live_agent.specs.Orders.{again_of, cared, cared_to, duty_of, flight_of}
+use Rattle.call_office.specs.declared.care.Duty.{Duty}
+use Rattle.call_office.specs.declared.care.Care.{Care}
+use Rattle.switchboard.specs.declared.gateway.Wake.{Wake}
+use Rattle.call_office.specs.Duties.{announced, begun, is_due_at, is_held, landed, lost, new_care, next_behind, told_still, woken}
+use Rattle.call_office.specs.Orders.{again_of, cared, cared_to, duty_of, flight_of}
 use Rattle.desk_laws.specs.Attended.{line_in}
 use Rattle.desk_laws.specs.Desk.{Desk, DeskTurn, after_turn, after_turns, answered as answered_duty, answered_for, answers, behind, happens, held_by, taken_at, ticks, wakes_next, woken_by}
 use Rattle.desk_laws.proofs.CareLemmas.{answered_flight, owed_flight}

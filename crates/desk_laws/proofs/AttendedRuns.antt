@@ -1,4 +1,4 @@
--- What the calls of live_agent do to an exchange and to the desk of its gateway is turns of both.
+-- What the calls of switchboard do to an exchange and to the desk of its gateway is turns of both.
 use Rattle.std.proofs.Common.{◌≡◌, ℕ, zero, suc, ◌≤◌, Bool, true, false, if◌then◌else◌, List, [], ◌∷◌, ◌++◌, Option, Some, None, inl, inr, refl, sym, ap, subst, ◌∙◌}
 use Rattle.std.specs.Prelude.{◌&&◌, is_none, nat_le, remove, replicate, slice_get, slice_set}
 use Rattle.std.specs.Global.{Box}
@@ -10,21 +10,22 @@ use Rattle.endpoint_names.specs.declared.name.Pattern.{Pattern}
 use Rattle.call_routing.specs.declared.command.Command.{Command}
 use Rattle.call_routing.specs.declared.told.Told.{Told}
 use Rattle.call_routing.specs.Exchange.{ExchangeState, due, opening, sent_by, sent_to}
-use Rattle.live_agent.specs.declared.care.Duty.{Duty}
-use Rattle.live_agent.specs.declared.care.Duty.TheVariants.{Clear, Audit, Route}
-use Rattle.live_agent.specs.declared.care.Care.{Care}
-use Rattle.live_agent.specs.declared.gateway.Gateway.{Gateway}
-use Rattle.live_agent.specs.declared.gateway.Wake.{Wake}
-use Rattle.live_agent.specs.declared.office.Office.{Office}
-use Rattle.live_agent.specs.AgentClock.{tick_to}
-use Rattle.live_agent.specs.Boards.{Answers, SettlesIn, WakesIn, woken_at}
-use Rattle.live_agent.specs.Duties.{begun, is_held, landed, lost, new_care, next_behind, owed, told_care, told_of, told_still, woken}
-use Rattle.live_agent.specs.Hooks.{notified}
-use Rattle.live_agent.specs.Orders.{cared, cared_to, duty_of, flight_of, was_found_off}
-use Rattle.live_agent.specs.Showing.{shown_in}
-use Rattle.live_agent.specs.Steps.{Announces, Begins, BeginsBy, Forgets, Hears, Issues, OfOffice, Ticks, ToldOf, Wakens, cares_announced, cares_if, exchange_announced, exchange_if, is_meant, landed_if, line_behind}
-use Rattle.live_agent.specs.Turns.{forsaken, heard_by}
-use Rattle.live_agent.specs.Wakes.{behind_by, behind_woken, first_woken, woken_by as woken_first}
+use Rattle.call_office.specs.declared.care.Duty.{Duty}
+use Rattle.call_office.specs.declared.care.Duty.TheVariants.{Clear, Audit, Route}
+use Rattle.call_office.specs.declared.care.Care.{Care}
+use Rattle.switchboard.specs.declared.gateway.Gateway.{Gateway}
+use Rattle.switchboard.specs.declared.gateway.Wake.{Wake}
+use Rattle.call_office.specs.declared.office.Office.{Office}
+use Rattle.switchboard.specs.AgentClock.{tick_to}
+use Rattle.switchboard.specs.Boards.{Answers, SettlesIn, WakesIn, woken_at}
+use Rattle.call_office.specs.Duties.{begun, is_held, landed, lost, new_care, next_behind, owed, told_care, told_of, told_still, woken}
+use Rattle.call_office.specs.Hooks.{notified}
+use Rattle.call_office.specs.Orders.{cared, cared_to, duty_of, flight_of, was_found_off}
+use Rattle.call_office.specs.Showing.{shown_in}
+use Rattle.call_office.specs.Steps.{Begins, BeginsBy, Forgets, Hears, ToldOf, landed_if}
+use Rattle.switchboard.specs.Steps.{Announces, Issues, OfOffice, Ticks, Wakens, cares_announced, cares_if, exchange_announced, exchange_if, is_meant, line_behind}
+use Rattle.call_office.specs.Turns.{forsaken, heard_by}
+use Rattle.switchboard.specs.Wakes.{behind_by, behind_woken, first_woken, woken_by as woken_first}
 use Rattle.desk_laws.specs.Attended.{AreApart, Attended, AttendedTurn, attended_all, attended_by, attended_of, attended_one, attended_with, displays, gives_up, hears_announced, hears_answer, hears_told, is_apart, lets_pass, misses_told, settles, wakes_line}
 use Rattle.desk_laws.specs.Desk.{desk_of, opening_desk}
 use Rattle.desk_laws.specs.Steps as calls

@@ -5,11 +5,11 @@ use Rattle.std.specs.Option.{unwrap_or}
 use Rattle.std.proofs.lemmas.Bool.{true≢false}
 use Rattle.std.proofs.lemmas.Option.{none-some}
 use Rattle.call_routing.specs.declared.fate.PutOff.{PutOff}
-use Rattle.live_agent.specs.declared.care.Duty.{Duty}
-use Rattle.live_agent.specs.declared.care.Duty.TheVariants.{Clear, Audit, Route}
-use Rattle.live_agent.specs.declared.care.Care.{Care}
-use Rattle.live_agent.specs.Duties.{again_at, announced, begun, duty_answered, duty_behind, held_or, is_due_at, is_held, is_put_off, held_from, new_care, next_behind, owed, owed_again, routed_by, told_still, woken}
-use Rattle.live_agent.specs.Orders.{cared, cared_to}
+use Rattle.call_office.specs.declared.care.Duty.{Duty}
+use Rattle.call_office.specs.declared.care.Duty.TheVariants.{Clear, Audit, Route}
+use Rattle.call_office.specs.declared.care.Care.{Care}
+use Rattle.call_office.specs.Duties.{again_at, announced, begun, duty_answered, duty_behind, held_or, is_due_at, is_held, is_put_off, held_from, new_care, next_behind, owed, owed_again, routed_by, told_still, woken}
+use Rattle.call_office.specs.Orders.{cared, cared_to}
 use Rattle.desk_laws.specs.Desk.{Happening, announces, answered, begins, behind, finds, lands, loses, owes_audit, shows, tells}
 
 -- Of which line

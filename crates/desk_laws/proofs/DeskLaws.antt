@@ -12,14 +12,14 @@ use Rattle.call_routing.specs.Exchange.{ExchangeState, due, line_of, phase_of, s
 use Rattle.call_routing.specs.Parameters.{parameters_of, verb_of}
 use Rattle.call_laws.specs.Turns.{is_in_flight}
 use Rattle.call_laws.proofs.GoingOnLaws.{waited_for}
-use Rattle.live_agent.specs.declared.care.Duty.{Duty}
-use Rattle.live_agent.specs.declared.care.Duty.TheVariants.{Clear, Audit, Route}
-use Rattle.live_agent.specs.declared.care.Care.{Care}
-use Rattle.live_agent.specs.declared.gateway.Wake.{Wake}
-use Rattle.live_agent.specs.AgentClock.{tick_to}
-use Rattle.live_agent.specs.Duties.{again_at, duty_begun, is_due_at, is_held, landed, new_care, woken}
-use Rattle.live_agent.specs.Orders.{Shown, again_of, cared, flight_of, ordered, ordered_by, routed, routed_by}
-use Rattle.live_agent.specs.Wakes.{behind_woken, first_woken}
+use Rattle.call_office.specs.declared.care.Duty.{Duty}
+use Rattle.call_office.specs.declared.care.Duty.TheVariants.{Clear, Audit, Route}
+use Rattle.call_office.specs.declared.care.Care.{Care}
+use Rattle.switchboard.specs.declared.gateway.Wake.{Wake}
+use Rattle.switchboard.specs.AgentClock.{tick_to}
+use Rattle.call_office.specs.Duties.{again_at, duty_begun, is_due_at, is_held, landed, new_care, woken}
+use Rattle.call_office.specs.Orders.{Shown, again_of, cared, flight_of, ordered, ordered_by, routed, routed_by}
+use Rattle.switchboard.specs.Wakes.{behind_woken, first_woken}
 use Rattle.desk_laws.specs.Desk.{Desk, DeskTurn, GoesOn, Happening, IsHeldUntil, StandsAmong, after_turn, after_turns, answered, answered_for, answers, behind, happens, held_by, opening_desk, taken_at, ticks, wakes_next, woken_by}
 use Rattle.desk_laws.proofs.CareLemmas.{IsAlone, Was, after_care, answered_again, answered_flight, each_new, here_after, keeps_again, keeps_alone, same_some}
 use Rattle.desk_laws.proofs.WakeLemmas.{AllBy, InOrder, by_last, by_later, none_due, one_fewer_by, order_last, stands_front, stands_last, wake_of, woken_first}

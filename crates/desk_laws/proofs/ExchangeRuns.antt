@@ -15,18 +15,19 @@ use Rattle.call_routing.specs.Line.{cleared, heard_on, landed, new_line, sent}
 use Rattle.call_routing.proofs.ElementLemmas.{changed_here, changed_other}
 use Rattle.call_laws.specs.Turns as calls
 use Rattle.call_laws.specs.Turns.{Turn, after, after_one}
-use Rattle.live_agent.specs.declared.care.Duty.{Duty}
-use Rattle.live_agent.specs.declared.care.Duty.TheVariants.{Clear, Audit, Route}
-use Rattle.live_agent.specs.declared.care.Care.{Care}
-use Rattle.live_agent.specs.declared.gateway.Gateway.{Gateway}
-use Rattle.live_agent.specs.declared.gateway.Wake.{Wake}
-use Rattle.live_agent.specs.declared.office.Office.{Office}
-use Rattle.live_agent.specs.Boards.{WakesIn, woken_at}
-use Rattle.live_agent.specs.Duties.{landed as landed_care}
-use Rattle.live_agent.specs.Hooks.{notified}
-use Rattle.live_agent.specs.Orders.{cared, duty_of, flight_of, has_told, is_outlived, is_put_off_in, was_found_off}
-use Rattle.live_agent.specs.Steps.{Begins, BeginsBy, Forgets, Hears, Issues, OfOffice, exchange_announced, exchange_if, is_meant, line_behind}
-use Rattle.live_agent.specs.Turns.{AnswersAudit, TakesAnswer, TakesAudit, TakesResponse, cleared_by, forsaken, heard_by, kept_behind, outcome_with, told_by_audit}
+use Rattle.call_office.specs.declared.care.Duty.{Duty}
+use Rattle.call_office.specs.declared.care.Duty.TheVariants.{Clear, Audit, Route}
+use Rattle.call_office.specs.declared.care.Care.{Care}
+use Rattle.switchboard.specs.declared.gateway.Gateway.{Gateway}
+use Rattle.switchboard.specs.declared.gateway.Wake.{Wake}
+use Rattle.call_office.specs.declared.office.Office.{Office}
+use Rattle.switchboard.specs.Boards.{WakesIn, woken_at}
+use Rattle.call_office.specs.Duties.{landed as landed_care}
+use Rattle.call_office.specs.Hooks.{notified}
+use Rattle.call_office.specs.Orders.{cared, duty_of, flight_of, has_told, is_outlived, is_put_off_in, was_found_off}
+use Rattle.call_office.specs.Steps.{Begins, BeginsBy, Forgets, Hears}
+use Rattle.switchboard.specs.Steps.{Issues, OfOffice, exchange_announced, exchange_if, is_meant, line_behind}
+use Rattle.call_office.specs.Turns.{AnswersAudit, TakesAnswer, TakesAudit, TakesResponse, cleared_by, forsaken, heard_by, kept_behind, outcome_with, told_by_audit}
 use Rattle.desk_laws.specs.Steps as steps
 use Rattle.desk_laws.specs.Steps.{DoesAnyhow, Step}
 use Rattle.desk_laws.proofs.AttendedLaws.{exchange_behind}

@@ -5,15 +5,16 @@ use Rattle.std.proofs.lemmas.Option.{none-some}
 use Rattle.call_routing.specs.declared.phase.Phase.TheVariants.{Resting}
 use Rattle.call_routing.specs.declared.told.Told.TheVariants.{Dialled}
 use Rattle.call_routing.specs.Exchange.{ExchangeState, opening}
-use Rattle.live_agent.specs.declared.care.Care.{Care}
-use Rattle.live_agent.specs.declared.gateway.Gateway.{Gateway}
-use Rattle.live_agent.specs.declared.gateway.Wake.{Wake}
-use Rattle.live_agent.specs.declared.office.Office.{Office}
-use Rattle.live_agent.specs.Boards.{Answers}
-use Rattle.live_agent.specs.Duties.{again_at, begun, new_care, told_care}
-use Rattle.live_agent.specs.Example.{deleted_later, wake_at}
-use Rattle.live_agent.specs.Steps.{Begins, Forgets, HearsSome}
-use Rattle.live_agent.proofs.StepExampleLemmas.{answers_so}
+use Rattle.call_office.specs.declared.care.Care.{Care}
+use Rattle.switchboard.specs.declared.gateway.Gateway.{Gateway}
+use Rattle.switchboard.specs.declared.gateway.Wake.{Wake}
+use Rattle.call_office.specs.declared.office.Office.{Office}
+use Rattle.switchboard.specs.Boards.{Answers}
+use Rattle.call_office.specs.Duties.{again_at, begun, new_care, told_care}
+use Rattle.call_office.specs.Example.{deleted_later}
+use Rattle.switchboard.specs.Example.{wake_at}
+use Rattle.call_office.specs.Steps.{Begins, Forgets, HearsSome}
+use Rattle.switchboard.proofs.StepExampleLemmas.{answers_so}
 use Rattle.desk_laws.specs.Attended.{WaitsFor}
 use Rattle.desk_laws.specs.Desk.{Desk, GoesOn, StandsAmong}
 use Rattle.desk_laws.specs.Example.{routed_care}

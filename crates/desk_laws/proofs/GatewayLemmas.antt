@@ -3,7 +3,7 @@ use Rattle.std.proofs.Common.{◌≡◌, ℕ, zero, suc, ◌+◌, ◌<◌, ◌�
 use Rattle.std.specs.Prelude.{◌⊎◌, slice_get}
 use Rattle.std.proofs.lemmas.Bool.{cases_lt}
 use Rattle.std.proofs.lemmas.Option.{none-some}
-use Rattle.live_agent.specs.declared.gateway.Gateway.{Gateway}
+use Rattle.switchboard.specs.declared.gateway.Gateway.{Gateway}
 use Rattle.desk_laws.specs.Gateways.{AllRest, Has, HaveLines, KeepsLines, OneDoes, Rests}
 use Rattle.desk_laws.proofs.CareLemmas.{same_some}
 

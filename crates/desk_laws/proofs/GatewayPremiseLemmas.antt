@@ -6,15 +6,16 @@ use Rattle.std.proofs.lemmas.Option.{none-some}
 use Rattle.call_routing.specs.declared.asked.Asked.TheVariants.{Rest}
 use Rattle.call_routing.specs.declared.phase.Phase.TheVariants.{Resting, Dialling}
 use Rattle.call_routing.specs.Exchange.{ExchangeState, opening}
-use Rattle.live_agent.specs.declared.care.Care.{Care}
-use Rattle.live_agent.specs.declared.gateway.Gateway.{Gateway}
-use Rattle.live_agent.specs.declared.gateway.Wake.{Wake}
-use Rattle.live_agent.specs.declared.office.Office.{Office}
-use Rattle.live_agent.specs.Boards.{Answers}
-use Rattle.live_agent.specs.Duties.{begun, new_care}
-use Rattle.live_agent.specs.Example.{audited, cleared, deleted_later, wake_at}
-use Rattle.live_agent.specs.Steps.{Begins}
-use Rattle.live_agent.proofs.StepExampleLemmas.{AnswersAt}
+use Rattle.call_office.specs.declared.care.Care.{Care}
+use Rattle.switchboard.specs.declared.gateway.Gateway.{Gateway}
+use Rattle.switchboard.specs.declared.gateway.Wake.{Wake}
+use Rattle.call_office.specs.declared.office.Office.{Office}
+use Rattle.switchboard.specs.Boards.{Answers}
+use Rattle.call_office.specs.Duties.{begun, new_care}
+use Rattle.call_office.specs.Example.{audited, cleared, deleted_later}
+use Rattle.switchboard.specs.Example.{wake_at}
+use Rattle.call_office.specs.Steps.{Begins}
+use Rattle.switchboard.proofs.StepExampleLemmas.{AnswersAt}
 use Rattle.desk_laws.specs.Attended.{WaitsFor}
 use Rattle.desk_laws.specs.Desk.{Desk, GoesOn, IsHeldUntil, StandsAmong, desk_of}
 use Rattle.desk_laws.specs.GatewayPremises.{GoesOnSomewhere, IsAsked, IsAudited, accepted_then, answers, asked_then, audit_steps, audited_then, audits, cleared_then, issues, sent_at_first}

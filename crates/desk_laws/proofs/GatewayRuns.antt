@@ -7,15 +7,16 @@ use Rattle.call_routing.specs.declared.line.Line.{Line}
 use Rattle.call_routing.specs.declared.phase.Phase.{Phase}
 use Rattle.call_routing.specs.Exchange.{ExchangeState, line_of, opening, phase_of}
 use Rattle.call_laws.specs.Turns.{Turn, after, is_in_flight}
-use Rattle.live_agent.specs.declared.care.Duty.TheVariants.{Route}
-use Rattle.live_agent.specs.declared.care.Care.{Care}
-use Rattle.live_agent.specs.declared.gateway.Gateway.{Gateway}
-use Rattle.live_agent.specs.declared.gateway.Wake.{Wake}
-use Rattle.live_agent.specs.declared.office.Office.{Office}
-use Rattle.live_agent.specs.Boards.{SettlesIn, woken_at}
-use Rattle.live_agent.specs.Duties.{again_at, new_care}
-use Rattle.live_agent.specs.Orders.{duty_of, flight_of}
-use Rattle.live_agent.specs.Steps.{Begins, Ticks}
+use Rattle.call_office.specs.declared.care.Duty.TheVariants.{Route}
+use Rattle.call_office.specs.declared.care.Care.{Care}
+use Rattle.switchboard.specs.declared.gateway.Gateway.{Gateway}
+use Rattle.switchboard.specs.declared.gateway.Wake.{Wake}
+use Rattle.call_office.specs.declared.office.Office.{Office}
+use Rattle.switchboard.specs.Boards.{SettlesIn, woken_at}
+use Rattle.call_office.specs.Duties.{again_at, new_care}
+use Rattle.call_office.specs.Orders.{duty_of, flight_of}
+use Rattle.call_office.specs.Steps.{Begins}
+use Rattle.switchboard.specs.Steps.{Ticks}
 use Rattle.desk_laws.specs.Attended.{Attended, WaitsFor, attended_of, attended_one, care_in, settles}
 use Rattle.desk_laws.specs.Desk.{GoesOn, IsHeldUntil, StandsAmong, desk_of}
 use Rattle.desk_laws.specs.Gateways.{DoesOwn, Doing, Has, HaveLines, IsOwn, KeepsLines, Rests, ShareNoLine, StepAt, StepDoes, StepsDo, at_gateway}

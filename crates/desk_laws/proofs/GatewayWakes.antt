@@ -4,12 +4,12 @@ use Rattle.std.specs.Prelude.{◌⊎◌, nat_le, replicate, slice_get}
 use Rattle.std.specs.Global.{Box}
 use Rattle.std.proofs.lemmas.Bool.{leb-false}
 use Rattle.std.proofs.lemmas.Option.{none-some}
-use Rattle.live_agent.specs.declared.care.Care.{Care}
-use Rattle.live_agent.specs.declared.gateway.Gateway.{Gateway}
-use Rattle.live_agent.specs.declared.gateway.Wake.{Wake}
-use Rattle.live_agent.specs.declared.office.Office.{Office}
-use Rattle.live_agent.specs.Duties.{again_at, new_care}
-use Rattle.live_agent.specs.Wakes.{behind_woken, first_woken}
+use Rattle.call_office.specs.declared.care.Care.{Care}
+use Rattle.switchboard.specs.declared.gateway.Gateway.{Gateway}
+use Rattle.switchboard.specs.declared.gateway.Wake.{Wake}
+use Rattle.call_office.specs.declared.office.Office.{Office}
+use Rattle.call_office.specs.Duties.{again_at, new_care}
+use Rattle.switchboard.specs.Wakes.{behind_woken, first_woken}
 use Rattle.desk_laws.specs.Desk.{IsHeldUntil, StandsAmong, desk_of}
 use Rattle.desk_laws.specs.Gateways.{DoesOwn, Has, Rests, ShareNoLine, StepAt, StepDoes, StepsDo}
 use Rattle.desk_laws.specs.Steps as steps

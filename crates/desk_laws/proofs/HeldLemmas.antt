@@ -5,14 +5,14 @@ use Rattle.std.specs.Prelude.{◌⊎◌, ◌&&◌, nat_le, nat_lt}
 use Rattle.std.proofs.lemmas.Bool.{ltb-true}
 use Rattle.call_routing.specs.declared.fate.PutOff.{PutOff}
 use Rattle.call_routing.specs.Fates.{may_pass, most_put_off}
-use Rattle.live_agent.specs.declared.care.Duty.{Duty}
-use Rattle.live_agent.specs.declared.care.Duty.TheVariants.{Clear, Audit, Route}
-use Rattle.live_agent.specs.declared.care.Care.{Care}
-use Rattle.live_agent.specs.declared.gateway.Wake.{Wake}
-use Rattle.live_agent.specs.AgentClock.{tick_to}
-use Rattle.live_agent.specs.Duties.{duty_answered, duty_behind, found, held_from, held_or, is_due_at, is_held, landed, next_behind, owed, owed_again, routed_by, told_care, told_of, told_still, woken}
-use Rattle.live_agent.specs.Orders.{cared}
-use Rattle.live_agent.specs.Wakes.{behind_woken, first_woken}
+use Rattle.call_office.specs.declared.care.Duty.{Duty}
+use Rattle.call_office.specs.declared.care.Duty.TheVariants.{Clear, Audit, Route}
+use Rattle.call_office.specs.declared.care.Care.{Care}
+use Rattle.switchboard.specs.declared.gateway.Wake.{Wake}
+use Rattle.switchboard.specs.AgentClock.{tick_to}
+use Rattle.call_office.specs.Duties.{duty_answered, duty_behind, found, held_from, held_or, is_due_at, is_held, landed, next_behind, owed, owed_again, routed_by, told_care, told_of, told_still, woken}
+use Rattle.call_office.specs.Orders.{cared}
+use Rattle.switchboard.specs.Wakes.{behind_woken, first_woken}
 use Rattle.desk_laws.specs.Desk.{Desk, DeskTurn, Happening, after_turn, after_turns, announces, answered, answered_for, answers, begins, behind, finds, happens, held_by, lands, loses, owes_audit, shows, tells, ticks, wakes_next, woken_by}
 use Rattle.desk_laws.proofs.AnswerLemmas.{desk_at}
 

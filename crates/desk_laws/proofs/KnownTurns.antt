@@ -7,11 +7,11 @@ use Rattle.call_routing.specs.declared.command.Outcome.{Outcome}
 use Rattle.call_routing.specs.declared.command.Outcome.TheVariants.{GivenUp}
 use Rattle.call_routing.specs.declared.told.Told.{Told}
 use Rattle.call_laws.specs.Turns.{Turn, after, is_in_flight}
-use Rattle.live_agent.specs.declared.care.Duty.{Duty}
-use Rattle.live_agent.specs.declared.care.Duty.TheVariants.{Clear, Audit, Route}
-use Rattle.live_agent.specs.declared.care.Care.{Care}
-use Rattle.live_agent.specs.Hooks.{notified}
-use Rattle.live_agent.specs.Orders.{duty_of, flight_of, is_outlived, was_found_off}
+use Rattle.call_office.specs.declared.care.Duty.{Duty}
+use Rattle.call_office.specs.declared.care.Duty.TheVariants.{Clear, Audit, Route}
+use Rattle.call_office.specs.declared.care.Care.{Care}
+use Rattle.call_office.specs.Hooks.{notified}
+use Rattle.call_office.specs.Orders.{duty_of, flight_of, is_outlived, was_found_off}
 use Rattle.desk_laws.specs.Attended.{AreApart, Attended, AttendedTurn, attended_all, attended_one, believed_for, care_in, displays, elsewhere, forsaken_for, gives_up, heard_for, hears_announced, hears_answer, hears_told, is_apart, lets_pass, misses_told, sent_for, settles, wakes_line}
 use Rattle.desk_laws.proofs.AttendedLaws.{Knows, announced_same, forsaken_far, heard_far, is_routed, routed_flight, sent_far, told_same, turn_agrees}
 use Rattle.desk_laws.proofs.AttendedLemmas.{AreElsewhere, answered_here, flight_at, turns_elsewhere}

@@ -11,20 +11,21 @@ use Rattle.call_routing.specs.declared.fate.PutOff.{PutOff}
 use Rattle.call_routing.specs.declared.told.Told.{Told}
 use Rattle.call_routing.specs.declared.told.Told.TheVariants.{Flash}
 use Rattle.call_routing.specs.Exchange.{ExchangeState, due, put_off_at}
-use Rattle.live_agent.specs.declared.care.Duty.{Duty}
-use Rattle.live_agent.specs.declared.care.Duty.TheVariants.{Clear, Audit, Route}
-use Rattle.live_agent.specs.declared.care.Care.{Care}
-use Rattle.live_agent.specs.declared.gateway.Gateway.{Gateway}
-use Rattle.live_agent.specs.declared.gateway.Wake.{Wake}
-use Rattle.live_agent.specs.declared.office.Office.{Office}
-use Rattle.live_agent.specs.Boards.{Answers, Holds, WakesIn}
-use Rattle.live_agent.specs.Duties.{again_at, announced, begun, duty_answered, found, is_due_at, landed, lost, new_care, routed_by, told_care, woken}
-use Rattle.live_agent.specs.Hooks.{is_off_hook}
-use Rattle.live_agent.specs.Orders.{again_of, cared, duty_of, flight_of, has_told, is_outlived, is_put_off_in}
-use Rattle.live_agent.specs.Showing.{shown_in}
-use Rattle.live_agent.specs.Steps.{Announces, Begins, BeginsBy, Forgets, Hears, Issues, OfOffice, ToldOf, cares_announced, cares_if, is_meant, landed_if, line_behind}
-use Rattle.live_agent.specs.Turns.{AnswersAudit, Routes, TakesAnswer, TakesAudit, TakesResponse, TellsAudit, kept_behind, outcome_with, told_by_audit}
-use Rattle.live_agent.specs.Wakes.{behind_woken, first_woken}
+use Rattle.call_office.specs.declared.care.Duty.{Duty}
+use Rattle.call_office.specs.declared.care.Duty.TheVariants.{Clear, Audit, Route}
+use Rattle.call_office.specs.declared.care.Care.{Care}
+use Rattle.switchboard.specs.declared.gateway.Gateway.{Gateway}
+use Rattle.switchboard.specs.declared.gateway.Wake.{Wake}
+use Rattle.call_office.specs.declared.office.Office.{Office}
+use Rattle.switchboard.specs.Boards.{Answers, Holds, WakesIn}
+use Rattle.call_office.specs.Duties.{again_at, announced, begun, duty_answered, found, is_due_at, landed, lost, new_care, routed_by, told_care, woken}
+use Rattle.call_office.specs.Hooks.{is_off_hook}
+use Rattle.call_office.specs.Orders.{again_of, cared, duty_of, flight_of, has_told, is_outlived, is_put_off_in}
+use Rattle.call_office.specs.Showing.{shown_in}
+use Rattle.call_office.specs.Steps.{Begins, BeginsBy, Forgets, Hears, ToldOf, landed_if}
+use Rattle.switchboard.specs.Steps.{Announces, Issues, OfOffice, cares_announced, cares_if, is_meant, line_behind}
+use Rattle.call_office.specs.Turns.{AnswersAudit, Routes, TakesAnswer, TakesAudit, TakesResponse, TellsAudit, kept_behind, outcome_with, told_by_audit}
+use Rattle.switchboard.specs.Wakes.{behind_woken, first_woken}
 use Rattle.desk_laws.specs.Desk.{Happening, announces, answered, begins, behind, lands, loses, owes_audit, shows, tells}
 use Rattle.desk_laws.proofs.AnyhowRuns.{woken_same}
 use Rattle.desk_laws.proofs.AttendedLemmas.{care_here, care_other, woken_keeps}

@@ -4,15 +4,15 @@ use Rattle.std.specs.Prelude.{◌⊎◌, ◌-◌, ◌^◌, nat_le, slice_get}
 use Rattle.std.proofs.lemmas.Bool.{leb-true}
 use Rattle.std.proofs.lemmas.Option.{none-some}
 use Rattle.call_routing.specs.declared.fate.PutOff.{PutOff}
-use Rattle.live_agent.specs.declared.care.Duty.{Duty}
-use Rattle.live_agent.specs.declared.care.Care.{Care}
-use Rattle.live_agent.specs.declared.gateway.Gateway.{Gateway}
-use Rattle.live_agent.specs.declared.gateway.Wake.{Wake}
-use Rattle.live_agent.specs.declared.office.Office.{Office}
-use Rattle.live_agent.specs.AgentClock.{tick_to}
-use Rattle.live_agent.specs.Duties.{again_at, landed, woken}
-use Rattle.live_agent.specs.Orders.{again_of, cared, flight_of}
-use Rattle.live_agent.specs.Wakes.{first_woken}
+use Rattle.call_office.specs.declared.care.Duty.{Duty}
+use Rattle.call_office.specs.declared.care.Care.{Care}
+use Rattle.switchboard.specs.declared.gateway.Gateway.{Gateway}
+use Rattle.switchboard.specs.declared.gateway.Wake.{Wake}
+use Rattle.call_office.specs.declared.office.Office.{Office}
+use Rattle.switchboard.specs.AgentClock.{tick_to}
+use Rattle.call_office.specs.Duties.{again_at, landed, woken}
+use Rattle.call_office.specs.Orders.{again_of, cared, flight_of}
+use Rattle.switchboard.specs.Wakes.{first_woken}
 use Rattle.desk_laws.specs.Desk.{Desk, DeskTurn, after_turn, after_turns, answered, answered_for, answers, behind, desk_of, happens, held_by, opening_desk, taken_at, ticks, wakes_next, woken_by}
 use Rattle.desk_laws.specs.StepExample.{AreSo}
 use Rattle.desk_laws.proofs.AnswerLemmas.{desk_at}

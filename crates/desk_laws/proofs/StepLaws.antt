@@ -1,4 +1,4 @@
--- What the calls of live_agent do to a desk is turns of it.
+-- What the calls of switchboard do to a desk is turns of it.
 use Rattle.std.proofs.Common.{◌≡◌, ℕ, zero, suc, ◌≤◌, Bool, true, false, if◌then◌else◌, List, [], ◌∷◌, ◌++◌, Option, Some, None, inl, inr, refl, sym, ap, subst, ◌∙◌}
 use Rattle.std.specs.Prelude.{is_none, nat_le, remove, replicate, slice_get}
 use Rattle.std.specs.Global.{Box}
@@ -7,18 +7,19 @@ use Rattle.std.proofs.lemmas.Option.{none-some}
 use Rattle.endpoint_names.specs.declared.name.Pattern.{Pattern}
 use Rattle.call_routing.specs.declared.told.Told.{Told}
 use Rattle.call_routing.specs.Exchange.{ExchangeState, due}
-use Rattle.live_agent.specs.declared.care.Care.{Care}
-use Rattle.live_agent.specs.declared.care.Duty.{Duty}
-use Rattle.live_agent.specs.declared.gateway.Gateway.{Gateway}
-use Rattle.live_agent.specs.declared.gateway.Wake.{Wake}
-use Rattle.live_agent.specs.declared.office.Office.{Office}
-use Rattle.live_agent.specs.AgentClock.{tick_to}
-use Rattle.live_agent.specs.Boards.{Answers, SettlesIn, WakesIn, woken_at}
-use Rattle.live_agent.specs.Duties.{announced, begun, fixed_order, new_care, told_care, woken}
-use Rattle.live_agent.specs.Orders.{Shown, cared, duty_of}
-use Rattle.live_agent.specs.Showing.{shown_in}
-use Rattle.live_agent.specs.Steps.{Announces, Begins, BeginsAs, BeginsBy, Forgets, Hears, HearsSome, Issues, OfOffice, ToldOf, Ticks, Wakens, cares_announced, cares_if, is_meant, landed_if, line_behind}
-use Rattle.live_agent.specs.Wakes.{behind_by, behind_woken, first_woken, woken_by as woken_first}
+use Rattle.call_office.specs.declared.care.Care.{Care}
+use Rattle.call_office.specs.declared.care.Duty.{Duty}
+use Rattle.switchboard.specs.declared.gateway.Gateway.{Gateway}
+use Rattle.switchboard.specs.declared.gateway.Wake.{Wake}
+use Rattle.call_office.specs.declared.office.Office.{Office}
+use Rattle.switchboard.specs.AgentClock.{tick_to}
+use Rattle.switchboard.specs.Boards.{Answers, SettlesIn, WakesIn, woken_at}
+use Rattle.call_office.specs.Duties.{announced, begun, fixed_order, new_care, told_care, woken}
+use Rattle.call_office.specs.Orders.{Shown, cared, duty_of}
+use Rattle.call_office.specs.Showing.{shown_in}
+use Rattle.call_office.specs.Steps.{Begins, BeginsAs, BeginsBy, Forgets, Hears, HearsSome, ToldOf, landed_if}
+use Rattle.switchboard.specs.Steps.{Announces, Issues, OfOffice, Ticks, Wakens, cares_announced, cares_if, is_meant, line_behind}
+use Rattle.switchboard.specs.Wakes.{behind_by, behind_woken, first_woken, woken_by as woken_first}
 use Rattle.desk_laws.specs.Desk.{Desk, DeskTurn, Happening, after_turn, after_turns, announces, begins, behind, desk_of, happens, lands, loses, opening_desk, owes_audit, shows, tells, ticks, wakes_next, woken_by}
 use Rattle.desk_laws.specs.Steps.{Does, Runs, Stands, Step, announces_lines, gives_up, goes_on_to, hears_line, issues_to, settles, takes_answer, tells_of, wakens}
 use Rattle.desk_laws.proofs.AnswerLaws.{is_turns}

@@ -3,8 +3,8 @@ use Rattle.std.proofs.Common.{◌≡◌, ℕ, suc, ◌+◌, ◌<◌, ◌≤◌, 
 use Rattle.std.specs.Prelude.{◌⊎◌, nat_le}
 use Rattle.std.proofs.lemmas.Bool.{leb-false}
 use Rattle.std.proofs.lemmas.Option.{none-some}
-use Rattle.live_agent.specs.declared.gateway.Wake.{Wake}
-use Rattle.live_agent.specs.Wakes.{behind_woken, first_woken}
+use Rattle.switchboard.specs.declared.gateway.Wake.{Wake}
+use Rattle.switchboard.specs.Wakes.{behind_woken, first_woken}
 use Rattle.desk_laws.specs.Desk.{StandsAmong}
 use Rattle.desk_laws.proofs.CareLemmas.{same_some}
 

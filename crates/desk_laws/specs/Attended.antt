@@ -1,5 +1,5 @@
 -- An exchange, and the desk of one of its gateways, as the program joins them, turn after turn: which turn of the exchange goes with which
--- of the desk. Each is what a call of `live_agent` does to both.
+-- of the desk. Each is what a call of `switchboard` does to both.
 use Rattle.std.specs.Prelude.{◌≡◌, ◌⊎◌, ℕ, ◌||◌, not, if◌then◌else◌, Bool, true, false, List, [], ◌∷◌, Option, Some, None, slice_get}
 use Rattle.std.specs.List.{list_all}
 use Rattle.call_routing.specs.declared.asked.Asked.{Asked}
@@ -13,14 +13,14 @@ use Rattle.call_routing.specs.Asking.{is_asked, wanted_in}
 use Rattle.call_routing.specs.Exchange.{ExchangeState, due, opening, put_off_at}
 use Rattle.call_laws.specs.Turns as calls
 use Rattle.call_laws.specs.Turns.{Turn, after}
-use Rattle.live_agent.specs.declared.care.Duty.{Duty}
-use Rattle.live_agent.specs.declared.care.Duty.TheVariants.{Clear, Audit, Route}
-use Rattle.live_agent.specs.declared.care.Care.{Care}
-use Rattle.live_agent.specs.declared.gateway.Gateway.{Gateway}
-use Rattle.live_agent.specs.declared.office.Office.{Office}
-use Rattle.live_agent.specs.Hooks.{is_off_hook, notified}
-use Rattle.live_agent.specs.Orders.{duty_of, flight_of, has_told, is_outlived, is_put_off_in, was_found_off}
-use Rattle.live_agent.specs.Showing.{shown_in}
+use Rattle.call_office.specs.declared.care.Duty.{Duty}
+use Rattle.call_office.specs.declared.care.Duty.TheVariants.{Clear, Audit, Route}
+use Rattle.call_office.specs.declared.care.Care.{Care}
+use Rattle.switchboard.specs.declared.gateway.Gateway.{Gateway}
+use Rattle.call_office.specs.declared.office.Office.{Office}
+use Rattle.call_office.specs.Hooks.{is_off_hook, notified}
+use Rattle.call_office.specs.Orders.{duty_of, flight_of, has_told, is_outlived, is_put_off_in, was_found_off}
+use Rattle.call_office.specs.Showing.{shown_in}
 use Rattle.desk_laws.specs.Desk.{Desk, DeskTurn, IsHeldUntil, after_turns, announces, answers, begins, desk_of, finds}
 use Rattle.desk_laws.specs.Desk.{happens, lands, loses, opening_desk, owes_audit, shows, tells, ticks, wakes_next}
 

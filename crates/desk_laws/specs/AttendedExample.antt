@@ -10,9 +10,9 @@ use Rattle.call_routing.specs.declared.told.Told.TheVariants.{Dialled, Flash, Of
 use Rattle.call_routing.specs.Exchange.{line_of, phase_of}
 use Rattle.call_laws.specs.Turns as calls
 use Rattle.call_laws.specs.Turns.{is_in_flight}
-use Rattle.live_agent.specs.declared.care.Care.{Care}
-use Rattle.live_agent.specs.declared.care.Duty.{Duty}
-use Rattle.live_agent.specs.Orders.{flight_of}
+use Rattle.call_office.specs.declared.care.Care.{Care}
+use Rattle.call_office.specs.declared.care.Duty.{Duty}
+use Rattle.call_office.specs.Orders.{flight_of}
 use Rattle.desk_laws.specs.Attended.{Attended, AttendedTurn, attended_by, care_in, elsewhere, hears_announced}
 use Rattle.desk_laws.specs.Attended.{hears_answer, hears_told, lets_pass, settles}
 

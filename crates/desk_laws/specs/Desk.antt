@@ -6,18 +6,18 @@ use Rattle.call_routing.specs.declared.fate.PutOff.{PutOff}
 use Rattle.call_routing.specs.declared.phase.Phase.{Phase}
 use Rattle.call_routing.specs.Asking.{is_asked, wanted_in}
 use Rattle.call_routing.specs.Exchange.{ExchangeState}
-use Rattle.live_agent.specs.declared.care.Duty.{Duty}
-use Rattle.live_agent.specs.declared.care.Duty.TheVariants.{Clear, Audit, Route}
-use Rattle.live_agent.specs.declared.care.Care.{Care}
-use Rattle.live_agent.specs.declared.care.Shown.{Shown as LineShown}
-use Rattle.live_agent.specs.declared.gateway.Gateway.{Gateway}
-use Rattle.live_agent.specs.declared.gateway.Wake.{Wake as LineWake}
-use Rattle.live_agent.specs.declared.office.Office.{Office}
-use Rattle.live_agent.specs.AgentClock.{tick_to}
-use Rattle.live_agent.specs.Duties.{again_at, announced, begun, duty_answered, found, landed, lost}
-use Rattle.live_agent.specs.Duties.{new_care, owed, routed_by, told_care, told_of, woken}
-use Rattle.live_agent.specs.Orders.{Shown, again_of, cared, flight_of, ordered}
-use Rattle.live_agent.specs.Wakes.{behind_woken, first_woken}
+use Rattle.call_office.specs.declared.care.Duty.{Duty}
+use Rattle.call_office.specs.declared.care.Duty.TheVariants.{Clear, Audit, Route}
+use Rattle.call_office.specs.declared.care.Care.{Care}
+use Rattle.call_office.specs.declared.care.Shown.{Shown as LineShown}
+use Rattle.switchboard.specs.declared.gateway.Gateway.{Gateway}
+use Rattle.switchboard.specs.declared.gateway.Wake.{Wake as LineWake}
+use Rattle.call_office.specs.declared.office.Office.{Office}
+use Rattle.switchboard.specs.AgentClock.{tick_to}
+use Rattle.call_office.specs.Duties.{again_at, announced, begun, duty_answered, found, landed, lost}
+use Rattle.call_office.specs.Duties.{new_care, owed, routed_by, told_care, told_of, woken}
+use Rattle.call_office.specs.Orders.{Shown, again_of, cared, flight_of, ordered}
+use Rattle.switchboard.specs.Wakes.{behind_woken, first_woken}
 
 -- the moment of the clock of the gateway's agent; what is kept of the lines; and to which of them a command is sent again, and when
 pub record Desk : Type 0 where

@@ -6,10 +6,10 @@ use Rattle.call_routing.specs.declared.told.Told.TheVariants.{Flash}
 use Rattle.call_routing.specs.Exchange.{ExchangeState}
 use Rattle.call_laws.specs.Turns.{after, sends, tells}
 use Rattle.call_laws.specs.Example.{opened}
-use Rattle.live_agent.specs.declared.care.Care.{Care}
-use Rattle.live_agent.specs.declared.care.Duty.TheVariants.{Route}
-use Rattle.live_agent.specs.declared.gateway.Wake.{Wake}
-use Rattle.live_agent.specs.Duties.{new_care}
+use Rattle.call_office.specs.declared.care.Care.{Care}
+use Rattle.call_office.specs.declared.care.Duty.TheVariants.{Route}
+use Rattle.switchboard.specs.declared.gateway.Wake.{Wake}
+use Rattle.call_office.specs.Duties.{new_care}
 use Rattle.desk_laws.specs.Desk.{Desk, DeskTurn, after_turns, answers, begins, happens, opening_desk, ticks}
 
 abbrev pub desk_then : List DeskTurn → Desk

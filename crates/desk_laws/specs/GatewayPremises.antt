@@ -7,11 +7,11 @@ use Rattle.call_routing.specs.declared.command.Outcome.TheVariants.{Answered}
 use Rattle.call_routing.specs.declared.phase.Phase.{Phase}
 use Rattle.call_routing.specs.declared.told.Told.TheVariants.{Flash}
 use Rattle.call_routing.specs.Exchange.{ExchangeState, answered, cleared_at, opening, sent_to, told}
-use Rattle.live_agent.specs.declared.care.Care.{Care}
-use Rattle.live_agent.specs.declared.gateway.Gateway.{Gateway}
-use Rattle.live_agent.specs.declared.office.Office.{Office}
-use Rattle.live_agent.specs.Duties.{begun, new_care}
-use Rattle.live_agent.specs.Example.{audited, cleared}
+use Rattle.call_office.specs.declared.care.Care.{Care}
+use Rattle.switchboard.specs.declared.gateway.Gateway.{Gateway}
+use Rattle.call_office.specs.declared.office.Office.{Office}
+use Rattle.call_office.specs.Duties.{begun, new_care}
+use Rattle.call_office.specs.Example.{audited, cleared}
 use Rattle.desk_laws.specs.Desk.{GoesOn, desk_of}
 use Rattle.desk_laws.specs.Gateways.{Has, StepAt, at_gateway}
 use Rattle.desk_laws.specs.GatewaysExample.{IsOffice, third_is}

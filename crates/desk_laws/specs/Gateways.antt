@@ -1,9 +1,9 @@
--- The gateways of an exchange, each of which has some of its lines, and what calls of live_agent do to them and to the exchange, one after
+-- The gateways of an exchange, each of which has some of its lines, and what calls of switchboard do to them and to the exchange, one after
 -- another, whichever gateway each is of.
 use Rattle.std.specs.Prelude.{◌≡◌, ℕ, zero, suc, ◌+◌, ◌<◌, ◌≤◌, List, [], ◌∷◌, Some, slice_get}
 use Rattle.std.specs.Global.{Box}
-use Rattle.live_agent.specs.declared.gateway.Gateway.{Gateway}
-use Rattle.live_agent.specs.declared.office.Office.{Office}
+use Rattle.switchboard.specs.declared.gateway.Gateway.{Gateway}
+use Rattle.call_office.specs.declared.office.Office.{Office}
 use Rattle.desk_laws.specs.Steps.{DoesAnyhow, Stands, Step, announces_lines, gives_up, goes_on_to, hears_line}
 use Rattle.desk_laws.specs.Steps.{issues_to, settles, takes_answer, tells_of, wakens}
 

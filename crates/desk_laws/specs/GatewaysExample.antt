@@ -7,12 +7,13 @@ use Rattle.call_routing.specs.declared.phase.Phase.TheVariants.{InCall}
 use Rattle.call_routing.specs.declared.phase.Side.TheVariants.{Called}
 use Rattle.call_routing.specs.declared.told.Told.TheVariants.{Dialled, OffHook}
 use Rattle.call_routing.specs.Exchange.{ExchangeState, opening, sent_to, told}
-use Rattle.live_agent.specs.declared.care.Care.{Care}
-use Rattle.live_agent.specs.declared.gateway.Gateway.{Gateway}
-use Rattle.live_agent.specs.declared.gateway.Wake.{Wake}
-use Rattle.live_agent.specs.declared.office.Office.{Office}
-use Rattle.live_agent.specs.Duties.{begun, new_care, told_care}
-use Rattle.live_agent.specs.Example.{deleted_later, wake_at}
+use Rattle.call_office.specs.declared.care.Care.{Care}
+use Rattle.switchboard.specs.declared.gateway.Gateway.{Gateway}
+use Rattle.switchboard.specs.declared.gateway.Wake.{Wake}
+use Rattle.call_office.specs.declared.office.Office.{Office}
+use Rattle.call_office.specs.Duties.{begun, new_care, told_care}
+use Rattle.call_office.specs.Example.{deleted_later}
+use Rattle.switchboard.specs.Example.{wake_at}
 use Rattle.desk_laws.specs.Example.{routed_care}
 use Rattle.desk_laws.specs.Gateways.{StepAt, at_gateway}
 use Rattle.desk_laws.specs.Steps.{hears_line, issues_to, takes_answer}

@@ -1,6 +1,6 @@
 -- What the worked examples of what happens to a line speak of: line 0 of a gateway with two.
 use Rattle.std.specs.Prelude.{false, List, [], ◌∷◌, ◌++◌, Option, None, slice_get}
-use Rattle.live_agent.specs.declared.care.Care.{Care}
+use Rattle.call_office.specs.declared.care.Care.{Care}
 use Rattle.desk_laws.specs.Desk.{DeskTurn, answers, begins, happens}
 use Rattle.desk_laws.specs.Example.{desk_then}
 

@@ -1,12 +1,13 @@
--- What the worked examples of the calls of live_agent speak of.
+-- What the worked examples of the calls of switchboard speak of.
 use Rattle.std.specs.Prelude.{◌≡◌, ℕ, ◌+◌, true, List, [], ◌∷◌, ◌++◌, Some}
 use Rattle.call_routing.specs.Fates.{most_put_off}
-use Rattle.live_agent.specs.declared.care.Care.{Care}
-use Rattle.live_agent.specs.declared.care.Duty.TheVariants.{Audit}
-use Rattle.live_agent.specs.declared.gateway.Gateway.{Gateway}
-use Rattle.live_agent.specs.declared.gateway.Wake.{Wake}
-use Rattle.live_agent.specs.declared.office.Office.{Office}
-use Rattle.live_agent.specs.Example.{audited, deleted_later, deleted_now, wake_at}
+use Rattle.call_office.specs.declared.care.Care.{Care}
+use Rattle.call_office.specs.declared.care.Duty.TheVariants.{Audit}
+use Rattle.switchboard.specs.declared.gateway.Gateway.{Gateway}
+use Rattle.switchboard.specs.declared.gateway.Wake.{Wake}
+use Rattle.call_office.specs.declared.office.Office.{Office}
+use Rattle.call_office.specs.Example.{audited, deleted_later, deleted_now}
+use Rattle.switchboard.specs.Example.{wake_at}
 
 -- a gateway at this moment with these to which a command is sent again, and an exchange of whose lines this is kept
 pub record AreSo (gateway : Gateway) (office : Office) (now : ℕ) (cares : List Care) (wakes : List Wake) : Type 0 where

@@ -1,15 +1,16 @@
--- What calls of live_agent do, one after another, to a gateway that has all lines of an exchange, and to the exchange: each as its clause
+-- What calls of switchboard do, one after another, to a gateway that has all lines of an exchange, and to the exchange: each as its clause
 -- says it of the program.
 use Rattle.std.specs.Prelude.{◌≡◌, ℕ, ◌≤◌, Bool, List, [], ◌∷◌, Some, slice_get}
 use Rattle.std.specs.Global.{Box}
 use Rattle.endpoint_names.specs.declared.name.Pattern.{Pattern}
-use Rattle.live_agent.specs.declared.care.Care.{Care}
-use Rattle.live_agent.specs.declared.care.Duty.{Duty}
-use Rattle.live_agent.specs.declared.gateway.Gateway.{Gateway}
-use Rattle.live_agent.specs.declared.office.Office.{Office}
-use Rattle.live_agent.specs.AgentClock.{tick_to}
-use Rattle.live_agent.specs.Boards.{Answers, SettlesIn, WakesIn, woken_at}
-use Rattle.live_agent.specs.Steps.{Announces, Forgets, HearsSome, Issues, OfOffice, Ticks, ToldOf, Wakens}
+use Rattle.call_office.specs.declared.care.Care.{Care}
+use Rattle.call_office.specs.declared.care.Duty.{Duty}
+use Rattle.switchboard.specs.declared.gateway.Gateway.{Gateway}
+use Rattle.call_office.specs.declared.office.Office.{Office}
+use Rattle.switchboard.specs.AgentClock.{tick_to}
+use Rattle.switchboard.specs.Boards.{Answers, SettlesIn, WakesIn, woken_at}
+use Rattle.call_office.specs.Steps.{Forgets, HearsSome, ToldOf}
+use Rattle.switchboard.specs.Steps.{Announces, Issues, OfOffice, Ticks, Wakens}
 
 -- A line's command is given up. Lines that a name means are announced. What a line told is taken. How a line stands is told. A line is sent
 -- what it is to be sent, or that can't be issued. Those that wait are settled from now on. What is in flight to a line is answered. What

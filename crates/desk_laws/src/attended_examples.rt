@@ -5,9 +5,9 @@
 ghost use Rattle.std.specs.Prelude.{◌≡◌, ◌∷◌, ◌++◌, [], false, true, None, Some, option_map};
 ghost use Rattle.call_routing.specs.Exchange.{opening};
 ghost use Rattle.call_laws.specs.Turns as calls;
-ghost use Rattle.live_agent.specs.declared.care.Care.{Care};
-ghost use Rattle.live_agent.specs.declared.care.Duty.TheVariants.{Audit, Clear, Route};
-ghost use Rattle.live_agent.specs.Duties.{new_care};
+ghost use Rattle.call_office.specs.declared.care.Care.{Care};
+ghost use Rattle.call_office.specs.declared.care.Duty.TheVariants.{Audit, Clear, Route};
+ghost use Rattle.call_office.specs.Duties.{new_care};
 ghost use Rattle.desk_laws.specs.Attended.{AreApart, WaitsFor, care_in, displays, elsewhere, gives_up, hears_announced, hears_answer};
 ghost use Rattle.desk_laws.specs.Attended.{hears_told, is_apart, lets_pass, misses_told, settles, wakes_line};
 ghost use Rattle.desk_laws.specs.AttendedExample.{again_at_then, asked_then, asking, attended_then, auditing, auditing_done};

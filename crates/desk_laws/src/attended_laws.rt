@@ -7,19 +7,19 @@ ghost use Rattle.call_routing.specs.declared.phase.Phase.{Phase};
 ghost use Rattle.call_routing.specs.declared.told.Told.{Told};
 ghost use Rattle.call_routing.specs.Exchange.{ExchangeState, due, line_of, opening, phase_of, sent_to};
 ghost use Rattle.call_laws.specs.Turns.{Turn, after, is_in_flight};
-ghost use Rattle.live_agent.specs.declared.care.Care.{Care};
-ghost use Rattle.live_agent.specs.declared.care.Duty.{Duty};
-ghost use Rattle.live_agent.specs.declared.care.Duty.TheVariants.{Audit, Clear, Route};
-ghost use Rattle.live_agent.specs.declared.gateway.Gateway.{Gateway};
-ghost use Rattle.live_agent.specs.declared.gateway.Wake.{Wake};
-ghost use Rattle.live_agent.specs.declared.office.Office.{Office};
-ghost use Rattle.live_agent.specs.Boards.{Answers};
-ghost use Rattle.live_agent.specs.Duties.{announced, begun, landed, lost, owed, told_care, told_of, woken};
-ghost use Rattle.live_agent.specs.Hooks.{notified};
-ghost use Rattle.live_agent.specs.Orders.{cared, duty_of, flight_of, was_found_off};
-ghost use Rattle.live_agent.specs.Showing.{shown_in};
-ghost use Rattle.live_agent.specs.Turns.{announced_by, forsaken, heard_by};
-ghost use Rattle.live_agent.specs.Wakes.{behind_woken, first_woken};
+ghost use Rattle.call_office.specs.declared.care.Care.{Care};
+ghost use Rattle.call_office.specs.declared.care.Duty.{Duty};
+ghost use Rattle.call_office.specs.declared.care.Duty.TheVariants.{Audit, Clear, Route};
+ghost use Rattle.switchboard.specs.declared.gateway.Gateway.{Gateway};
+ghost use Rattle.switchboard.specs.declared.gateway.Wake.{Wake};
+ghost use Rattle.call_office.specs.declared.office.Office.{Office};
+ghost use Rattle.switchboard.specs.Boards.{Answers};
+ghost use Rattle.call_office.specs.Duties.{announced, begun, landed, lost, owed, told_care, told_of, woken};
+ghost use Rattle.call_office.specs.Hooks.{notified};
+ghost use Rattle.call_office.specs.Orders.{cared, duty_of, flight_of, was_found_off};
+ghost use Rattle.call_office.specs.Showing.{shown_in};
+ghost use Rattle.call_office.specs.Turns.{announced_by, forsaken, heard_by};
+ghost use Rattle.switchboard.specs.Wakes.{behind_woken, first_woken};
 ghost use Rattle.desk_laws.specs.Attended.{AreApart, AttendedTurn, WaitsFor, attended_by, attended_of, attended_one};
 ghost use Rattle.desk_laws.specs.Attended.{attended_with, care_in, displays, gives_up, hears_announced};
 ghost use Rattle.desk_laws.specs.Attended.{hears_answer, hears_told, misses_told, settles, wakes_line};
@@ -44,7 +44,7 @@ pub fn both_take_turns_of_their_own()
         × ((attended_by count last lines turns).desk ≡ after_turns (opening_desk lines) more) }
 {}
 
-/// Each turn of both is what a call of `live_agent` leaves, in the words of that call's clauses: what is sent to a line that is settled;
+/// Each turn of both is what a call of `switchboard` leaves, in the words of that call's clauses: what is sent to a line that is settled;
 /// what is given up; what a line told, or memory was refused for; an announcement; how a line stands; and what is sent again.
 pub fn each_turn_is_what_a_call_leaves()
     ensures held { (exchange : ExchangeState) (desk : Desk) (line : ℕ) → duty_of (slice_get desk.cares line) ≡ None →

@@ -2,10 +2,10 @@
 #![tactic(auto, unfolding(crate::proofs::Computing::on_examples))]
 
 ghost use Rattle.std.specs.Prelude.{◌≡◌, ◌++◌, ◌∷◌, [], false, true, None, Some, option_map, slice_get};
-ghost use Rattle.live_agent.specs.declared.care.Care.{Care};
-ghost use Rattle.live_agent.specs.declared.care.Duty.TheVariants.{Clear};
-ghost use Rattle.live_agent.specs.Duties.{begun, new_care};
-ghost use Rattle.live_agent.specs.Wakes.{first_woken};
+ghost use Rattle.call_office.specs.declared.care.Care.{Care};
+ghost use Rattle.call_office.specs.declared.care.Duty.TheVariants.{Clear};
+ghost use Rattle.call_office.specs.Duties.{begun, new_care};
+ghost use Rattle.switchboard.specs.Wakes.{first_woken};
 ghost use Rattle.call_laws.specs.Example.{opened, ready};
 ghost use Rattle.call_laws.specs.Turns.{is_in_flight};
 ghost use Rattle.desk_laws.specs.Desk.{GoesOn, IsHeldUntil, StandsAmong, announces, answers, begins, happens, ticks, wakes_next};

@@ -1,4 +1,4 @@
-//! Laws of the program's exchange and desks, for every list of calls of `live_agent`, as their clauses say them, from the start on: of any
+//! Laws of the program's exchange and desks, for every list of calls of `switchboard`, as their clauses say them, from the start on: of any
 //! number of gateways, each of which has some of the exchange's lines, a clock of its own, and what it sends again.
 ghost use Rattle.std.specs.Prelude.{◌≡◌, ◌∷◌, ◌++◌, ◌<◌, [], ℕ, List, replicate, slice_get, false, None, Some, true};
 ghost use Rattle.std.specs.Global.{Box};
@@ -6,13 +6,13 @@ ghost use Rattle.call_routing.specs.declared.line.Line.{Line};
 ghost use Rattle.call_routing.specs.declared.phase.Phase.{Phase};
 ghost use Rattle.call_routing.specs.Exchange.{line_of, opening, phase_of};
 ghost use Rattle.call_laws.specs.Turns.{Turn, after, is_in_flight};
-ghost use Rattle.live_agent.specs.declared.care.Care.{Care};
-ghost use Rattle.live_agent.specs.declared.care.Duty.TheVariants.{Route};
-ghost use Rattle.live_agent.specs.declared.gateway.Gateway.{Gateway};
-ghost use Rattle.live_agent.specs.declared.office.Office.{Office};
-ghost use Rattle.live_agent.specs.Duties.{new_care};
-ghost use Rattle.live_agent.specs.Orders.{flight_of};
-ghost use Rattle.live_agent.specs.Wakes.{first_woken};
+ghost use Rattle.call_office.specs.declared.care.Care.{Care};
+ghost use Rattle.call_office.specs.declared.care.Duty.TheVariants.{Route};
+ghost use Rattle.switchboard.specs.declared.gateway.Gateway.{Gateway};
+ghost use Rattle.call_office.specs.declared.office.Office.{Office};
+ghost use Rattle.call_office.specs.Duties.{new_care};
+ghost use Rattle.call_office.specs.Orders.{flight_of};
+ghost use Rattle.switchboard.specs.Wakes.{first_woken};
 ghost use Rattle.desk_laws.specs.Attended.{WaitsFor};
 ghost use Rattle.desk_laws.specs.Desk.{GoesOn, IsHeldUntil, desk_of};
 ghost use Rattle.desk_laws.specs.Gateways.{DoesOwn, Has, HaveLines, ShareNoLine, StepAt, StepsDo, at_gateway};

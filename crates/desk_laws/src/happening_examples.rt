@@ -2,9 +2,9 @@
 #![tactic(auto, unfolding(crate::proofs::Computing::on_examples))]
 
 ghost use Rattle.std.specs.Prelude.{◌≡◌, ◌++◌, ◌∷◌, [], Bool, false, true, None, Some, option_map};
-ghost use Rattle.live_agent.specs.declared.care.Care.{Care};
-ghost use Rattle.live_agent.specs.declared.care.Duty.TheVariants.{Audit, Clear, Route};
-ghost use Rattle.live_agent.specs.declared.care.Shown.{Shown};
+ghost use Rattle.call_office.specs.declared.care.Care.{Care};
+ghost use Rattle.call_office.specs.declared.care.Duty.TheVariants.{Audit, Clear, Route};
+ghost use Rattle.call_office.specs.declared.care.Shown.{Shown};
 ghost use Rattle.desk_laws.specs.Desk.{announces, answers, begins, finds, happens, lands, loses, owes_audit, shows, tells};
 ghost use Rattle.desk_laws.specs.HappeningExample.{care_then, is_audited, is_cleared};
 

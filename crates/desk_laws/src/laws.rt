@@ -4,13 +4,13 @@ ghost use Rattle.call_routing.specs.declared.line.Line.{Line};
 ghost use Rattle.call_routing.specs.declared.phase.Phase.{Phase};
 ghost use Rattle.call_routing.specs.Exchange.{ExchangeState, line_of, phase_of};
 ghost use Rattle.call_laws.specs.Turns.{is_in_flight};
-ghost use Rattle.live_agent.specs.declared.care.Care.{Care};
-ghost use Rattle.live_agent.specs.declared.care.Duty.{Duty};
-ghost use Rattle.live_agent.specs.declared.gateway.Gateway.{Gateway};
-ghost use Rattle.live_agent.specs.declared.gateway.Wake.{Wake};
-ghost use Rattle.live_agent.specs.declared.office.Office.{Office};
-ghost use Rattle.live_agent.specs.Boards.{Answers};
-ghost use Rattle.live_agent.specs.Wakes.{first_woken};
+ghost use Rattle.call_office.specs.declared.care.Care.{Care};
+ghost use Rattle.call_office.specs.declared.care.Duty.{Duty};
+ghost use Rattle.switchboard.specs.declared.gateway.Gateway.{Gateway};
+ghost use Rattle.switchboard.specs.declared.gateway.Wake.{Wake};
+ghost use Rattle.call_office.specs.declared.office.Office.{Office};
+ghost use Rattle.switchboard.specs.Boards.{Answers};
+ghost use Rattle.switchboard.specs.Wakes.{first_woken};
 ghost use Rattle.desk_laws.specs.Desk.{Desk, DeskTurn, GoesOn, IsHeldUntil, after_turn, after_turns, desk_of, opening_desk, wakes_next};
 
 /// What was put off of a line is sent again at a moment, 1,000 ms away at most, and the line stands among those of its gateway to which

@@ -1,7 +1,7 @@
 //! Laws of the desk of a call agent: what is kept of its lines beside what the exchange knows, and when what was put off is sent again.
 //!
 //! Nothing here runs: each law is a function without a body, whose clauses are proved for every list of turns. `specs/` says what a turn
-//! is: each is what a call of `live_agent` does, by its clauses.
+//! is: each is what a call of `switchboard` does, by its clauses.
 #![tactic(auto)]
 
 pub mod attended_examples;

@@ -1,4 +1,4 @@
-//! Laws of the exchange and the desk that the program has, for every list of calls of `live_agent`, as their clauses say them, from the
+//! Laws of the exchange and the desk that the program has, for every list of calls of `switchboard`, as their clauses say them, from the
 //! start on. They are of a gateway that has all lines of the exchange.
 ghost use Rattle.std.specs.Prelude.{◌≡◌, [], ℕ, List, replicate, slice_get, Some, true};
 ghost use Rattle.std.specs.Global.{Box};
@@ -6,12 +6,12 @@ ghost use Rattle.call_routing.specs.declared.line.Line.{Line};
 ghost use Rattle.call_routing.specs.declared.phase.Phase.{Phase};
 ghost use Rattle.call_routing.specs.Exchange.{line_of, opening, phase_of};
 ghost use Rattle.call_laws.specs.Turns.{is_in_flight};
-ghost use Rattle.live_agent.specs.declared.care.Care.{Care};
-ghost use Rattle.live_agent.specs.declared.care.Duty.TheVariants.{Route};
-ghost use Rattle.live_agent.specs.declared.gateway.Gateway.{Gateway};
-ghost use Rattle.live_agent.specs.declared.office.Office.{Office};
-ghost use Rattle.live_agent.specs.Duties.{new_care};
-ghost use Rattle.live_agent.specs.Orders.{flight_of};
+ghost use Rattle.call_office.specs.declared.care.Care.{Care};
+ghost use Rattle.call_office.specs.declared.care.Duty.TheVariants.{Route};
+ghost use Rattle.switchboard.specs.declared.gateway.Gateway.{Gateway};
+ghost use Rattle.call_office.specs.declared.office.Office.{Office};
+ghost use Rattle.call_office.specs.Duties.{new_care};
+ghost use Rattle.call_office.specs.Orders.{flight_of};
 ghost use Rattle.desk_laws.specs.Attended.{AreApart, AttendedTurn, attended_by, attended_of};
 ghost use Rattle.desk_laws.specs.Desk.{GoesOn, desk_of};
 ghost use Rattle.desk_laws.specs.Steps.{Runs, RunsAnyhow, RunsForward, Step};

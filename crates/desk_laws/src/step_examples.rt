@@ -1,4 +1,4 @@
-//! Worked examples of the turns that the calls of `live_agent` are, as theorems: a gateway and an exchange as a law has them, of which so
+//! Worked examples of the turns that the calls of `switchboard` are, as theorems: a gateway and an exchange as a law has them, of which so
 //! much is known.
 #![tactic(auto, unfolding(crate::proofs::Computing::on_examples))]
 
@@ -6,15 +6,17 @@ ghost use Rattle.std.specs.Prelude.{◌≡◌, [], ◌∷◌, ℕ, Bool, List, t
 ghost use Rattle.std.specs.Global.{Box};
 ghost use Rattle.call_routing.specs.declared.command.Outcome.{Outcome};
 ghost use Rattle.call_routing.specs.declared.told.Told.{Told};
-ghost use Rattle.live_agent.specs.declared.care.Care.{Care};
-ghost use Rattle.live_agent.specs.declared.care.Duty.TheVariants.{Audit};
-ghost use Rattle.live_agent.specs.declared.gateway.Gateway.{Gateway};
-ghost use Rattle.live_agent.specs.declared.office.Office.{Office};
-ghost use Rattle.live_agent.specs.Boards.{Answers};
-ghost use Rattle.live_agent.specs.Duties.{begun, lost, new_care, outlived, owed, told_care};
-ghost use Rattle.live_agent.specs.Example.{audited, deleted_later, deleted_now, wake_at};
-ghost use Rattle.live_agent.specs.Orders.{flight_of};
-ghost use Rattle.live_agent.specs.Steps.{Begins, OfOffice, Ticks};
+ghost use Rattle.call_office.specs.declared.care.Care.{Care};
+ghost use Rattle.call_office.specs.declared.care.Duty.TheVariants.{Audit};
+ghost use Rattle.switchboard.specs.declared.gateway.Gateway.{Gateway};
+ghost use Rattle.call_office.specs.declared.office.Office.{Office};
+ghost use Rattle.switchboard.specs.Boards.{Answers};
+ghost use Rattle.call_office.specs.Duties.{begun, lost, new_care, outlived, owed, told_care};
+ghost use Rattle.call_office.specs.Example.{audited, deleted_later, deleted_now};
+ghost use Rattle.switchboard.specs.Example.{wake_at};
+ghost use Rattle.call_office.specs.Orders.{flight_of};
+ghost use Rattle.call_office.specs.Steps.{Begins};
+ghost use Rattle.switchboard.specs.Steps.{OfOffice, Ticks};
 ghost use Rattle.desk_laws.specs.Attended.{attended_of, attended_one, attended_with, hears_answer};
 ghost use Rattle.desk_laws.specs.Desk.{DeskTurn, after_turns, announces, answers, begins, desk_of, happens};
 ghost use Rattle.desk_laws.specs.Desk.{lands, loses, opening_desk, owes_audit, tells, ticks, wakes_next};

@@ -1,14 +1,15 @@
-//! Laws of what the calls of `live_agent` do to a desk, as their clauses say it of the program: each is turns of the desk, whatever turns
+//! Laws of what the calls of `switchboard` do to a desk, as their clauses say it of the program: each is turns of the desk, whatever turns
 //! were before. Each is of a gateway that has all lines of the exchange.
 ghost use Rattle.std.specs.Prelude.{◌≡◌, ◌≤◌, ℕ, Bool, List, [], replicate, Some};
 ghost use Rattle.std.specs.Global.{Box};
 ghost use Rattle.endpoint_names.specs.declared.name.Pattern.{Pattern};
-ghost use Rattle.live_agent.specs.declared.gateway.Gateway.{Gateway};
-ghost use Rattle.live_agent.specs.declared.office.Office.{Office};
-ghost use Rattle.live_agent.specs.AgentClock.{tick_to};
-ghost use Rattle.live_agent.specs.Boards.{WakesIn, woken_at};
-ghost use Rattle.live_agent.specs.Steps.{Announces, Forgets, HearsSome, Issues, OfOffice, ToldOf, Ticks, Wakens};
-ghost use Rattle.live_agent.specs.Duties.{new_care};
+ghost use Rattle.switchboard.specs.declared.gateway.Gateway.{Gateway};
+ghost use Rattle.call_office.specs.declared.office.Office.{Office};
+ghost use Rattle.switchboard.specs.AgentClock.{tick_to};
+ghost use Rattle.switchboard.specs.Boards.{WakesIn, woken_at};
+ghost use Rattle.call_office.specs.Steps.{Forgets, HearsSome, ToldOf};
+ghost use Rattle.switchboard.specs.Steps.{Announces, Issues, OfOffice, Ticks, Wakens};
+ghost use Rattle.call_office.specs.Duties.{new_care};
 ghost use Rattle.desk_laws.specs.Desk.{DeskTurn, after_turns, desk_of, opening_desk};
 ghost use Rattle.desk_laws.specs.Steps.{Runs, Step};
 

@@ -5,14 +5,14 @@ use Rattle.std.specs.Global.{Box, Vec}
 use Rattle.std.specs.declared.net.socket_addr.SocketAddr.{SocketAddr}
 use Rattle.std.specs.declared.net.socket_addr.SocketAddrV4.{SocketAddrV4}
 use Rattle.mg_bytes.specs.Lines.{line_of}
-use Rattle.live_agent.specs.declared.gateway.Gateway.{Gateway}
+use Rattle.switchboard.specs.declared.gateway.Gateway.{Gateway}
 use Rattle.live_agent.specs.declared.loading.Load.{Load}
-use Rattle.live_agent.specs.declared.office.Office.{Office}
+use Rattle.call_office.specs.declared.office.Office.{Office}
 use Rattle.live_agent.specs.declared.session.Request.{Request}
 use Rattle.live_agent.specs.declared.session.Request.TheVariants.{Nothing}
-use Rattle.live_agent.specs.declared.switchboard.Switchboard.{Switchboard}
+use Rattle.switchboard.specs.declared.switchboard.Switchboard.{Switchboard}
 use Rattle.live_agent.specs.declared.wire.Wire.{Wire}
-use Rattle.live_agent.specs.GivingUp.{GivesUp}
+use Rattle.switchboard.specs.GivingUp.{GivesUp}
 use Rattle.live_agent.specs.Sending.{SettlesLines}
 use Rattle.live_agent.specs.Turning.{line_request, first_request, AnswersFirst, HearsTyped, TakesTyped}
 

@@ -13,15 +13,16 @@ use Rattle.gateway_rules.specs.declared.refusal.Refusal.{Refusal}
 use Rattle.surroundings.specs.declared.surroundings.Fault.{Fault}
 use Rattle.transmission.specs.declared.output.OutDatagram.{OutDatagram}
 use Rattle.transmission.specs.Texts.{texts_of}
-use Rattle.live_agent.specs.declared.switchboard.Switchboard.{Switchboard}
+use Rattle.switchboard.specs.declared.switchboard.Switchboard.{Switchboard}
 use Rattle.live_agent.specs.declared.wire.Wire.{Wire}
-use Rattle.live_agent.specs.Boards.{is_at, taking_in}
-use Rattle.live_agent.specs.Hearing.{HearsText}
+use Rattle.switchboard.specs.Boards.{is_at, taking_in}
+use Rattle.switchboard.specs.Hearing.{HearsText}
 use Rattle.live_agent.specs.Sending.{SendsOver, SendsOutputs, SettlesLines}
-use Rattle.live_agent.specs.Steps.{AtPlace, OthersStay}
-use Rattle.live_agent.specs.Taking.{taken_place, TakesOf}
-use Rattle.live_agent.specs.Tallying.{counted_if, looked_counted, CountsOffer}
-use Rattle.live_agent.specs.Waiting.{Settles}
+use Rattle.switchboard.specs.Steps.{AtPlace, OthersStay}
+use Rattle.switchboard.specs.Taking.{taken_place, TakesOf}
+use Rattle.switchboard.specs.Tallying.{counted_if}
+use Rattle.live_agent.specs.Tallying.{looked_counted, CountsOffer}
+use Rattle.call_office.specs.Waiting.{Settles}
 use Rattle.live_agent.specs.Wiring.{heard_at, read_at}
 
 -- What its texts are

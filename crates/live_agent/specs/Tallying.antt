@@ -1,5 +1,5 @@
--- What counts: in general, and of what goes over a wire.
-use Rattle.std.specs.Prelude.{◌≡◌, ◌⊎◌, ℕ, ◌==◌, Bool, false, if◌then◌else◌, Option, Some, None, Result, Ok, Err}
+-- What counts of what goes over a wire.
+use Rattle.std.specs.Prelude.{◌≡◌, ◌⊎◌, ℕ, ◌==◌, Bool, if◌then◌else◌, Option, Some, None, Result, Ok, Err}
 use Rattle.std.specs.declared.net.socket_addr.SocketAddrV4.{SocketAddrV4}
 use Rattle.agent_texts.specs.declared.tally.Tally.{Tally}
 use Rattle.agent_texts.specs.Counts.{one_more, with_handed_out}
@@ -9,10 +9,6 @@ use Rattle.bad_network.specs.declared.network.BadNetwork.{BadNetwork}
 use Rattle.bad_network.specs.Drawing.{draws_of}
 use Rattle.bad_network.specs.Fates.{fate_of}
 use Rattle.surroundings.specs.declared.surroundings.Fault.{Fault}
-
--- something counts once, where it is so
-abbrev pub counted_if : Bool → (Tally → Tally) → Tally → Tally
-counted_if is_so count tally = if is_so then count tally else tally
 
 -- a command was issued; something was refused for want of memory; a datagram didn't leave, or none could be looked for
 abbrev pub with_command : Tally → Tally

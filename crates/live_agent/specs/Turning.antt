@@ -22,7 +22,7 @@ use Rattle.agent_texts.specs.declared.journal.Journal.{Journal}
 use Rattle.live_agent.specs.declared.loading.Load.{Load}
 use Rattle.live_agent.specs.declared.session.Request.{Request}
 use Rattle.live_agent.specs.declared.session.Request.TheVariants.{Nothing, Counts, Stop, StopFromAfar, Command}
-use Rattle.live_agent.specs.declared.switchboard.Switchboard.{Switchboard}
+use Rattle.switchboard.specs.declared.switchboard.Switchboard.{Switchboard}
 use Rattle.live_agent.specs.declared.wire.Wire.{Wire}
 use Rattle.live_agent.specs.Ending.{counted_in}
 use Rattle.live_agent.specs.Clock.{is_behind}

@@ -1,61 +1,18 @@
--- What a command is to a board that was typed, and what is answered to who typed it.
-use Rattle.std.specs.Prelude.{◌≡◌, ◌⊎◌, ℕ, false, codes, decimal, List, [], ◌∷◌, ◌++◌, Option, Some, None, IsSomeAnd, Result, Ok, Err, slice_get}
+-- What is answered to who typed a command.
+use Rattle.std.specs.Prelude.{◌≡◌, ◌⊎◌, ℕ, false, codes, decimal, List, [], ◌∷◌, ◌++◌, Result, Ok, Err}
 use Rattle.std.specs.declared.net.socket_addr.SocketAddr.{SocketAddr}
 use Rattle.mg_bytes.specs.Lines.{cut, line_of}
 use Rattle.call_agent.specs.declared.issuing.Issued.{Issued}
-use Rattle.call_agent.specs.AgentStands.{AgentStays, AgentTook}
-use Rattle.call_agent.specs.Hearing.{issues}
 use Rattle.surroundings.specs.Hearing.{AnswersTo}
 use Rattle.surroundings.specs.Typing.{left_of}
-use Rattle.live_agent.specs.declared.gateway.Gateway.{Gateway}
-use Rattle.live_agent.specs.declared.switchboard.Switchboard.{Switchboard}
-use Rattle.live_agent.specs.declared.typed.TypedFault.{TypedFault}
-use Rattle.live_agent.specs.declared.typed.TypedFault.TheVariants.{OutOfMemory, NoMoreIds, BadCommand, NoSuchGateway, Unknown}
+use Rattle.switchboard.specs.declared.switchboard.Switchboard.{Switchboard}
+use Rattle.switchboard.specs.declared.typed.TypedFault.{TypedFault}
+use Rattle.switchboard.specs.declared.typed.TypedFault.TheVariants.{OutOfMemory, NoMoreIds, BadCommand, NoSuchGateway, Unknown}
 use Rattle.live_agent.specs.declared.wire.Wire.{Wire}
-use Rattle.live_agent.specs.Issuing.{Flies}
-use Rattle.live_agent.specs.Meaning.{meant}
 use Rattle.live_agent.specs.Sending.{SendsOver}
-use Rattle.live_agent.specs.Steps.{OthersStay, Sends}
 use Rattle.live_agent.specs.Tallying.{with_command, CountsSent}
-use Rattle.live_agent.specs.Typed.{Command, typed_in, typed_text}
-
--- Who issues it
-
--- for these reasons the agent of a gateway issues none: memory is refused, all ids were used up, or it is no command
-abbrev pub IsOfAgent : TypedFault → Type 0
-IsOfAgent fault = (fault ≡ OutOfMemory) ⊎ ((fault ≡ NoMoreIds) ⊎ (fault ≡ BadCommand))
-
--- It is issued by the agent of this gateway, under the name with the gateway's domain, and is in flight to no line; or it isn't, and
--- nothing of it is in flight.
-abbrev pub IssuesNamed : List ℕ → List ℕ → List ℕ → Result Issued TypedFault → Gateway → Gateway → Type 0
-IssuesNamed verb local rest (Ok issued) was is =
-    AgentTook was.agent.value (issues verb (local ++ 64 ∷ was.domain) rest) is.agent.value (issued.datagram ∷ []) × Flies None issued was is
-IssuesNamed verb local rest (Err fault) was is =
-    IsOfAgent fault × AgentStays was.agent.value is.agent.value × (is.flights.items ≡ was.flights.items)
-
--- No other gateway has changed, nor anything else of the board. Where there is no such gateway it is refused for that.
-abbrev pub IssuesThere : ℕ → List ℕ → List ℕ → List ℕ → Option Gateway → Result Issued TypedFault → Switchboard → Switchboard → Type 0
-IssuesThere place verb local rest None result was is = (result ≡ Err NoSuchGateway) × (is ≡ was)
-IssuesThere place verb local rest (Some gateway) result was is =
-    IsSomeAnd (slice_get is.gateways.items place) (λ after. IssuesNamed verb local rest result gateway after × Sends gateway after)
-    × OthersStay place was.gateways.items is.gateways.items × (is ≡ record was { gateways = is.gateways })
-
--- by the gateway that its name means; where it means none it is refused for that
-abbrev pub IssuesMeant : List ℕ → List ℕ → Option (ℕ × List ℕ) → Result Issued TypedFault → Switchboard → Switchboard → Type 0
-IssuesMeant verb rest None result was is = (result ≡ Err NoSuchGateway) × (is ≡ was)
-IssuesMeant verb rest (Some found) result was is =
-    IssuesThere found.0 verb found.1 rest (slice_get was.gateways.items found.0) result was is
-
--- what isn't a verb and a name is refused for that
-abbrev pub IssuesCommand : Option Command → Result Issued TypedFault → Switchboard → Switchboard → Type 0
-IssuesCommand None result was is = (result ≡ Err Unknown) × (is ≡ was)
-IssuesCommand (Some command) result was is =
-    IssuesMeant command.0 command.1.1 (meant was.gateways.items command.1.0) result was is
-
-abbrev pub IssuesTyped : List ℕ → Result Issued TypedFault → Switchboard → Switchboard → Type 0
-IssuesTyped text result was is = IssuesCommand (typed_in text) result was is
-
--- What is answered
+use Rattle.switchboard.specs.Typed.{typed_text}
+use Rattle.switchboard.specs.TypedCommands.{IssuesTyped}
 
 abbrev pub fault_text : TypedFault → List ℕ
 fault_text OutOfMemory = codes "! 1 OutOfMemory\n"

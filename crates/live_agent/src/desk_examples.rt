@@ -7,24 +7,25 @@ ghost use Rattle.std.specs.Global.{Box};
 ghost use Rattle.agent_texts.specs.declared.journal.Journal.{Journal};
 ghost use Rattle.mg_bytes.specs.Lines.{cut, line_of};
 ghost use Rattle.live_ends.specs.declared.written.Written.{Written};
-ghost use Rattle.live_agent.specs.declared.gateway.Gateway.{Gateway};
+ghost use Rattle.switchboard.specs.declared.gateway.Gateway.{Gateway};
 ghost use Rattle.live_agent.specs.declared.loading.Load.{Load};
 ghost use Rattle.live_agent.specs.declared.session.Request.TheVariants as requests;
-ghost use Rattle.live_agent.specs.declared.switchboard.Switchboard.{Switchboard};
+ghost use Rattle.switchboard.specs.declared.switchboard.Switchboard.{Switchboard};
 ghost use Rattle.live_agent.specs.declared.wire.Wire.{Wire};
 ghost use Rattle.live_agent.specs.AnyAround.{no_sockets, receives_any, hears_any, answers_any};
 ghost use Rattle.live_agent.specs.Datagrams.{with_stranger, DealsIf, HearsBy, HearsDatagram, HearsOne, HearsPacket, HearsTexts, SettlesIf, TakesEach, TakesElse, TakesFound, TakesReceived};
-ghost use Rattle.live_agent.specs.Hearing.{HearsText};
-ghost use Rattle.live_agent.specs.Dues.{FallsDueAt};
+ghost use Rattle.switchboard.specs.Hearing.{HearsText};
+ghost use Rattle.switchboard.specs.Dues.{FallsDueAt};
 ghost use Rattle.live_agent.specs.Ending.{counted_in, EndsWith};
 ghost use Rattle.live_agent.specs.Sending.{SendsAll, SendsOver, SettlesLines};
 ghost use Rattle.live_agent.specs.Turning.{line_request, first_request, DoesRequest, DoesTurn, TakesTyped, TellsCounts, TicksOver};
-ghost use Rattle.live_agent.specs.Typed.{typed_text};
-ghost use Rattle.live_agent.specs.TypedCommands.{fault_text, AnswersAll, AnswersIssued, IsTypedNext, IssuesCommand, IssuesMeant, IssuesThere};
+ghost use Rattle.switchboard.specs.Typed.{typed_text};
+ghost use Rattle.switchboard.specs.TypedCommands.{IssuesCommand, IssuesMeant, IssuesThere};
+ghost use Rattle.live_agent.specs.TypedCommands.{fault_text, AnswersAll, AnswersIssued, IsTypedNext};
 ghost use Rattle.live_agent.specs.Wiring.{longest_until, FallsDueFirst, IsWaitedFor};
 
-use crate::typed::TypedFault;
 use live_ends::CommonEnding;
+use switchboard::TypedFault;
 use turns::Turn;
 
 /// What is waited for, and how long.

@@ -7,28 +7,12 @@
 //! between telephones (`load_bench`) are a part of it.
 #![tactic(auto)]
 
-mod care;
 pub mod desk_examples;
-pub mod examples;
-mod flight;
-mod gateway;
-pub mod hearing_examples;
-mod hooks;
 mod loading;
-mod naming;
-mod office;
-mod orders;
-mod own_copy;
 mod recorder;
-mod responses;
 mod serving;
 mod session;
-pub mod step_examples;
-mod switchboard;
-mod taking;
-mod typed;
 mod wire;
-mod worklist;
 
 pub use crate::loading::{LoadEnding, load_agent, load_over};
 pub use crate::recorder::Recorder;

@@ -5,7 +5,6 @@ ghost use Rattle.live_ends.specs.Written.{faults_in};
 
 use crate::recorder::Recorder;
 use crate::session::serve;
-use crate::switchboard::Switchboard;
 use crate::wire::Wire;
 use agent_texts::{AgentConfig, Journal};
 use bad_network::{BadNetwork, Spoiling};
@@ -20,6 +19,7 @@ use std::net::{Net, SocketAddrV4};
 use std::rt::{Clock, Files};
 use std::time::Instant;
 use surroundings::Surroundings;
+use switchboard::Switchboard;
 
 /// Microseconds in a millisecond.
 pub(crate) const MICROSECONDS: u64 = 1000;

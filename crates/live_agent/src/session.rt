@@ -12,8 +12,6 @@ ghost use Rattle.live_agent.specs.Wiring.{due_of, ms_until, longest_until, IsSit
 
 use crate::loading::count_came;
 use crate::recorder::Recorder;
-use crate::switchboard::Switchboard;
-use crate::typed::{TypedFault, typed_text};
 use crate::wire::Wire;
 use agent_texts::count;
 use bad_network::Way;
@@ -24,6 +22,7 @@ use plain_machine::{Outputs, Refusal};
 use std::alloc::Global;
 use std::net::SocketAddrV4;
 use surroundings::{Fault, Lines, Surroundings};
+use switchboard::{Switchboard, TypedFault, typed_text};
 use transmission::texts;
 use turns::{Ready, Schedule, Situation, Turn, earlier};
 

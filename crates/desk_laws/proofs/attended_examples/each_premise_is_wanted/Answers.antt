@@ -2,7 +2,7 @@ use Rattle.std.proofs.Common.{[], ◌∷◌, ◌++◌, Some, None, inl, inr, ref
 use Rattle.std.proofs.lemmas.Option.{none-some}
 use Rattle.call_routing.specs.declared.asked.Asked.TheVariants.{Rest}
 use Rattle.call_routing.specs.declared.phase.Phase.TheVariants.{Dialling, Resting}
-use Rattle.live_agent.specs.Duties.{new_care}
+use Rattle.call_office.specs.Duties.{new_care}
 use Rattle.desk_laws.specs.Attended.{WaitsFor, wakes_line}
 use Rattle.desk_laws.specs.AttendedExample.{attended_then, due_again, flashing, stolen, waiting}
 use Rattle.desk_laws.specs.Desk.{GoesOn, opening_desk}

@@ -4,7 +4,7 @@ use Rattle.std.proofs.lemmas.Option.{none-some}
 use Rattle.call_routing.specs.declared.asked.Asked.TheVariants.{Rest}
 use Rattle.call_routing.specs.declared.phase.Phase.TheVariants.{Dialling, Resting}
 use Rattle.call_laws.specs.Example.{ready}
-use Rattle.live_agent.specs.declared.gateway.Wake.{Wake}
+use Rattle.switchboard.specs.declared.gateway.Wake.{Wake}
 use Rattle.desk_laws.specs.Desk.{Desk, GoesOn, IsHeldUntil}
 use Rattle.desk_laws.specs.Example.{asked_meanwhile, desk_then, desk_with, held_care, routed_care}
 use Rattle.desk_laws.proofs.Computing.{on_examples}

@@ -1,9 +1,9 @@
 use Rattle.std.proofs.Common.{◌≡◌, ◌≤◌, List, length, refl, sym, ap, ◌∙◌, arith}
 use Rattle.std.specs.Global.{Box}
 use Rattle.call_routing.specs.Exchange.{ExchangeState}
-use Rattle.live_agent.specs.declared.gateway.Gateway.{Gateway}
-use Rattle.live_agent.specs.declared.office.Office.{Office}
-use Rattle.live_agent.specs.AgentClock.{tick_to}
+use Rattle.switchboard.specs.declared.gateway.Gateway.{Gateway}
+use Rattle.call_office.specs.declared.office.Office.{Office}
+use Rattle.switchboard.specs.AgentClock.{tick_to}
 use Rattle.desk_laws.proofs.GatewayExampleLemmas.{has_so}
 use Rattle.desk_laws.proofs.gateway_examples.a_call_is_of_its_gateway.Goals as goal
 

@@ -2,9 +2,9 @@ use Rattle.std.proofs.Common.{List, [], ◌∷◌, inl, refl, sym, ap, arith}
 use Rattle.std.specs.Prelude.{slice_get}
 use Rattle.call_routing.specs.Exchange.{ExchangeState, phase_of}
 use Rattle.call_laws.specs.Turns.{is_in_flight}
-use Rattle.live_agent.specs.declared.care.Duty.TheVariants.{Route}
-use Rattle.live_agent.specs.declared.care.Care.{Care}
-use Rattle.live_agent.specs.Orders.{flight_of}
+use Rattle.call_office.specs.declared.care.Duty.TheVariants.{Route}
+use Rattle.call_office.specs.declared.care.Care.{Care}
+use Rattle.call_office.specs.Orders.{flight_of}
 use Rattle.desk_laws.specs.Desk.{desk_of}
 use Rattle.desk_laws.specs.GatewaysExample.{high, low}
 use Rattle.desk_laws.proofs.Computing.{on_examples}

@@ -1,11 +1,11 @@
 use Rattle.std.proofs.Common.{◌≡◌, ℕ, ◌+◌, ◌<◌, ◌≤◌, List, [], ◌∷◌, Some, refl, sym, ap, ◌∙◌, arith}
 use Rattle.std.specs.Prelude.{slice_get}
 use Rattle.call_routing.specs.Exchange.{ExchangeState, phase_of}
-use Rattle.live_agent.specs.declared.care.Care.{Care}
-use Rattle.live_agent.specs.declared.gateway.Wake.{Wake}
-use Rattle.live_agent.specs.AgentClock.{tick_to}
-use Rattle.live_agent.specs.Example.{wake_at}
-use Rattle.live_agent.specs.Wakes.{first_woken}
+use Rattle.call_office.specs.declared.care.Care.{Care}
+use Rattle.switchboard.specs.declared.gateway.Wake.{Wake}
+use Rattle.switchboard.specs.AgentClock.{tick_to}
+use Rattle.switchboard.specs.Example.{wake_at}
+use Rattle.switchboard.specs.Wakes.{first_woken}
 use Rattle.desk_laws.specs.Desk.{desk_of}
 use Rattle.desk_laws.specs.GatewaysExample.{at_moment, high, low, with_lines}
 use Rattle.desk_laws.proofs.GatewayExampleLemmas.{deletes_so, due_nowhere, due_too_late, forgets_so, has_so, new_waits, not_back, puts_off_so, rests_so, same_clock, still_there}

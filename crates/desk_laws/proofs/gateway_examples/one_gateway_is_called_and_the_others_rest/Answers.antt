@@ -1,6 +1,6 @@
 use Rattle.std.proofs.Common.{◌≡◌, List, length, refl, sym, ap, ◌∙◌, arith}
-use Rattle.live_agent.specs.declared.gateway.Wake.{Wake}
-use Rattle.live_agent.specs.AgentClock.{tick_to}
+use Rattle.switchboard.specs.declared.gateway.Wake.{Wake}
+use Rattle.switchboard.specs.AgentClock.{tick_to}
 use Rattle.desk_laws.proofs.GatewayExampleLemmas.{rests_so}
 use Rattle.desk_laws.proofs.gateway_examples.one_gateway_is_called_and_the_others_rest.Goals as goal
 

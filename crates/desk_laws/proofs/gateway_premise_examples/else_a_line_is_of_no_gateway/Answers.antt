@@ -1,7 +1,7 @@
 use Rattle.std.proofs.Common.{◌≡◌, ◌+◌, List, refl, ap, arith}
 use Rattle.std.specs.Prelude.{slice_get}
 use Rattle.call_routing.specs.Exchange.{ExchangeState, line_of, phase_of}
-use Rattle.live_agent.specs.declared.care.Care.{Care}
+use Rattle.call_office.specs.declared.care.Care.{Care}
 use Rattle.desk_laws.proofs.GatewayExampleLemmas.{has_so}
 use Rattle.desk_laws.proofs.GatewayPremiseLemmas.{of_neither}
 use Rattle.desk_laws.proofs.gateway_premise_examples.else_a_line_is_of_no_gateway.Goals as goal

@@ -4,8 +4,8 @@ use Rattle.call_routing.specs.declared.asked.Asked.TheVariants.{Rest}
 use Rattle.call_routing.specs.declared.line.Line.{Line}
 use Rattle.call_routing.specs.declared.phase.Phase.TheVariants.{Resting, Dialling}
 use Rattle.call_routing.specs.Exchange.{ExchangeState, line_of, opening, phase_of}
-use Rattle.live_agent.specs.declared.care.Care.{Care}
-use Rattle.live_agent.specs.Example.{audited}
+use Rattle.call_office.specs.declared.care.Care.{Care}
+use Rattle.call_office.specs.Example.{audited}
 use Rattle.desk_laws.specs.Desk.{GoesOn, desk_of}
 use Rattle.desk_laws.specs.GatewayPremises.{answers, issues}
 use Rattle.desk_laws.proofs.Computing.{on_examples}

@@ -1,7 +1,7 @@
 use Rattle.std.proofs.Common.{◌≡◌, ◌≤◌, ℕ, true, List, [], ◌∷◌, refl, sym, ap, ◌∙◌, arith}
-use Rattle.live_agent.specs.declared.gateway.Wake.{Wake}
-use Rattle.live_agent.specs.AgentClock.{tick_to}
-use Rattle.live_agent.specs.Wakes.{first_woken}
+use Rattle.switchboard.specs.declared.gateway.Wake.{Wake}
+use Rattle.switchboard.specs.AgentClock.{tick_to}
+use Rattle.switchboard.specs.Wakes.{first_woken}
 use Rattle.desk_laws.specs.Desk.{desk_of}
 use Rattle.desk_laws.specs.Gateways.{at_gateway}
 use Rattle.desk_laws.specs.GatewaysExample.{at_moment, high, low}

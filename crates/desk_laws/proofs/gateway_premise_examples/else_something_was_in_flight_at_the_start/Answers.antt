@@ -3,8 +3,8 @@ use Rattle.std.specs.Prelude.{option_map, slice_get}
 use Rattle.call_routing.specs.declared.line.Line.{Line}
 use Rattle.call_routing.specs.declared.phase.Phase.TheVariants.{Resting}
 use Rattle.call_routing.specs.Exchange.{ExchangeState, line_of, phase_of}
-use Rattle.live_agent.specs.declared.care.Care.{Care}
-use Rattle.live_agent.specs.Example.{audited}
+use Rattle.call_office.specs.declared.care.Care.{Care}
+use Rattle.call_office.specs.Example.{audited}
 use Rattle.desk_laws.specs.Desk.{GoesOn, desk_of}
 use Rattle.desk_laws.specs.GatewayPremises.{issues, sent_at_first}
 use Rattle.desk_laws.proofs.Computing.{on_examples}

@@ -2,8 +2,8 @@ use Rattle.std.proofs.Common.{List, refl, ap}
 use Rattle.std.specs.Prelude.{slice_get}
 use Rattle.call_routing.specs.Exchange.{ExchangeState}
 use Rattle.call_laws.specs.Turns.{is_in_flight}
-use Rattle.live_agent.specs.declared.care.Care.{Care}
-use Rattle.live_agent.specs.Orders.{flight_of}
+use Rattle.call_office.specs.declared.care.Care.{Care}
+use Rattle.call_office.specs.Orders.{flight_of}
 use Rattle.desk_laws.proofs.Computing.{on_examples}
 use Rattle.desk_laws.proofs.gateway_premise_examples.else_what_is_in_flight_isnt_kept.Goals as goal
 

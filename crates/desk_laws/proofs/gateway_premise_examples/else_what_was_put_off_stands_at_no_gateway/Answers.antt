@@ -2,7 +2,7 @@ use Rattle.std.proofs.Common.{List, [], ◌∷◌, refl, ap}
 use Rattle.std.specs.Prelude.{option_map, slice_get}
 use Rattle.call_routing.specs.declared.line.Line.{Line}
 use Rattle.call_routing.specs.Exchange.{ExchangeState, line_of}
-use Rattle.live_agent.specs.declared.care.Care.{Care}
+use Rattle.call_office.specs.declared.care.Care.{Care}
 use Rattle.desk_laws.specs.Desk.{desk_of}
 use Rattle.desk_laws.specs.GatewayPremises.{issues}
 use Rattle.desk_laws.specs.GatewaysExample.{high, low, with_lines}

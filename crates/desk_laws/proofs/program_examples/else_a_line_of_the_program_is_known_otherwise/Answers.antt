@@ -3,8 +3,8 @@ use Rattle.std.proofs.lemmas.Option.{none-some}
 use Rattle.call_routing.specs.declared.asked.Asked.TheVariants.{Rest}
 use Rattle.call_routing.specs.declared.phase.Phase.TheVariants.{Resting, Dialling}
 use Rattle.call_routing.specs.Exchange.{ExchangeState, opening}
-use Rattle.live_agent.specs.declared.gateway.Wake.{Wake}
-use Rattle.live_agent.specs.Example.{audited}
+use Rattle.switchboard.specs.declared.gateway.Wake.{Wake}
+use Rattle.call_office.specs.Example.{audited}
 use Rattle.desk_laws.specs.Desk.{Desk, GoesOn, StandsAmong, desk_of}
 use Rattle.desk_laws.specs.Example.{held_care}
 use Rattle.desk_laws.specs.GatewayPremises.{sent_at_first}

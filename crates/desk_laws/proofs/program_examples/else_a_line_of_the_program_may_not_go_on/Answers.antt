@@ -4,11 +4,11 @@ use Rattle.std.proofs.lemmas.Option.{none-some}
 use Rattle.call_routing.specs.declared.phase.Phase.TheVariants.{Resting}
 use Rattle.call_routing.specs.Exchange.{ExchangeState}
 use Rattle.call_laws.specs.Turns.{is_in_flight}
-use Rattle.live_agent.specs.declared.care.Care.{Care}
-use Rattle.live_agent.specs.declared.gateway.Wake.{Wake}
-use Rattle.live_agent.specs.Duties.{again_at}
-use Rattle.live_agent.specs.Example.{deleted_later}
-use Rattle.live_agent.specs.Orders.{flight_of}
+use Rattle.call_office.specs.declared.care.Care.{Care}
+use Rattle.switchboard.specs.declared.gateway.Wake.{Wake}
+use Rattle.call_office.specs.Duties.{again_at}
+use Rattle.call_office.specs.Example.{deleted_later}
+use Rattle.call_office.specs.Orders.{flight_of}
 use Rattle.desk_laws.specs.Desk.{Desk, GoesOn, StandsAmong, desk_of}
 use Rattle.desk_laws.specs.Example.{asked_meanwhile, held_care, routed_care}
 use Rattle.desk_laws.proofs.CareLemmas.{same_some}

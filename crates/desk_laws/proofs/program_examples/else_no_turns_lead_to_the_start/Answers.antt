@@ -1,9 +1,9 @@
 use Rattle.std.proofs.Common.{◌≡◌, ℕ, ◌≤◌, true, false, List, [], ◌∷◌, refl, sym, ap, subst, ◌∙◌, arith, true≢false}
 use Rattle.std.specs.Prelude.{slice_get}
 use Rattle.call_routing.specs.Exchange.{ExchangeState, opening}
-use Rattle.live_agent.specs.declared.care.Care.{Care}
-use Rattle.live_agent.specs.Duties.{again_at}
-use Rattle.live_agent.specs.Example.{wake_at}
+use Rattle.call_office.specs.declared.care.Care.{Care}
+use Rattle.call_office.specs.Duties.{again_at}
+use Rattle.switchboard.specs.Example.{wake_at}
 use Rattle.desk_laws.specs.Attended.{Attended}
 use Rattle.desk_laws.specs.Desk.{Desk, DeskTurn, StandsAmong, after_turns, opening_desk}
 use Rattle.desk_laws.specs.Example.{held_care}

@@ -2,13 +2,13 @@ use Rattle.std.proofs.Common.{ℕ, List, refl, sym, ap, subst, ◌∙◌, arith}
 use Rattle.std.specs.Prelude.{replicate, slice_get}
 use Rattle.std.proofs.lemmas.Option.{none-some}
 use Rattle.call_routing.specs.Exchange.{ExchangeState}
-use Rattle.live_agent.specs.declared.care.Care.{Care}
-use Rattle.live_agent.specs.declared.gateway.Wake.{Wake}
-use Rattle.live_agent.specs.AgentClock.{tick_to}
-use Rattle.live_agent.specs.Boards.{Holds}
-use Rattle.live_agent.specs.Duties.{new_care}
-use Rattle.live_agent.specs.Orders.{again_of, flight_of, is_outlived}
-use Rattle.live_agent.specs.Turns.{TakesAnswer}
+use Rattle.call_office.specs.declared.care.Care.{Care}
+use Rattle.switchboard.specs.declared.gateway.Wake.{Wake}
+use Rattle.switchboard.specs.AgentClock.{tick_to}
+use Rattle.switchboard.specs.Boards.{Holds}
+use Rattle.call_office.specs.Duties.{new_care}
+use Rattle.call_office.specs.Orders.{again_of, flight_of, is_outlived}
+use Rattle.call_office.specs.Turns.{TakesAnswer}
 use Rattle.desk_laws.proofs.AnyhowRuns.{forward_anyhow, runs_forward}
 use Rattle.desk_laws.proofs.program_examples.more_calls_are_meant_than_those_that_are_turns.Goals as goal
 

@@ -1,6 +1,7 @@
 use Rattle.std.proofs.Common.{true, false, [], ◌∷◌, None, refl, sym}
-use Rattle.live_agent.specs.Duties.{begun, lost, new_care, outlived}
-use Rattle.live_agent.specs.Example.{deleted_later, deleted_now, wake_at}
+use Rattle.call_office.specs.Duties.{begun, lost, new_care, outlived}
+use Rattle.call_office.specs.Example.{deleted_later, deleted_now}
+use Rattle.switchboard.specs.Example.{wake_at}
 use Rattle.desk_laws.specs.Desk.{answers, happens, loses}
 use Rattle.desk_laws.proofs.Computing.{on_examples}
 use Rattle.desk_laws.proofs.StepExampleLemmas.{desk_is, leads}

@@ -1,7 +1,8 @@
 use Rattle.std.proofs.Common.{false, [], ◌∷◌, refl}
-use Rattle.live_agent.specs.declared.care.Duty.TheVariants.{Audit}
-use Rattle.live_agent.specs.Duties.{begun, new_care, owed, told_care}
-use Rattle.live_agent.specs.Example.{audited, deleted_later, deleted_now, wake_at}
+use Rattle.call_office.specs.declared.care.Duty.TheVariants.{Audit}
+use Rattle.call_office.specs.Duties.{begun, new_care, owed, told_care}
+use Rattle.call_office.specs.Example.{audited, deleted_later, deleted_now}
+use Rattle.switchboard.specs.Example.{wake_at}
 use Rattle.desk_laws.specs.Desk.{announces, begins, happens, lands, loses, owes_audit, tells, ticks, wakes_next}
 use Rattle.desk_laws.proofs.Computing.{on_examples}
 use Rattle.desk_laws.proofs.StepExampleLemmas.{leads}

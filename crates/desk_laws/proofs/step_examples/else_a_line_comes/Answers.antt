@@ -1,7 +1,7 @@
 use Rattle.std.proofs.Common.{List, ap}
 use Rattle.std.specs.Prelude.{slice_get}
-use Rattle.live_agent.specs.declared.care.Care.{Care}
-use Rattle.live_agent.specs.Duties.{new_care}
+use Rattle.call_office.specs.declared.care.Care.{Care}
+use Rattle.call_office.specs.Duties.{new_care}
 use Rattle.desk_laws.specs.Attended.{Attended, attended_of, desk_turns, hears_answer}
 use Rattle.desk_laws.specs.Desk.{desk_of}
 use Rattle.desk_laws.proofs.AnswerLemmas.{desk_at}

@@ -2,13 +2,14 @@ use Rattle.std.proofs.Common.{◌≡◌, ◌+◌, true, List, [], ◌∷◌, ◌
 use Rattle.std.specs.Prelude.{slice_get}
 use Rattle.std.proofs.lemmas.Option.{none-some}
 use Rattle.call_routing.specs.Fates.{most_put_off}
-use Rattle.live_agent.specs.declared.care.Care.{Care}
-use Rattle.live_agent.specs.declared.care.Duty.TheVariants.{Audit}
-use Rattle.live_agent.specs.declared.gateway.Wake.{Wake}
-use Rattle.live_agent.specs.Duties.{lost}
-use Rattle.live_agent.specs.Example.{audited, wake_at}
-use Rattle.live_agent.specs.Orders.{is_outlived}
-use Rattle.live_agent.specs.Turns.{TakesAnswer}
+use Rattle.call_office.specs.declared.care.Care.{Care}
+use Rattle.call_office.specs.declared.care.Duty.TheVariants.{Audit}
+use Rattle.switchboard.specs.declared.gateway.Wake.{Wake}
+use Rattle.call_office.specs.Duties.{lost}
+use Rattle.call_office.specs.Example.{audited}
+use Rattle.switchboard.specs.Example.{wake_at}
+use Rattle.call_office.specs.Orders.{is_outlived}
+use Rattle.call_office.specs.Turns.{TakesAnswer}
 use Rattle.desk_laws.specs.Attended.{Attended, attended_one, attended_with, hears_answer}
 use Rattle.desk_laws.specs.Desk.{Desk, after_turns}
 use Rattle.desk_laws.specs.StepExample.{held_in_flight}

@@ -1,10 +1,10 @@
 use Rattle.std.proofs.Common.{◌≤◌, List, [], ◌∷◌, ◌++◌, inl, refl, sym, ap, subst, ◌∙◌, arith}
 use Rattle.std.specs.Prelude.{slice_get}
-use Rattle.live_agent.specs.declared.care.Care.{Care}
-use Rattle.live_agent.specs.declared.gateway.Wake.{Wake}
-use Rattle.live_agent.specs.Example.{wake_at}
-use Rattle.live_agent.specs.Orders.{flight_of, is_outlived}
-use Rattle.live_agent.specs.Turns.{TakesAnswer}
+use Rattle.call_office.specs.declared.care.Care.{Care}
+use Rattle.switchboard.specs.declared.gateway.Wake.{Wake}
+use Rattle.switchboard.specs.Example.{wake_at}
+use Rattle.call_office.specs.Orders.{flight_of, is_outlived}
+use Rattle.call_office.specs.Turns.{TakesAnswer}
 use Rattle.desk_laws.specs.Desk.{Desk, after_turns, opening_desk}
 use Rattle.desk_laws.specs.Example.{both_put_off}
 use Rattle.desk_laws.specs.StepExample.{both_held, both_later, held_once_more}

@@ -1,5 +1,5 @@
 use Rattle.std.proofs.Common.{ℕ, ap}
-use Rattle.live_agent.specs.declared.switchboard.Switchboard.{Switchboard}
+use Rattle.switchboard.specs.declared.switchboard.Switchboard.{Switchboard}
 use Rattle.live_agent.specs.declared.wire.Wire.{Wire}
 use Rattle.live_agent.proofs.desk_examples.what_turns_leave_has_examples.Goals as goal
 

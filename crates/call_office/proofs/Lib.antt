@@ -1,0 +1,3 @@
+pub mod Computing
+pub mod TurnLemmas
+pub mod WaitingLemmas

@@ -1,0 +1,20 @@
+use Rattle.std.proofs.Common.{◌≡◌, ℕ, Bool, false, List, sym, subst, rules}
+use Rattle.std.specs.Prelude.{slice_get}
+use Rattle.call_routing.specs.Exchange.{ExchangeState}
+use Rattle.call_office.specs.declared.care.Care.{Care}
+use Rattle.call_office.specs.declared.care.Duty.TheVariants.{Audit}
+use Rattle.call_office.specs.Orders.{has_told, is_put_off_in}
+use Rattle.call_office.specs.Turns.{kept_behind, TakesAudit, AnswersAudit}
+use Rattle.call_office.proofs.office.audit_answered.Goals as goal
+
+taken : (is_put_off : Bool) (line : ℕ) (text : List ℕ) (was : ExchangeState) (behind mid : List Care) (is : ExchangeState) (kept : List Care)
+    → is_put_off ≡ false → mid ≡ behind → TakesAudit (has_told (slice_get mid line)) line text was mid is kept → AnswersAudit is_put_off line text was behind is kept
+taken is_put_off line text was behind mid is kept over same takes =
+    subst (λ (b : Bool). AnswersAudit b line text was behind is kept) (sym over)
+    (subst (λ (cares : List Care). TakesAudit (has_told (slice_get cares line)) line text was cares is kept) same takes)
+
+pub returns : goal.returns
+returns c =
+    let over : is_put_off_in c.args.code (slice_get c.args.cares.now.items c.args.line) ≡ false = search rules in
+    taken _ c.args.line c.args.text.now c.args.exchange.now (kept_behind Audit c.args.line c.args.moment c.args.code c.args.cares.now.items)
+    c.change_at-was.new.cares.items c.take_audit.new.exchange c.take_audit.new.cares.items over c.change_at-was.ensures.cares c.take_audit.ensures

@@ -1,0 +1,9 @@
+pub mod Duties
+pub mod Example
+pub mod Hooks
+pub mod Orders
+pub mod Responses
+pub mod Showing
+pub mod Steps
+pub mod Turns
+pub mod Waiting

@@ -1,0 +1,141 @@
+//! What an answer to an audit tells of a line's hook, and what the exchange is told by that.
+ghost use Rattle.std.specs.Prelude.{◌≡◌, IfOk};
+ghost use Rattle.mg_bytes.specs.Items.{items_of};
+ghost use Rattle.mgcp_text.specs.Reading.{read_text};
+ghost use Rattle.call_office.specs.Hooks.{hook_of, hook_among, hook_told, hook_by, is_lifted, is_off, was_off, changed, told_by_hook, is_off_hook, notified};
+
+use call_routing::{Phase, Side, Told};
+use mg_bytes::{OutOfMemory, list_items, same_no_case};
+use mgcp_text::{Param, TextFault, param_at, read_message};
+use std::alloc::{AllocError, Global};
+
+// Whether a telephone is off the hook, as an event state says it (RFC 3435, 2.3.10).
+fn hook_of(state: &[u8]) -> Option<bool>
+    ensures { result ≡ hook_of state.now }
+{
+    if same_no_case(state, b"L/hd") || same_no_case(state, b"hd") {
+        Some(true)
+    } else if same_no_case(state, b"L/hu") || same_no_case(state, b"hu") {
+        Some(false)
+    } else {
+        None
+    }
+}
+
+// The same of a list of them.
+#[tactic(auto, unfolding(crate::specs::Hooks::hook_among))]
+fn hook_in(states: &[u8]) -> Option<bool>
+    ensures { result ≡ hook_among (items_of states.now) }
+{
+    for state in list_items(states) {
+        match hook_of(state) {
+            Some(hook) => return Some(hook),
+            None => {}
+        }
+    }
+    None
+}
+
+// What the parameters of an answer to an audit tell.
+fn hook_told(params: &[Param<'_>]) -> Option<bool>
+    ensures { result ≡ hook_told params.now }
+{
+    match param_at(b"ES", params) {
+        Some(param) => hook_in(param.value.as_slice()),
+        None => None,
+    }
+}
+
+/// What an answer to an audit tells of a hook.
+pub(crate) fn audited_hook(alloc: Global, text: &[u8]) -> Result<Option<bool>, OutOfMemory>
+    ensures { IfOk result (λ hook. hook ≡ hook_by (read_text text.now)) }
+{
+    match read_message(alloc, text) {
+        Err(TextFault::OutOfMemory) => Err(AllocError),
+        Err(TextFault::NoHeader | TextFault::BadVersion { .. } | TextFault::BadBody { .. }) => Ok(
+            None,
+        ),
+        Ok(message) => Ok(hook_told(message.params())),
+    }
+}
+
+fn is_lifted(side: Side, answered: bool) -> bool
+    ensures { result ≡ is_lifted side answered }
+{
+    match side {
+        Side::Caller => true,
+        Side::Called => answered,
+    }
+}
+
+// Whether a line in this phase is off hook.
+fn is_off(phase: Phase) -> bool
+    ensures { result ≡ is_off phase }
+{
+    match phase {
+        Phase::Resting => false,
+        Phase::Dialling | Phase::Hearing(_) => true,
+        Phase::InCall(part) => is_lifted(part.side, part.answered),
+    }
+}
+
+fn was_off(phase: Option<Phase>) -> bool
+    ensures { result ≡ was_off phase }
+{
+    match phase {
+        Some(phase) => is_off(phase),
+        None => false,
+    }
+}
+
+// What the exchange is told of a hook, which it has off or on.
+fn changed(is_off: bool, was_off: bool) -> Told
+    ensures { result ≡ changed is_off was_off }
+{
+    if is_off {
+        if was_off { Told::Flash } else { Told::OffHook }
+    } else if was_off {
+        Told::OnHook
+    } else {
+        Told::Flash
+    }
+}
+
+/// What a line in this phase tells by its hook.
+pub(crate) fn told_by_hook(hook: Option<bool>, phase: Option<Phase>) -> Told
+    ensures { result ≡ told_by_hook hook (was_off phase) }
+{
+    match hook {
+        Some(is_off) => changed(is_off, was_off(phase)),
+        None => Told::Flash,
+    }
+}
+
+/// Whether this tells that the handset was lifted.
+pub(crate) fn is_off_hook(told: Option<Told>) -> bool
+    ensures { result ≡ is_off_hook told }
+{
+    match told {
+        Some(Told::OffHook) => true,
+        Some(
+            Told::OnHook
+            | Told::Flash
+            | Told::Dialled(_)
+            | Told::TimedOut
+            | Told::Restarted
+            | Told::Disconnected,
+        )
+        | None => false,
+    }
+}
+
+/// What a notification that told this is to the exchange, where an audit had found the handset lifted before, or hadn't.
+pub(crate) fn notified(was_found_off: bool, told: Option<Told>) -> Option<Told>
+    ensures { result ≡ notified was_found_off told }
+{
+    if was_found_off && is_off_hook(told) {
+        Some(Told::Flash)
+    } else {
+        told
+    }
+}

@@ -1,0 +1,49 @@
+//! Worked examples of what a step does to a line, as theorems.
+#![tactic(auto, unfolding(crate::proofs::Computing::on_examples))]
+
+ghost use Rattle.std.specs.Prelude.{◌≡◌, [], ◌∷◌, List, Option, Some, None};
+ghost use Rattle.std.specs.Global.{Box};
+ghost use Rattle.call_routing.specs.Exchange.{opening, sent_to, told, answered};
+ghost use Rattle.agent_texts.specs.declared.journal.Journal.{Journal};
+ghost use Rattle.agent_texts.specs.declared.station.Station.{Station};
+ghost use Rattle.call_office.specs.declared.care.Duty.TheVariants.{Audit};
+ghost use Rattle.call_office.specs.declared.office.Office.{Office};
+ghost use Rattle.call_office.specs.Duties.{begun, new_care, owed, told_care, told_of};
+ghost use Rattle.call_office.specs.Showing.{ShowsIn, shown_in};
+ghost use Rattle.call_office.specs.Steps.{Begins, Forgets, Hears, ToldOf};
+ghost use Rattle.call_office.specs.Example.{audited, cleared, creating, found_off};
+
+use call_routing::{Outcome, Told};
+
+/// What becomes of a line.
+pub fn steps_at_a_line_have_examples()
+    // What was given up is owed again; a command of the exchange's counts as given up.
+    ensures given_up { Forgets 1 creating (cleared ∷ begun cleared ∷ []) creating (cleared ∷ cleared ∷ []) }
+    ensures given_up_routed { Forgets 1 creating (cleared ∷ begun audited ∷ []) (answered creating 1 Outcome.GivenUp)
+        (cleared ∷ audited ∷ []) }
+    // What it told is told to the exchange; what an audit found before says nothing new; where that can't be read, its hook is asked for.
+    ensures told { Hears (Some Told.OffHook) 0 creating (audited ∷ cleared ∷ []) (told creating 0 Told.OffHook)
+        (told_care audited ∷ cleared ∷ []) }
+    ensures found_before { Hears (Some Told.OffHook) 0 creating (found_off ∷ []) (told creating 0 Told.Flash) (told_care found_off ∷ []) }
+    ensures says_nothing { Hears None 0 creating (audited ∷ []) creating (told_care audited ∷ []) }
+    ensures unread { Hears (Some Told.OffHook) 0 creating (audited ∷ []) creating (owed (told_care audited) Audit ∷ []) }
+    // How it stands is kept as that is told.
+    ensures stands { ToldOf 1 creating (cleared ∷ audited ∷ []) creating (cleared ∷ told_of (shown_in creating 1) audited ∷ []) }
+    // What is next begins: a duty beside the exchange, or the exchange's command. While the line is held nothing does, and where the
+    // exchange has nothing to be sent, nothing is in flight behind it.
+    ensures deletion { Begins 0 creating (new_care ∷ []) creating (begun new_care ∷ []) }
+    ensures held { Begins 0 creating (begun new_care ∷ []) creating (begun new_care ∷ []) }
+    ensures routed { Begins 1 (opening 2 0) (cleared ∷ audited ∷ []) (sent_to (opening 2 0) 1) (cleared ∷ begun audited ∷ []) }
+    ensures nothing_due { Begins 1 (sent_to (opening 2 0) 1) (cleared ∷ audited ∷ []) (sent_to (opening 2 0) 1)
+        (cleared ∷ audited ∷ []) }
+    ensures no_line { Begins 2 creating (new_care ∷ []) creating (new_care ∷ []) }
+{}
+
+/// What is told of how a line stands.
+pub fn what_is_shown_has_examples()
+    ensures none { (stations : List Station) (office : Option (Box Office)) (journal : Journal) →
+        ShowsIn stations None office journal journal }
+    ensures no_exchange { (stations : List Station) (journal : Journal) → ShowsIn stations (Some 0) None journal journal }
+    ensures no_line { (stations : List Station) (office : Box Office) (journal now : Journal) → office.value.cares.items ≡ [] →
+        ShowsIn stations (Some 0) (Some office) journal now }
+{}

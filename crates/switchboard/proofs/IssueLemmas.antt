@@ -1,0 +1,48 @@
+-- What is issued to a line, by its station and its gateway.
+use Rattle.std.proofs.Common.{◌≡◌, ℕ, List, [], ◌∷◌, Option, Some, Ok, Result, sym, subst}
+use Rattle.std.specs.Prelude.{IfOk, slice_get}
+use Rattle.call_agent.specs.declared.issuing.Issued.{Issued}
+use Rattle.call_agent.specs.declared.issuing.IssueFault.{IssueFault}
+use Rattle.call_agent.specs.AgentStands.{AgentTook}
+use Rattle.call_agent.specs.Hearing.{issues}
+use Rattle.switchboard.specs.declared.gateway.Gateway.{Gateway}
+use Rattle.switchboard.specs.declared.switchboard.Switchboard.{Switchboard}
+use Rattle.switchboard.specs.Issuing.{Flies, IssuesOrder, IssuesTo, IssuesUnder, SendsAlone}
+use Rattle.call_office.specs.Orders.{Shown}
+
+-- a command was issued under a name with what stands behind its line, by these texts
+pub issued_under : (name rest given left : List ℕ) (verb : List ℕ) (line : ℕ) (result : Result Issued IssueFault) (was is : Gateway)
+    → given ≡ name → left ≡ rest
+    → IfOk result (λ issued. AgentTook was.agent.value (issues verb given left) is.agent.value (issued.datagram ∷ []))
+    → IfOk result (λ issued. Flies (Some line) issued was is) → IssuesUnder name (verb, rest) line result was is
+issued_under name rest given left verb line result was is name_is rest_is took flies = (
+  subst
+      (λ (text : List ℕ). IfOk result (λ issued. AgentTook was.agent.value (issues verb name text) is.agent.value (issued.datagram ∷ [])))
+      rest_is
+      (subst
+      (λ (text : List ℕ). IfOk result (λ issued. AgentTook was.agent.value (issues verb text left) is.agent.value (issued.datagram ∷ [])))
+      name_is took),
+  flies,
+)
+
+-- what a line was to be sent was issued to it, by a board that has changed in its exchange alone before
+pub issued_order : (line : ℕ) (order : Shown) (ordered : Option Shown) (issued : Issued) (was ordering is : Switchboard) → Some order ≡ ordered
+    → ordering ≡ record was { office = ordering.office }
+    → IssuesTo line order (Ok issued) (slice_get ordering.stations.items line) ordering.gateways.items is.gateways.items
+    → IssuesOrder line ordered (Some issued) (slice_get was.stations.items line) was.gateways.items is.gateways.items
+issued_order line order ordered issued was ordering is ordered_is rest sent =
+    subst
+    (λ (shown : Option Shown). IssuesOrder line shown (Some issued) (slice_get was.stations.items line) was.gateways.items is.gateways.items)
+    ordered_is
+    (subst
+    (λ (board : Switchboard). IssuesTo line order (Ok issued) (slice_get board.stations.items line) board.gateways.items is.gateways.items) rest
+    sent)
+
+-- what is issued by a board that has changed in its exchange alone before is issued by the gateway of that line alone
+pub sent_alone : (line : ℕ) (was ordering issuing is : Switchboard) → ordering ≡ record was { office = ordering.office }
+    → SendsAlone (slice_get ordering.stations.items line) ordering.gateways.items issuing.gateways.items
+    → is.gateways.items ≡ issuing.gateways.items
+    → SendsAlone (slice_get was.stations.items line) was.gateways.items is.gateways.items
+sent_alone line was ordering issuing is rest alone same =
+    subst (λ (are : List Gateway). SendsAlone (slice_get was.stations.items line) was.gateways.items are) (sym same)
+    (subst (λ (board : Switchboard). SendsAlone (slice_get board.stations.items line) board.gateways.items issuing.gateways.items) rest alone)

@@ -1,0 +1,13 @@
+pub mod AnnounceLemmas
+pub mod Computing
+pub mod CopyLemmas
+pub mod DueLemmas
+pub mod EndedLemmas
+pub mod FlightLemmas
+pub mod GivingUpLemmas
+pub mod HearingLemmas
+pub mod IssueLemmas
+pub mod ShowingLemmas
+pub mod StepExampleLemmas
+pub mod TakingLemmas
+pub mod TypedCommandLemmas

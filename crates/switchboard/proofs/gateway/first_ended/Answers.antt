@@ -1,0 +1,39 @@
+use Rattle.std.proofs.Common.{◌≡◌, ◌≤◌, ℕ, suc, ◌+◌, List, Option, length, refl, ap, ◌∙◌, arith}
+use Rattle.std.specs.Prelude.{slice_get}
+use Rattle.switchboard.specs.declared.flight.Flight.{Flight}
+use Rattle.switchboard.proofs.EndedLemmas.{all_passed, asked_count, passed_at, taken_at}
+use Rattle.switchboard.proofs.gateway.first_ended.Goals as goal
+
+pub loop-place-init : goal.loop-place-init
+loop-place-init c = record { count = refl; left = refl }
+
+pub loop-place-preserved : goal.loop-place-preserved
+loop-place-preserved c = record {
+  count = asked_count c.args.response.now c.args.moment c.loop-place.place c.loop-place.flights.items _ _ c.is_ended_at.ensures.flights
+      ∙ c.loop-place.invariant.count;
+  left = passed_at c.args.response.now c.args.moment c.loop-place.place (c.loop-place.place + 1) c.loop-place.flights.items _ _
+      (slice_get c.loop-place.flights.items c.loop-place.place) refl
+      c.is_ended_at.ensures.over c.if-is_ended_at.false c.is_ended_at.ensures.flights (omega arith)
+      ∙ c.loop-place.invariant.left;
+}
+
+pub returns-then-is_ended_at : goal.returns-then-is_ended_at
+returns-then-is_ended_at c =
+    let all = taken_at c.args.response.now c.args.moment c.loop-place.place c.loop-place.flights.items _ _
+    (slice_get c.loop-place.flights.items c.loop-place.place) _ _ refl
+    c.is_ended_at.ensures.over c.if-is_ended_at.true c.is_ended_at.ensures.flights c.taken_at.ensures.taken c.taken_at.ensures.left
+    ∙ c.loop-place.invariant.left in
+    record {
+      ended = ap (λ (found : Option Flight × List Flight). found.0) all;
+      left = ap (λ (found : Option Flight × List Flight). found.1) all;
+    }
+
+pub returns : goal.returns
+returns c =
+    let done = c.loop-place-test.false in
+    let past : length c.loop-place.flights.items ≤ c.loop-place.place = omega (arith, done, c.len-place-end.ensures, c.loop-place.invariant.count) in
+    let all = all_passed c.args.response.now c.args.moment c.loop-place.place c.loop-place.flights.items past ∙ c.loop-place.invariant.left in
+    record {
+      ended = ap (λ (found : Option Flight × List Flight). found.0) all;
+      left = ap (λ (found : Option Flight × List Flight). found.1) all;
+    }

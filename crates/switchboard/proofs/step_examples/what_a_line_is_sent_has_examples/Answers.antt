@@ -1,0 +1,38 @@
+use Rattle.std.proofs.Common.{List, [], ◌∷◌, ◌++◌, inl, refl, sym, ap, ◌∙◌}
+use Rattle.std.specs.Prelude.{slice_get}
+use Rattle.call_office.specs.declared.care.Care.{Care}
+use Rattle.switchboard.specs.declared.flight.Flight.{Flight}
+use Rattle.call_office.specs.Orders.{ordered}
+use Rattle.switchboard.proofs.Computing.{on_examples}
+use Rattle.switchboard.proofs.step_examples.what_a_line_is_sent_has_examples.Goals as goal
+
+pub returns-clause-no_line : goal.returns-clause-no_line
+unfolding on_examples
+returns-clause-no_line c = λ office cares.
+    ap (λ (list : List Care). ordered (slice_get list 0) office.value.exchange 0 office.value.map) cares
+
+pub returns-clause-duty : goal.returns-clause-duty
+unfolding on_examples
+returns-clause-duty c = λ office cares.
+    ap (λ (list : List Care). ordered (slice_get list 1) office.value.exchange 1 office.value.map) cares
+
+pub returns-clause-exchange : goal.returns-clause-exchange
+unfolding on_examples
+returns-clause-exchange c = λ office cares.
+    ap (λ (list : List Care). ordered (slice_get list 0) office.value.exchange 0 office.value.map) cares
+
+pub returns-clause-unsent : goal.returns-clause-unsent
+returns-clause-unsent c = λ station order gateways impossible. impossible
+
+pub returns-clause-unasked : goal.returns-clause-unasked
+returns-clause-unasked c = λ station issued gateways impossible. impossible
+
+pub returns-clause-in_flight : goal.returns-clause-in_flight
+returns-clause-in_flight c = λ issued flight other was is line pending were are.
+    (flight, line, pending, are ∙ sym (ap (λ (list : List Flight). list ++ flight ∷ []) were))
+
+pub returns-clause-none_settled : goal.returns-clause-none_settled
+returns-clause-none_settled c = λ board. (refl, refl)
+
+pub returns-clause-none_issued : goal.returns-clause-none_issued
+returns-clause-none_issued c = λ station gateways. inl refl

@@ -1,0 +1,10 @@
+use Rattle.std.proofs.Common.{◌≡◌}
+use Rattle.switchboard.specs.Steps.{cares_announced, exchange_announced}
+use Rattle.switchboard.proofs.switchboard.announce_all.Given as goal
+
+-- the lines before this one are announced
+abbrev pub invariant-loop-before : goal.invariant-loop-before
+invariant-loop-before l = record {
+  exchange : l.office.exchange ≡ exchange_announced l.is_restart l.pattern l.first l.before l.fn.office.exchange;
+  cares : l.office.cares.items ≡ cares_announced l.is_restart l.pattern l.first l.before l.fn.office.cares.items;
+}

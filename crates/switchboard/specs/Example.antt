@@ -1,0 +1,22 @@
+-- What the worked examples speak of.
+use Rattle.std.specs.Prelude.{ℕ, codes, Some}
+use Rattle.endpoint_names.specs.declared.route.Route.TheVariants.{One}
+use Rattle.endpoint_names.specs.RouteExample.{agent_at}
+use Rattle.outbound.specs.Flight.{InFlight, sent_first}
+use Rattle.switchboard.specs.declared.flight.Flight.{Flight}
+use Rattle.switchboard.specs.declared.gateway.Wake.{Wake}
+
+-- a line to which a command is sent again at a moment
+abbrev pub wake_at : ℕ → ℕ → Wake
+wake_at moment line = record { moment = moment; line = line }
+
+-- a command that was issued at moment 0
+abbrev pub issued : InFlight
+issued = sent_first 7 (One (agent_at 1)) (codes "AUEP 7 aaln/1 MGCP 1.0\r\n") 0
+
+-- one under an id that the exchange sent to a line
+abbrev pub flying : ℕ → ℕ → Flight
+flying id line = record {
+  pending = sent_first id (One (agent_at 1)) (codes "AUEP 7 aaln/1 MGCP 1.0\r\n") 0;
+  line = Some line;
+}

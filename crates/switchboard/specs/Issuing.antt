@@ -1,0 +1,70 @@
+-- What a line of a board is sent: which command its duty and the exchange make of that, and who issues it.
+use Rattle.std.specs.Prelude.{◌≡◌, ◌⊎◌, ℕ, false, List, [], ◌∷◌, ◌++◌, Option, Some, None, IsSomeAnd, Result, Ok, IfOk, is_ok, slice_get, take}
+use Rattle.std.specs.Global.{Box}
+use Rattle.endpoint_names.specs.declared.route.Route.TheVariants.{One}
+use Rattle.outbound.specs.Flight.{sent_first}
+use Rattle.transmission.specs.Texts.{largest_datagram}
+use Rattle.call_agent.specs.declared.issuing.Issued.{Issued}
+use Rattle.call_agent.specs.declared.issuing.IssueFault.{IssueFault}
+use Rattle.call_agent.specs.AgentStands.{AgentTook}
+use Rattle.call_agent.specs.Hearing.{issues}
+use Rattle.agent_texts.specs.declared.station.Station.{Station}
+use Rattle.switchboard.specs.declared.flight.Flight.{Flight}
+use Rattle.switchboard.specs.declared.gateway.Gateway.{Gateway}
+use Rattle.call_office.specs.declared.office.Office.{Office}
+use Rattle.switchboard.specs.declared.switchboard.Switchboard.{Switchboard}
+use Rattle.call_office.specs.Orders.{Shown, ordered}
+use Rattle.switchboard.specs.Steps.{AtPlace, OthersStay, Sends}
+
+-- the command that a line is sent now, by its duty and the exchange of a board; none where there is no exchange
+abbrev pub ordered_in : ℕ → Option (Box Office) → Option Shown
+ordered_in line None = None
+ordered_in line (Some office) = ordered (slice_get office.value.cares.items line) office.value.exchange line office.value.map
+
+-- A command that was issued is in flight at a gateway from the moment of its clock on, behind the others: to a line, or to none where it
+-- was typed. Its text is kept as far as a datagram may be long.
+abbrev pub Flies : Option ℕ → Issued → Gateway → Gateway → Type 0
+Flies line issued was is =
+    (flight : Flight) × (flight.line ≡ line) × (flight.pending
+    ≡ sent_first issued.id (One was.address) (take largest_datagram issued.datagram.bytes) was.ticked)
+    × (is.flights.items ≡ was.flights.items ++ flight ∷ [])
+
+-- the agent of a gateway issues a command under a name, with this verb and this behind its line; it is in flight to this line
+abbrev pub IssuesUnder : List ℕ → Shown → ℕ → Result Issued IssueFault → Gateway → Gateway → Type 0
+IssuesUnder name order line result was is =
+    IfOk result (λ issued. AgentTook was.agent.value (issues order.0 name order.1) is.agent.value (issued.datagram ∷ []))
+    × IfOk result (λ issued. Flies (Some line) issued was is)
+
+-- A command is issued to a line with this station: by the agent of its gateway, and under its name. None is issued to a line that there
+-- isn't, nor to one whose gateway there isn't.
+abbrev pub IssuesIn : List ℕ → Shown → ℕ → Result Issued IssueFault → Option Gateway → Option Gateway → Type 0
+IssuesIn name order line result None is = is_ok result ≡ false
+IssuesIn name order line result (Some was) is = IsSomeAnd is (λ gateway. IssuesUnder name order line result was gateway)
+
+abbrev pub IssuesTo : ℕ → Shown → Result Issued IssueFault → Option Station → List Gateway → List Gateway → Type 0
+IssuesTo line order result None were are = is_ok result ≡ false
+IssuesTo line order result (Some station) were are =
+    IssuesIn station.name order line result (slice_get were station.gateway) (slice_get are station.gateway)
+
+-- what a line is sent is issued to it; where it is sent nothing, nothing is
+abbrev pub IssuesOrder : ℕ → Option Shown → Option Issued → Option Station → List Gateway → List Gateway → Type 0
+IssuesOrder line None None station were are = are ≡ were
+IssuesOrder line None (Some issued) station were are = ⊥
+IssuesOrder line (Some order) None station were are = ⊥
+IssuesOrder line (Some order) (Some issued) station were are = IssuesTo line order (Ok issued) station were are
+
+-- so it is at the line that is settled, if one is
+abbrev pub IssuesSettled : Option ℕ → Option Issued → Switchboard → Switchboard → Type 0
+IssuesSettled None issued was is = (issued ≡ None) × (is.gateways.items ≡ was.gateways.items)
+IssuesSettled (Some line) issued was is =
+    IssuesOrder line (ordered_in line was.office) issued (slice_get was.stations.items line) was.gateways.items is.gateways.items
+
+-- Of the gateways that of a line alone may have issued something; all others are as they were.
+abbrev pub SendsAlone : Option Station → List Gateway → List Gateway → Type 0
+SendsAlone None were are = are ≡ were
+SendsAlone (Some station) were are =
+    (are ≡ were) ⊎ (AtPlace station.gateway Sends were are × OthersStay station.gateway were are)
+
+abbrev pub SendsAtMost : Option ℕ → Switchboard → Switchboard → Type 0
+SendsAtMost None was is = is.gateways.items ≡ was.gateways.items
+SendsAtMost (Some line) was is = SendsAlone (slice_get was.stations.items line) was.gateways.items is.gateways.items

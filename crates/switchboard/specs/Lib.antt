@@ -1,0 +1,17 @@
+pub mod AgentClock
+pub mod Announcing
+pub mod Boards
+pub mod Dues
+pub mod Ended
+pub mod Example
+pub mod Flights
+pub mod GivingUp
+pub mod Hearing
+pub mod Issuing
+pub mod Meaning
+pub mod Steps
+pub mod Taking
+pub mod Tallying
+pub mod Typed
+pub mod TypedCommands
+pub mod Wakes

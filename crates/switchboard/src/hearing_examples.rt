@@ -1,0 +1,101 @@
+//! Worked examples of what it is to a board that something comes from a gateway, as theorems.
+#![tactic(auto, unfolding(crate::proofs::Computing::on_examples))]
+
+ghost use Rattle.std.specs.Prelude.{◌≡◌, [], ◌∷◌, ℕ, true, false, List, Option, Some, None, Ok, Err, codes, option_map};
+ghost use Rattle.std.specs.Global.{Box};
+ghost use Rattle.mgcp_text.specs.Reading.{read_text, takes_memory};
+ghost use Rattle.endpoint_names.specs.declared.name.NameFault.TheVariants.{Unknown};
+ghost use Rattle.event_values.specs.declared.observed.Observed.{Observed};
+ghost use Rattle.agent_texts.specs.declared.journal.Journal.{Journal};
+ghost use Rattle.agent_texts.specs.declared.station.Station.{Station};
+ghost use Rattle.agent_texts.specs.declared.tally.Tally.{Tally};
+ghost use Rattle.switchboard.specs.declared.gateway.Gateway.{Gateway};
+ghost use Rattle.call_office.specs.declared.office.Office.{Office};
+ghost use Rattle.switchboard.specs.declared.switchboard.Switchboard.{Switchboard};
+ghost use Rattle.call_office.specs.declared.worklist.Worklist.{Worklist};
+ghost use Rattle.switchboard.specs.Ended.{first_ended, still_flying};
+ghost use Rattle.switchboard.specs.GivingUp.{ended_in, Ends, ForgetsFlight, ForgetsFor};
+ghost use Rattle.switchboard.specs.Hearing.{announcement_counted, is_new_to, is_strange_at, line_meant, method_of, response_counted};
+ghost use Rattle.switchboard.specs.Hearing.{AnnouncesNew, AnnouncesWith, AnswersFor, AnswersIn, HearsText, HearsUnread, Notes, Waits};
+ghost use Rattle.call_office.specs.Steps.{Forgets};
+ghost use Rattle.switchboard.specs.Steps.{AnnouncesTo, OfOffice};
+ghost use Rattle.switchboard.specs.Taking.{first_of, with_taken, HearsIf, TakesTold};
+ghost use Rattle.call_office.specs.Example.{param};
+ghost use Rattle.switchboard.specs.Example.{flying};
+
+use endpoint_names::Pattern;
+
+/// Which command in flight is over.
+pub fn what_ends_has_examples()
+    // The first that a final response answers isn't in flight any more; those before it and behind it are.
+    ensures answered { first_ended (Some (8, 200)) 100 (flying 7 0 ∷ flying 8 1 ∷ flying 9 2 ∷ [])
+        ≡ Some (flying 8 1) }
+    ensures left { still_flying (Some (8, 200)) 100 (flying 7 0 ∷ flying 8 1 ∷ flying 9 2 ∷ []) ≡ flying 7 0 ∷ flying 9 2 ∷ [] }
+    ensures unknown { first_ended (Some (6, 200)) 100 (flying 7 0 ∷ flying 8 1 ∷ []) ≡ None }
+    ensures provisional { first_ended (Some (8, 100)) 100 (flying 7 0 ∷ flying 8 1 ∷ []) ≡ None }
+    // Without a response, the first that is given up by now.
+    ensures given_up { option_map (λ flight. flight.line) (first_ended None 23500 (flying 7 0 ∷ flying 8 1 ∷ [])) ≡ Some (Some 0) }
+    ensures not_yet { first_ended None 499 (flying 7 0 ∷ flying 8 1 ∷ []) ≡ None }
+    ensures no_gateway { ended_in None None ≡ None }
+    ensures by_its_clock { (gateway : Gateway) → gateway.ticked ≡ 100 → gateway.flights.items ≡ flying 8 1 ∷ [] →
+        ended_in (Some (8, 200)) (Some gateway) ≡ Some (flying 8 1) }
+    ensures nothing_else { (was is : Gateway) → was.ticked ≡ 100 → was.flights.items ≡ flying 7 0 ∷ flying 8 1 ∷ [] →
+        is.flights.items ≡ flying 7 0 ∷ [] → is ≡ record was { flights = is.flights } → Ends (Some (8, 200)) was is }
+    // The exchange is told of what it sent to a line, and of nothing else.
+    ensures nothing_forgotten { (office : Option (Box Office)) → ForgetsFlight None office office }
+    ensures typed { (office : Option (Box Office)) → ForgetsFor None office office }
+    ensures sent { (was is : Option (Box Office)) → OfOffice (Forgets 1) was is → ForgetsFlight (Some (flying 8 1)) was is }
+{}
+
+/// What a response, an announcement, a notification and a strange name mean, and what counts.
+pub fn what_is_heard_has_examples()
+    // Nobody is told of an answer where there is no such gateway, or no exchange; nor of one to what was typed.
+    ensures answered_nowhere { (office : Option (Box Office)) → AnswersIn 0 200 [] None office None office }
+    ensures no_exchange { (gateway after : Gateway) → AnswersIn 0 200 [] (Some gateway) None (Some after) None }
+    ensures typed { (board : Switchboard) → AnswersFor 0 None 200 [] board board }
+    // Without a word for it lines are announced as started again.
+    ensures no_word { method_of None ≡ codes "restart" }
+    ensures word { method_of (Some (param (codes "RM") (codes "graceful"))) ≡ codes "graceful" }
+    // Case makes no difference to that; a word that the exchange doesn't know is nothing to it, nor is what isn't new.
+    ensures restart { (name : List ℕ) (gateway : Option Gateway) (was is : Option (Box Office)) → AnnouncesTo true name gateway was is →
+        AnnouncesWith (codes "Restart") name gateway was is }
+    ensures disconnected { (name : List ℕ) (gateway : Option Gateway) (was is : Option (Box Office)) →
+        AnnouncesTo false name gateway was is → AnnouncesWith (codes "disconnected") name gateway was is }
+    ensures graceful { (name : List ℕ) (gateway : Option Gateway) (office : Option (Box Office)) →
+        AnnouncesWith (codes "graceful") name gateway office office }
+    ensures again { (method name : List ℕ) (gateway : Option Gateway) (office : Option (Box Office)) →
+        AnnouncesNew false method name gateway office office }
+    ensures no_gateway { is_new_to 7 None ≡ false }
+    ensures first { (gateway : Gateway) → gateway.announced ≡ None → is_new_to 7 (Some gateway) ≡ true }
+    ensures noted { (was is : Gateway) → was.announced ≡ None → was.ticked ≡ 100 → is ≡ record was { announced = Some (7, 100) } →
+        Notes 7 was is }
+    // A notification is of one line, which has its place behind the first of its gateway.
+    ensures line { line_meant 4 (Ok (Pattern.One 2)) ≡ Some 5 }
+    ensures all { line_meant 4 (Ok Pattern.All) ≡ None }
+    ensures any { line_meant 4 (Ok Pattern.Any) ≡ None }
+    ensures none { line_meant 4 (Err Unknown) ≡ None }
+    ensures nobody_waits { (list : Worklist) → Waits None list list }
+    // What counts, and what doesn't.
+    ensures unanswered { (tally : Tally) → response_counted 7 200 None tally ≡ tally }
+    ensures not_new { (tally : Tally) → announcement_counted 7 None tally ≡ tally }
+    ensures unknown { is_strange_at (codes "aaln/1@here") None ≡ false }
+    // What is no message is nothing to it; nothing is told of what memory is refused for.
+    ensures no_message { (board : Switchboard) (journal : Journal) → HearsText 0 [] board journal board journal }
+    ensures unread { (text : List ℕ) (was is : Switchboard) (journal : Journal) → takes_memory (read_text text) ≡ true →
+        HearsUnread was is → HearsText 0 text was journal is journal }
+{}
+
+/// What is taken of a line.
+pub fn what_is_taken_has_examples()
+    // What was taken of a line is kept; where it told nothing more nothing is taken, nor where there is no line or no gateway.
+    ensures nothing_told { (office : Option (Box Office)) → HearsIf false 0 [] office office }
+    ensures no_exchange { (told : List Observed) → HearsIf true 0 told None None }
+    ensures nothing_taken { (observed : List Observed) (station : Station) → with_taken false observed station ≡ station }
+    ensures taken { (event : Observed) (station : Station) →
+        with_taken true (event ∷ event ∷ []) station ≡ record station { taken = 2 } }
+    ensures no_line { (gateway : Gateway) (board : Switchboard) → TakesTold 0 (Some gateway) None false board board }
+    ensures no_gateway { (station : Option Station) (board : Switchboard) → TakesTold 0 None station false board board }
+    // The place of the first line of a gateway.
+    ensures first { (gateway : Gateway) → gateway.first ≡ 4 → first_of (Some gateway) ≡ 4 }
+    ensures none { first_of None ≡ 0 }
+{}

@@ -1,0 +1,23 @@
+//! The gateways that a call agent works with, and their lines.
+//!
+//! Each gateway has an agent (`gateway`), which issues what is typed for it (`typed`, `orders`), and what the exchange orders where calls
+//! are routed between the lines of all gateways (`call_office`). What is in flight is kept as its agent keeps it (`flight`, `own_copy`), so
+//! it is known which line an answer is of, and what was given up. What lines tell is taken, each event once (`taking`). A board has neither
+//! a socket nor a clock: who has these says what came and what moment it is, and sends what is to be sent. That is the loop, in
+//! `live_agent`.
+#![tactic(auto)]
+
+pub mod examples;
+mod flight;
+mod gateway;
+pub mod hearing_examples;
+mod naming;
+mod orders;
+mod own_copy;
+pub mod step_examples;
+mod switchboard;
+mod taking;
+mod typed;
+
+pub use crate::switchboard::Switchboard;
+pub use crate::typed::{TypedFault, typed_text};

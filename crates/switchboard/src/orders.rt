@@ -1,0 +1,76 @@
+//! What the exchange orders of a gateway: that is issued, and its answer is told.
+ghost use Rattle.std.specs.Prelude.{◌≡◌};
+ghost use Rattle.switchboard.specs.Boards.{Answers};
+ghost use Rattle.switchboard.specs.Issuing.{IssuesUnder};
+ghost use Rattle.call_office.specs.Orders.{shown};
+ghost use Rattle.switchboard.specs.Steps.{Sends};
+ghost use Rattle.switchboard.specs.TypedCommands.{IssuesNamed};
+
+use crate::gateway::Gateway;
+use crate::naming::whole_name;
+use crate::typed::TypedFault;
+use agent_texts::Station;
+use call_agent::{IssueFault, Issued};
+use call_office::{Office, Order};
+use std::alloc::Global;
+
+/// Issues a command of the exchange to a line of a gateway.
+pub(crate) fn issue_by(
+    alloc: Global,
+    gateway: &mut Gateway,
+    station: &Station,
+    order: &Order,
+    line: usize,
+) -> Result<Issued, IssueFault>
+    ensures issues { IssuesUnder station.now.name (shown order.now) line result gateway.old gateway.new }
+    ensures sends { Sends gateway.old gateway.new }
+{
+    let name = station.name.as_bytes();
+    let rest = order.rest.as_bytes();
+    gateway.issue(alloc, order.verb, name, rest, Some(line))
+}
+
+/// Issues a command that was typed for a gateway, under a name without its domain.
+pub(crate) fn issue_named(
+    alloc: Global,
+    gateway: &mut Gateway,
+    verb: &[u8],
+    local: &[u8],
+    rest: &[u8],
+) -> Result<Issued, TypedFault>
+    ensures issues { IssuesNamed verb.now local.now rest.now result gateway.old gateway.new }
+    ensures sends { Sends gateway.old gateway.new }
+{
+    let Ok(name) = whole_name(alloc, local, gateway.domain.as_bytes()) else {
+        return Err(TypedFault::OutOfMemory);
+    };
+    match gateway.issue(alloc, verb, name.as_slice(), rest, None) {
+        Ok(issued) => Ok(issued),
+        Err(IssueFault::OutOfMemory) => Err(TypedFault::OutOfMemory),
+        Err(IssueFault::NoMoreIds) => Err(TypedFault::NoMoreIds),
+        Err(IssueFault::BadCommand) => Err(TypedFault::BadCommand),
+    }
+}
+
+/// The exchange's command to a line of a gateway was answered. Where memory is refused for keeping when it is sent again, it is so at
+/// once.
+pub(crate) fn answer_at(
+    alloc: Global,
+    gateway: &mut Gateway,
+    office: &mut Office,
+    line: usize,
+    code: u16,
+    text: &[u8],
+)
+    ensures answers { Answers line code text.now gateway.old office.old gateway.new office.new }
+    ensures rest { gateway.new ≡ record gateway.old { wakes = gateway.new.wakes } }
+{
+    let moment = gateway.ticked();
+    let Some(again) = office.answered(alloc, line, moment, code, text) else {
+        return;
+    };
+    match gateway.put_off(line, again) {
+        Ok(()) => {}
+        Err(_) => office.wake(line, again),
+    }
+}

@@ -1,0 +1,121 @@
+//! Worked examples of what a step of a board does, as theorems.
+#![tactic(auto, unfolding(crate::proofs::Computing::on_examples))]
+
+ghost use Rattle.std.specs.Prelude.{◌≡◌, [], ◌∷◌, Bool, true, false, List, Option, Some, None, Err, take};
+ghost use Rattle.std.specs.Global.{Box};
+ghost use Rattle.call_routing.specs.Exchange.{told};
+ghost use Rattle.switchboard.specs.declared.gateway.Gateway.{Gateway};
+ghost use Rattle.call_office.specs.declared.office.Office.{Office};
+ghost use Rattle.switchboard.specs.declared.switchboard.Switchboard.{Switchboard};
+ghost use Rattle.call_office.specs.declared.care.Duty.TheVariants.{Audit};
+ghost use Rattle.call_office.specs.declared.care.Duty.TheVariants as duties;
+ghost use Rattle.switchboard.specs.declared.flight.Flight.{Flight};
+ghost use Rattle.endpoint_names.specs.declared.route.Route.TheVariants as routes;
+ghost use Rattle.outbound.specs.Flight.{InFlight, sent_first};
+ghost use Rattle.transmission.specs.Texts.{largest_datagram};
+ghost use Rattle.call_agent.specs.declared.issuing.Issued.{Issued};
+ghost use Rattle.call_agent.specs.declared.issuing.IssueFault.{IssueFault};
+ghost use Rattle.call_agent.specs.AgentStands.{AgentStands};
+ghost use Rattle.call_agent.specs.Hearing.{AgentEvent, plain_agent};
+ghost use Rattle.agent_texts.specs.declared.station.Station.{Station};
+ghost use Rattle.switchboard.specs.Boards.{Answers};
+ghost use Rattle.switchboard.specs.Dues.{FallsDue, FallsDueAt};
+ghost use Rattle.call_office.specs.Duties.{announced, begun, fixed_order, lost, new_care, outlived, owed};
+ghost use Rattle.switchboard.specs.Issuing.{ordered_in, Flies, IssuesOrder, IssuesSettled, IssuesTo, SendsAlone, SendsAtMost};
+ghost use Rattle.call_office.specs.Orders.{Shown, routed};
+ghost use Rattle.call_office.specs.Steps.{Forgets};
+ghost use Rattle.switchboard.specs.Steps.{Announces, AnnouncesTo, IssuesAt, OfOffice, OthersStay, Ticks, Wakens, settled_in};
+ghost use Rattle.call_office.specs.Example.{audited, creating, deleted_later, deleted_now};
+ghost use Rattle.switchboard.specs.Example.{wake_at};
+
+use call_routing::Told;
+use endpoint_names::Pattern;
+
+/// What becomes of the lines of a gateway, of it, and of what is settled.
+pub fn steps_at_a_gateway_have_examples()
+    // The lines that a name means are announced, one after another, and no others.
+    ensures one_line { Announces false (Pattern.One 2) 0 2 creating (audited ∷ audited ∷ []) creating
+        (audited ∷ owed audited Audit ∷ []) }
+    ensures all_lines { Announces true Pattern.All 0 2 creating (new_care ∷ audited ∷ [])
+        (told (told creating 0 Told.Restarted) 1 Told.Restarted) (announced true new_care ∷ announced true audited ∷ []) }
+    ensures any_line { Announces false Pattern.Any 1 1 creating (audited ∷ audited ∷ []) creating (audited ∷ owed audited Audit ∷ []) }
+    ensures of_another { Announces true (Pattern.One 1) 1 1 creating (audited ∷ audited ∷ []) (told creating 1 Told.Restarted)
+        (audited ∷ announced true audited ∷ []) }
+    ensures no_gateway { (office : Option (Box Office)) → AnnouncesTo true [] None office office }
+    ensures no_lines { Announces true Pattern.All 1 0 creating (audited ∷ audited ∷ []) creating (audited ∷ audited ∷ []) }
+    // Its clock goes on by a second at most, or stands still.
+    ensures goes_on { (gateway : Gateway) → Ticks true 5000 (record gateway { ticked = 500 }) (record gateway { ticked = 1500 }) }
+    ensures stands_still { (gateway : Gateway) → Ticks false 5000 (record gateway { ticked = 500 }) (record gateway { ticked = 500 }) }
+    // The first of those whose moment has come isn't put off any more.
+    ensures woken { (was is : Gateway) → was.ticked ≡ 700 → was.wakes.items ≡ wake_at 700 0 ∷ wake_at 900 1 ∷ [] →
+        is.ticked ≡ 700 → is.wakes.items ≡ wake_at 900 1 ∷ [] → Wakens was is }
+    ensures none_woken { (was : Gateway) → was.wakes.items ≡ [] → Wakens was was }
+    // Where there is no exchange nothing becomes of it, and nothing is settled.
+    ensures no_exchange { OfOffice (Forgets 0) None None }
+    ensures nothing_settled { settled_in 0 None ≡ None }
+    ensures settled { (office : Box Office) → office.value.worklist.settles_all ≡ true → settled_in 4 (Some office) ≡ Some 4 }
+    ensures nothing_issued { (fails : Bool) (office : Option (Box Office)) → IssuesAt None fails office office }
+{}
+
+/// An answer puts a deletion off, which is kept, or sent again at once where memory is refused for that; or it deletes. To a command that
+/// the gateway has outlived it counts as given up.
+pub fn what_an_answer_does_has_examples()
+    ensures put_off { (gateway after : Gateway) (was is : Office) → gateway.ticked ≡ 500 → was.cares.items ≡ begun new_care ∷ [] →
+        gateway.wakes.items ≡ wake_at 700 1 ∷ [] → is.exchange ≡ was.exchange → is.cares.items ≡ deleted_later ∷ [] →
+        after.wakes.items ≡ wake_at 700 1 ∷ wake_at 1500 0 ∷ [] → Answers 0 400 [] gateway was after is }
+    ensures refused { (gateway after : Gateway) (was is : Office) → gateway.ticked ≡ 500 → was.cares.items ≡ begun new_care ∷ [] →
+        gateway.wakes.items ≡ wake_at 700 1 ∷ [] → is.exchange ≡ was.exchange → is.cares.items ≡ deleted_now ∷ [] →
+        after.wakes.items ≡ wake_at 700 1 ∷ [] → Answers 0 400 [] gateway was after is }
+    ensures outlived { (gateway after : Gateway) (was is : Office) → gateway.ticked ≡ 500 →
+        was.cares.items ≡ outlived (begun new_care) ∷ [] → gateway.wakes.items ≡ [] → is.exchange ≡ was.exchange →
+        is.cares.items ≡ lost (outlived (begun new_care)) ∷ [] → after.wakes.items ≡ [] → Answers 0 400 [] gateway was after is }
+{}
+
+/// When something falls due next.
+pub fn what_falls_due_next_has_examples()
+    ensures no_gateway { FallsDue [] None }
+    // At the gateway at which that is earliest; and of a gateway when the first command is sent again that was put off, or what its agent
+    // does next, whichever is earlier.
+    ensures earliest { (one two three : Gateway) → FallsDueAt one (Some 700) → FallsDueAt two (Some 300) → FallsDueAt three None →
+        FallsDue (one ∷ two ∷ three ∷ []) (Some 300) }
+    ensures put_off { (gateway : Gateway) → gateway.wakes.items ≡ wake_at 700 0 ∷ wake_at 900 1 ∷ [] →
+        ((events : List AgentEvent) → AgentStands gateway.agent.value events →
+        (plain_agent gateway.agent.value.setup events).flights ≡ []) → FallsDueAt gateway (Some 700) }
+    ensures in_flight { (gateway : Gateway) (flight : InFlight) → gateway.wakes.items ≡ [] →
+        ((events : List AgentEvent) → AgentStands gateway.agent.value events →
+        (plain_agent gateway.agent.value.setup events).flights ≡ flight ∷ []) → FallsDueAt gateway (Some flight.due) }
+    ensures sooner { (gateway : Gateway) (flight : InFlight) → flight.due ≡ 600 → gateway.wakes.items ≡ wake_at 700 0 ∷ [] →
+        ((events : List AgentEvent) → AgentStands gateway.agent.value events →
+        (plain_agent gateway.agent.value.setup events).flights ≡ flight ∷ []) → FallsDueAt gateway (Some 600) }
+{}
+
+/// What a line of a board is sent, and who issues it.
+pub fn what_a_line_is_sent_has_examples()
+    // What its duty says, or else the exchange; nothing where there is no exchange, or no such line.
+    ensures no_exchange { ordered_in 0 None ≡ None }
+    ensures no_line { (office : Box Office) → office.value.cares.items ≡ [] → ordered_in 0 (Some office) ≡ None }
+    ensures duty { (office : Box Office) → office.value.cares.items ≡ audited ∷ new_care ∷ [] →
+        ordered_in 1 (Some office) ≡ fixed_order duties.Clear }
+    ensures exchange { (office : Box Office) → office.value.cares.items ≡ audited ∷ [] →
+        ordered_in 0 (Some office) ≡ routed office.value.exchange 0 office.value.map }
+    // It is issued where it is sent, and nothing else is; to a line that there isn't, or whose gateway there isn't, nothing can be.
+    ensures nothing { (station : Option Station) (gateways : List Gateway) → IssuesOrder 0 None None station gateways gateways }
+    ensures unsent { (station : Option Station) (order : Shown) (gateways : List Gateway) →
+        IssuesOrder 0 (Some order) None station gateways gateways → ⊥ }
+    ensures unasked { (station : Option Station) (issued : Issued) (gateways : List Gateway) →
+        IssuesOrder 0 None (Some issued) station gateways gateways → ⊥ }
+    ensures no_station { (order : Shown) (fault : IssueFault) (gateways : List Gateway) →
+        IssuesTo 0 order (Err fault) None gateways gateways }
+    ensures no_gateway { (order : Shown) (fault : IssueFault) (station : Station) → IssuesTo 0 order (Err fault) (Some station) [] [] }
+    // It is in flight to its line, behind the others.
+    ensures in_flight { (issued : Issued) (flight other : Flight) (was is : Gateway) → flight.line ≡ Some 3 →
+        flight.pending ≡ sent_first issued.id (routes.One was.address) (take largest_datagram issued.datagram.bytes) was.ticked →
+        was.flights.items ≡ other ∷ [] → is.flights.items ≡ other ∷ flight ∷ [] → Flies (Some 3) issued was is }
+    ensures none_settled { (board : Switchboard) → IssuesSettled None None board board }
+    // All other gateways are as they were.
+    ensures none_sent { (board : Switchboard) → SendsAtMost None board board }
+    ensures no_station_sends { (gateways : List Gateway) → SendsAlone None gateways gateways }
+    ensures none_issued { (station : Station) (gateways : List Gateway) → SendsAlone (Some station) gateways gateways }
+    ensures others { (one two three other : Gateway) → OthersStay 1 (one ∷ two ∷ three ∷ []) (one ∷ other ∷ three ∷ []) }
+    ensures none_there { (one : Gateway) → OthersStay 1 (one ∷ []) (one ∷ []) }
+{}
