@@ -1,4 +1,2 @@
 pub mod Computing
-pub mod BacklogLaws
-pub mod WrittenLemmas
 mod PuttingLemmas

@@ -1,11 +1,6 @@
-pub mod Backlog
-pub mod Recording
 pub mod Parting
-pub mod Written
 pub mod Looking
-pub mod Reasons
 pub mod AddressWords
 pub mod NetworkFaults
 pub mod Wording
 pub mod Ending
-pub mod Example

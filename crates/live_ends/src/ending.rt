@@ -2,16 +2,15 @@
 ghost use Rattle.std.specs.Prelude.{◌≡◌, ◌≢◌, ◌++◌, Ok, Err, Some, None, OnOk, IfOk, IfErr, IfSome};
 ghost use Rattle.std.specs.Net.Grammar.{IsSocketV4Text};
 ghost use Rattle.bad_network.specs.Parts.{spoiling_of};
-ghost use Rattle.live_ends.specs.Written.{faults_in};
+ghost use Rattle.live_outlets.specs.Written.{faults_in};
 ghost use Rattle.live_ends.specs.Ending.{status_of, is_asked, served_ending, bad_address_text, bad_network_text, refused_text, unbound_text, ending_text};
 
 use crate::address_words::AddressWord;
 use crate::network_faults::wanted_by;
-use crate::reasons::reason_of;
 use crate::wording::put_pieces;
-use crate::written::Written;
 use bad_network::{Spoiling, SpoilingFault};
 use exchange_log::peer_text;
+use live_outlets::{Written, reason_of};
 use mg_bytes::OutOfMemory;
 use std::alloc::Global;
 use std::io::ErrorKind;

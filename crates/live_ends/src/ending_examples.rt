@@ -16,7 +16,7 @@ ghost use Rattle.live_ends.specs.declared.ending.CommonEnding.TheVariants.{Serve
 ghost use Rattle.live_ends.specs.AddressWords.{word_text};
 ghost use Rattle.live_ends.specs.Ending.{status_of, is_asked, served_ending, ending_text};
 ghost use Rattle.live_ends.specs.NetworkFaults.{wanted_by};
-ghost use Rattle.live_ends.specs.Reasons.{reason_of};
+ghost use Rattle.live_outlets.specs.Reasons.{reason_of};
 ghost use Rattle.live_ends.specs.Wording.{piece_text};
 
 /// Each sentence at an example.

@@ -2,10 +2,10 @@
 ghost use Rattle.std.specs.Prelude.{◌≡◌};
 
 use crate::address_words::AddressWord;
-use crate::boxing::boxed;
 use crate::clock::LiveClock;
 use crate::ending::CommonEnding;
 use crate::readiness::Readiness;
+use live_outlets::boxed;
 use mio::net::UdpSocket;
 use std::alloc::Global;
 use std::io;

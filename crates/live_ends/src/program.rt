@@ -3,10 +3,8 @@ ghost use Rattle.std.specs.Prelude.{◌≡◌, ◌⊎◌};
 ghost use Rattle.live_ends.specs.Ending.{status_of};
 
 use crate::ending::CommonEnding;
-use crate::outlet::Outlet;
-use crate::outlets::Outlets;
 use crate::standing::hold_standard;
-use crate::stream::{Stream, make_for_owner};
+use live_outlets::{Outlet, Outlets, Stream, make_for_owner};
 use mg_bytes::OutOfMemory;
 use std::alloc::Global;
 use std::env;

@@ -1,7 +1,7 @@
 -- What the worked examples speak of.
-use Rattle.std.specs.Prelude.{ℕ, false, true, codes, List}
-use Rattle.live_ends.specs.declared.written.Written.{Written}
-use Rattle.live_ends.specs.Backlog.{BacklogState}
+use Rattle.std.specs.Prelude.{ℕ, false, true, List}
+use Rattle.live_outlets.specs.declared.written.Written.{Written}
+use Rattle.live_outlets.specs.Backlog.{BacklogState}
 
 -- this waits, and nothing was dropped
 abbrev pub waits : List ℕ → BacklogState
@@ -14,10 +14,6 @@ full waiting unnoted dropped = record { waiting = waiting; is_full = true; is_ov
 -- this waits, and nothing is kept any more
 abbrev pub over : List ℕ → BacklogState
 over waiting = record { waiting = waiting; is_full = false; is_over = true; unnoted = 0; dropped = 0 }
-
--- the name of a capture
-abbrev pub calls : List ℕ
-calls = codes "calls.pcap"
 
 -- so many lines weren't kept, and so often it failed at standard output, standard error and a capture
 abbrev pub lost : ℕ → ℕ → ℕ → ℕ → Written

@@ -1,0 +1,5 @@
+pub mod Backlog
+pub mod Recording
+pub mod Written
+pub mod Reasons
+pub mod Example
