@@ -1,18 +1,15 @@
 //! Worked examples of the definitions, as theorems: each sentence of a definition has one that a slip in it breaks.
 #![tactic(auto, unfolding(crate::proofs::Computing::on_examples))]
 
-ghost use Rattle.std.specs.Prelude.{◌≡◌, ◌++◌, codes, pos, [], ◌∷◌, true, false, Some, None};
-ghost use Rattle.toml.specs.Data.{string, integer};
+ghost use Rattle.std.specs.Prelude.{◌≡◌, ◌++◌, codes, [], ◌∷◌, true, false, Some, None};
 ghost use Rattle.call_routing.specs.declared.phase.Tone.TheVariants as tones;
 ghost use Rattle.call_routing.specs.declared.phase.Phase.TheVariants as phases;
 ghost use Rattle.call_routing.specs.declared.line.Leg.TheVariants as legs;
 ghost use Rattle.exchange_log.specs.declared.note.Note.TheVariants.{Unreadable, SentAgain};
-ghost use Rattle.agent_texts.specs.declared.config_fault.ValueFault.TheVariants as faults;
 ghost use Rattle.agent_texts.specs.declared.standing.Progress.TheVariants.{Ringing, Answered, Connected};
 ghost use Rattle.agent_texts.specs.declared.standing.Standing.TheVariants.{Rest, Dialling, Busy, Reorder, Caller, Called};
 ghost use Rattle.agent_texts.specs.Counts.{greatest_count, one_more, nothing_counted, told, counts_text, with_answer, with_notification, with_announcement};
 ghost use Rattle.agent_texts.specs.Counts.{with_strange_name, with_given_up, with_received, with_handed_out};
-ghost use Rattle.agent_texts.specs.ConfigFaults.{place_by, value_text, fault_text, missing_line, unknown_line, value_line, count_line, name_line, limit_line};
 ghost use Rattle.agent_texts.specs.Standings.{stands_for, standing_of, with_change};
 ghost use Rattle.agent_texts.specs.Stations.{number_at};
 ghost use Rattle.agent_texts.specs.Telling.{plain, change_told};
@@ -33,26 +30,10 @@ pub fn each_sentence_has_an_example()
         ≡ codes "calls 1 set up 2 abandoned 3 failed 4 busy 5 wrong number 6\ndatagrams in 7 strange 8 out 9 again 10\n"
         ++ codes "commands 11 answered 12 given up 13\nnotifications 14 announcements 15 strange 16\n"
         ++ codes "network lost 17 copied 18 late 19\nfaults memory 20 receive 21 send 22\n" }
-    // A fault is told with its key, what stands there, and what may.
-    ensures faults_are_told_by_key_and_value_own { place_by None (codes "own") ≡ codes "own" }
-    ensures of_gateway { place_by (Some (codes "gw1")) (codes "address") ≡ codes "gateways.\"gw1\".address" }
-    ensures faults_are_told_by_key_and_value_gateway { place_by (Some (codes "gw\n")) [] ≡ codes "gateways.\"gw\\x0a\"" }
-    ensures text { value_text (string (codes "a\n")) ≡ codes "\"a\\x0a\"" }
-    ensures kind { value_text (integer (pos 7)) ≡ codes "integer" }
-    ensures missing { missing_line (codes "own") ≡ codes "missing: own" }
-    ensures faults_are_told_by_key_and_value_unknown { unknown_line (codes "map") ≡ codes "unknown key map" }
-    ensures value { value_line (codes "own") (string (codes "x")) faults.NoAddress
-        ≡ codes "own: \"x\", wanted an address a.b.c.d:port, with a port from 1 on" }
-    ensures count { count_line (codes "gateways") 1025 faults.NoGateways ≡ codes "gateways: 1,025, wanted 1 to 1,024 tables" }
-    ensures name { name_line (codes "gateways.\"-\"") faults.NoDomain
-        ≡ codes "gateways.\"-\", wanted 1 to 64 letters, digits, \"-\" and \".\"" }
-    ensures limit { limit_line 1048576 ≡ codes "over 1,048,576 bytes" }
-    // What may stand at a key.
-    ensures map { fault_text faults.NoDigitMap ≡ codes ", wanted a digit map, as \"(2xx|0)\"" }
-    ensures what_may_stand_at_a_key_gateway { fault_text faults.NoGateway ≡ codes ", wanted a table with address and numbers" }
-    ensures number { fault_text faults.NoNumber ≡ codes ", wanted 1 to 32 of 0 to 9, A to D, * and #, in quotes" }
-    ensures numbers { fault_text faults.NoNumbers ≡ codes ", wanted 1 to 96 numbers in a list" }
-    ensures twice { fault_text faults.Twice ≡ codes " stands twice" }
+{}
+
+/// How a line stands, at examples.
+pub fn each_way_to_stand_has_an_example()
     // A line stands as its phase is; a call is connected once both ends were given the description of the other's.
     ensures rest { standing_of (exchange_with phases.Resting) 0 ≡ Rest }
     ensures a_line_stands_as_its_phase_is_dials { standing_of (exchange_with phases.Dialling) 0 ≡ Dialling }

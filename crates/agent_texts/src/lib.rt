@@ -1,11 +1,7 @@
-//! The texts of a call agent: the configuration that it reads, with its own address, the digit map, and the gateways with the
-//! numbers of their lines; and what it tells of its conversation, and of the calls that it routes: lines on standard output, a
-//! log, a capture, and counts. Nothing here opens a file or reads a clock; whoever has these writes what was put together, and
-//! says what time it is.
+//! What a call agent tells of its conversation, and of the calls that it routes: lines on standard output, a log, a capture, and
+//! counts. Nothing here writes a file or reads a clock; whoever has these writes what was put together, and says what time it is.
 #![tactic(auto)]
 
-mod config;
-mod config_fault;
 pub mod examples;
 mod journal;
 mod noting;
@@ -15,11 +11,8 @@ mod station;
 mod tally;
 mod text;
 
-pub use crate::config::{AgentConfig, GatewayConfig, read_config};
-pub use crate::config_fault::{ConfigRefusal, Place, missing, too_long};
 pub use crate::journal::Journal;
 pub use crate::refusals::{Refusals, refusals_of, tell_refusals};
 pub use crate::standing::{Standing, standing_of, tell_change};
 pub use crate::station::Station;
 pub use crate::tally::{Tally, count};
-pub use crate::text::copied;

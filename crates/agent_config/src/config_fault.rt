@@ -2,7 +2,7 @@
 ghost use Rattle.std.specs.Prelude.{◌≡◌, ◌++◌};
 ghost use Rattle.toml.specs.View.{view};
 ghost use Rattle.exchange_log.specs.Grouping.{number_shown};
-ghost use Rattle.agent_texts.specs.ConfigFaults.{key_behind, place_text, value_text, up_to, fault_text, missing_line, unknown_line, value_line, refused_line, count_line, name_line, limit_line, IsTold};
+ghost use Rattle.agent_config.specs.ConfigFaults.{key_behind, place_text, value_text, up_to, fault_text, missing_line, unknown_line, value_line, refused_line, count_line, name_line, limit_line, IsTold};
 
 use endpoint_names::LONGEST_DOMAIN;
 use exchange_log::{write_number, write_shown};
@@ -29,7 +29,7 @@ pub enum ConfigRefusal {
 }
 
 impl From<AllocError> for ConfigRefusal {
-    ghost use Rattle.agent_texts.specs.declared.config_fault.ConfigRefusal.TheVariants as refusals;
+    ghost use Rattle.agent_config.specs.declared.config_fault.ConfigRefusal.TheVariants as refusals;
 
     ghost from_gives = { λ _ refusal. refusal ≡ refusals.OutOfMemory };
 

@@ -7,11 +7,11 @@ use Rattle.toml.specs.declared.value.Value.{Value}
 use Rattle.endpoint_names.specs.Table.{longest_domain}
 use Rattle.exchange_log.specs.Escaping.{shown}
 use Rattle.exchange_log.specs.Grouping.{number_shown}
-use Rattle.agent_texts.specs.declared.config_fault.ConfigRefusal.{ConfigRefusal}
-use Rattle.agent_texts.specs.declared.config_fault.ConfigRefusal.TheVariants.{OutOfMemory, Told}
-use Rattle.agent_texts.specs.declared.config_fault.Place.{Place}
-use Rattle.agent_texts.specs.declared.config_fault.ValueFault.{ValueFault}
-use Rattle.agent_texts.specs.declared.config_fault.ValueFault.TheVariants.{NoAddress, NoDigitMap, NoDomain, NoGateway, NoGateways, NoNumber, NoNumbers, Twice}
+use Rattle.agent_config.specs.declared.config_fault.ConfigRefusal.{ConfigRefusal}
+use Rattle.agent_config.specs.declared.config_fault.ConfigRefusal.TheVariants.{OutOfMemory, Told}
+use Rattle.agent_config.specs.declared.config_fault.Place.{Place}
+use Rattle.agent_config.specs.declared.config_fault.ValueFault.{ValueFault}
+use Rattle.agent_config.specs.declared.config_fault.ValueFault.TheVariants.{NoAddress, NoDigitMap, NoDomain, NoGateway, NoGateways, NoNumber, NoNumbers, Twice}
 
 -- so many gateways, lines of one, and keys of a number there are at most
 abbrev pub most_gateways : ℕ
