@@ -1,10 +1,10 @@
 -- What is told, one text behind another, and where nothing is.
 use Rattle.std.proofs.Common.{inl, inr, ◌≡◌, ℕ, Bool, true, false, List, [], ◌++◌, refl, sym, ap, ◌∙◌, append_assoc, append-nil}
 use Rattle.std.specs.Prelude.{if◌then◌else◌}
-use Rattle.live_ends.specs.declared.record.Record.{Record}
-use Rattle.live_ends.specs.declared.record.RecordState.{RecordState}
-use Rattle.live_ends.specs.declared.record.RecordState.TheVariants as records
-use Rattle.live_ends.specs.Recording.{is_told}
+use Rattle.live_outlets.specs.declared.record.Record.{Record}
+use Rattle.live_outlets.specs.declared.record.RecordState.{RecordState}
+use Rattle.live_outlets.specs.declared.record.RecordState.TheVariants as records
+use Rattle.live_outlets.specs.Recording.{is_told}
 use Rattle.agent_texts.specs.Telling.{Tells}
 
 pub tells_text : (text : List ℕ) (was is : Record) → is_told was.state ≡ true → is.state ≡ was.state

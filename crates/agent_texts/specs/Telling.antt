@@ -2,9 +2,9 @@
 use Rattle.std.specs.Prelude.{◌≡◌, ◌⊎◌, ℕ, Bool, false, ◌==◌, ◌&&◌, nat_le, codes, decimal, if◌then◌else◌, List, [], ◌∷◌, ◌++◌, map}
 use Rattle.std.specs.List.{flat_map}
 use Rattle.std.specs.Borrow.{Bor}
-use Rattle.live_ends.specs.declared.record.Record.{Record}
-use Rattle.live_ends.specs.declared.record.RecordState.TheVariants as records
-use Rattle.live_ends.specs.Recording.{is_told}
+use Rattle.live_outlets.specs.declared.record.Record.{Record}
+use Rattle.live_outlets.specs.declared.record.RecordState.TheVariants as records
+use Rattle.live_outlets.specs.Recording.{is_told}
 use Rattle.agent_texts.specs.declared.standing.Progress.{Progress}
 use Rattle.agent_texts.specs.declared.standing.Progress.TheVariants.{Ringing, Answered, Connected}
 use Rattle.agent_texts.specs.declared.standing.Standing.{Standing}

@@ -21,8 +21,9 @@ use crate::care::{Care, Change, Duty, NEW_CARE, Shown, fixed_order};
 use crate::hooks::{audited_hook, is_off_hook, notified, told_by_hook};
 use crate::responses::outcome_of;
 use crate::worklist::Worklist;
+use agent_config::copied;
 use agent_texts::{
-    Journal, Standing, Station, copied, refusals_of, standing_of, tell_change, tell_refusals,
+    Journal, Standing, Station, refusals_of, standing_of, tell_change, tell_refusals,
 };
 use call_routing::{Command, Exchange, NumberPlan, Outcome, Told, named_by, told_in};
 use event_values::Observed;

@@ -3,7 +3,7 @@ ghost use Rattle.std.specs.Prelude.{◌≡◌, IfOk};
 ghost use Rattle.mgcp_text.specs.Reading.{read_text};
 ghost use Rattle.call_office.specs.Responses.{creates, connection_in, created, created_by, is_creation, outcome_by};
 
-use agent_texts::copied;
+use agent_config::copied;
 use call_routing::{Command, Outcome};
 use mg_bytes::{Identifier, OutOfMemory};
 use mgcp_text::{Message, Param, TextFault, param_at, read_message};

@@ -14,7 +14,8 @@ use crate::stories::{
     Clocks, EndClock, LateRecord, Machine, Place, Program, Records, Story, Transcript, line_of,
     told, unread_outlet,
 };
-use agent_texts::{AgentConfig, ConfigRefusal, Journal, read_config};
+use agent_config::{AgentConfig, ConfigRefusal, read_config};
+use agent_texts::Journal;
 use live_agent::{Recorder, Wire, WireSettings, serve_over, wire_over};
 use live_ends::{AddressWord, CommonEnding, SocketWanted};
 use mg_bytes::OutOfMemory;

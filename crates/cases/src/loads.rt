@@ -8,9 +8,10 @@
 //! - `log ..` a line of standard error, `print ..` one of the report, and `print status 0` the exit status.
 use crate::desk::{CallAgent, config_in, wire_of};
 use crate::stories::{Machine, Program, Records, Story, Transcript, line_of};
-use agent_texts::AgentConfig;
+use agent_config::AgentConfig;
 use live_agent::{LoadEnding, Wire, WireSettings, load_over};
-use live_ends::{AddressWord, CommonEnding, SocketWanted, Written};
+use live_ends::{AddressWord, CommonEnding, SocketWanted};
+use live_outlets::Written;
 use load_bench::{LoadFault, LoadSettings};
 use mg_bytes::OutOfMemory;
 use rgca_words::read_load_words;

@@ -6,7 +6,8 @@ ghost use Rattle.clap.specs.declared.error.kind.ErrorKind.TheVariants as kinds;
 use crate::table::{Kind, with_words};
 use clap::error::ErrorKind;
 use clap::{ArgMatches, Command, Error};
-use live_ends::{CommonEnding, Outlet};
+use live_ends::CommonEnding;
+use live_outlets::Outlet;
 use std::alloc::{AllocError, Global};
 use std::io::Write;
 

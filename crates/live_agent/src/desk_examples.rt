@@ -6,7 +6,7 @@ ghost use Rattle.std.specs.declared.net.socket_addr.SocketAddrV4.{SocketAddrV4};
 ghost use Rattle.std.specs.Global.{Box};
 ghost use Rattle.agent_texts.specs.declared.journal.Journal.{Journal};
 ghost use Rattle.mg_bytes.specs.Lines.{cut, line_of};
-ghost use Rattle.live_ends.specs.declared.written.Written.{Written};
+ghost use Rattle.live_outlets.specs.declared.written.Written.{Written};
 ghost use Rattle.switchboard.specs.declared.gateway.Gateway.{Gateway};
 ghost use Rattle.live_agent.specs.declared.loading.Load.{Load};
 ghost use Rattle.live_agent.specs.declared.session.Request.TheVariants as requests;

@@ -3,7 +3,7 @@ ghost use Rattle.std.specs.Prelude.{◌≡◌, ◌&&◌, not};
 ghost use Rattle.mg_bytes.specs.Lists.{is_empty};
 
 use agent_texts::Journal;
-use live_ends::Outlets;
+use live_outlets::Outlets;
 use std::io::Write;
 
 /// Where what was recorded is written.

@@ -1,17 +1,17 @@
 //! Serves a call agent from its opening to its end.
 ghost use Rattle.std.specs.Prelude.{◌≡◌, IfOk};
 ghost use Rattle.live_agent.specs.Ending.{is_record_refused, ending_of, EndsWith};
-ghost use Rattle.live_ends.specs.Written.{faults_in};
+ghost use Rattle.live_outlets.specs.Written.{faults_in};
 
 use crate::recorder::Recorder;
 use crate::session::serve;
 use crate::wire::Wire;
-use agent_texts::{AgentConfig, Journal};
+use agent_config::AgentConfig;
+use agent_texts::Journal;
 use bad_network::{BadNetwork, Spoiling};
 use exchange_log::put_peer;
-use live_ends::{
-    CommonEnding, Finisher, Live, Outlets, SocketWanted, Written, boxed, open_capture,
-};
+use live_ends::{CommonEnding, Live, SocketWanted, open_capture};
+use live_outlets::{Finisher, Outlets, Written, boxed};
 use mg_bytes::{Draft, OutOfMemory};
 use std::alloc::Global;
 use std::io::Write;

@@ -16,7 +16,7 @@ use crate::wire::Wire;
 use agent_texts::count;
 use bad_network::Way;
 use call_agent::Issued;
-use live_ends::{DONE, NO_MEMORY, STOP_FROM_AFAR};
+use live_outlets::{DONE, NO_MEMORY, STOP_FROM_AFAR};
 use mg_bytes::{OutOfMemory, put_decimal};
 use plain_machine::{Outputs, Refusal};
 use std::alloc::Global;

@@ -17,7 +17,7 @@ use crate::loading::{Load, count_sent};
 use agent_texts::{Journal, Tally, count};
 use bad_network::{BadNetwork, Fate, Packet, Way};
 use exchange_log::{Note, Stamp, put_pause};
-use live_ends::{NEXT_OFFER, Now};
+use live_outlets::{NEXT_OFFER, Now};
 use plain_machine::OutDatagram;
 use std::alloc::{AllocError, Global};
 use std::net::SocketAddrV4;

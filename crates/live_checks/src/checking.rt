@@ -7,7 +7,8 @@ use gateway_checks::{
     Check, IN_USE, Names, Places, Player, SERVES, Tally, UNKNOWN, Verdict, all_checks, check_named,
     check_of, put_case, put_check, put_entry, put_suite, put_tally,
 };
-use live_ends::{Outlet, boxed, time_of_day};
+use live_ends::time_of_day;
+use live_outlets::{Outlet, boxed};
 use mg_bytes::OutOfMemory;
 use std::alloc::Global;
 use std::io::Write;

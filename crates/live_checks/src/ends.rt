@@ -2,7 +2,8 @@
 use crate::check_fault::CheckFault;
 use crate::telephone::Telephone;
 use gateway_checks::{Player, Socket, Turn};
-use live_ends::{LiveClock, bind, boxed};
+use live_ends::{LiveClock, bind};
+use live_outlets::boxed;
 use mio::net::UdpSocket;
 use mio::{Events, Interest, Poll, Token};
 use std::alloc::Global;

@@ -26,8 +26,8 @@ use crate::exchange::Exchange;
 use crate::turn_parts::{answer_act, note_datagram, note_taken, situation, take_from_page, typist};
 use crate::visitors::Visitors;
 use gateway_core::DATAGRAM_ROOM;
-use live_ends::DONE;
 use live_journal::{Recorder, report_with};
+use live_outlets::DONE;
 use live_play::LivePlay;
 use live_telephones::{
     PHONES_FROM_AFAR, TelephoneRequest, Watch, all_shown, answer_put, lost_of, question_answer,

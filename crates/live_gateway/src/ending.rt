@@ -2,12 +2,13 @@
 ghost use Rattle.std.specs.Prelude.{◌≡◌, codes, IfOk, OnErr};
 ghost use Rattle.surroundings.specs.Hearing.{AnswersTo};
 ghost use Rattle.live_ends.specs.Ending.{served_ending};
-ghost use Rattle.live_ends.specs.Written.{faults_in};
+ghost use Rattle.live_outlets.specs.Written.{faults_in};
 ghost use Rattle.live_gateway.specs.Ending.{AsksForEnd, is_record_refused, EndsWith, OnlyEnds};
 
 use crate::desk::Desk;
-use live_ends::{CommonEnding, Finisher, Written};
+use live_ends::CommonEnding;
 use live_journal::{Journal, Recorder, Trace};
+use live_outlets::{Finisher, Written};
 use std::alloc::AllocError;
 use std::rt::Clock;
 use surroundings::Surroundings;

@@ -24,4 +24,4 @@ pub use crate::naming::agents_line;
 pub use crate::opening::{DeskSettings, open_desk};
 pub use crate::spoilt_way::SpoiltWay;
 pub use crate::visitors::Visitors;
-pub use live_ends::boxed;
+pub use live_outlets::boxed;

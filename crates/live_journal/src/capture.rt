@@ -1,10 +1,10 @@
 //! The capture of a gateway: each datagram that comes or is sent, as tshark and Wireshark read it.
 ghost use Rattle.std.specs.Prelude.{◌≡◌, ◌++◌, true, IfOk};
 ghost use Rattle.exchange_log.specs.File.{file_head};
-ghost use Rattle.live_ends.specs.Recording.{is_told};
+ghost use Rattle.live_outlets.specs.Recording.{is_told};
 
 use exchange_log::{Packet, Way, put_head, put_packet};
-use live_ends::Record;
+use live_outlets::Record;
 use mg_bytes::{OutOfMemory, Text};
 use std::alloc::Global;
 use std::net::SocketAddrV4;

@@ -17,7 +17,7 @@ use crate::spoiling::note_of;
 use bad_network::Fate;
 use exchange_log::{Note, Way};
 use gateway_core::SentMessage;
-use live_ends::{Now, Written};
+use live_outlets::{Now, Written};
 use message_counts::{MessageTally, Taken};
 use page_answers::{Board, Kind};
 use std::net::SocketAddrV4;

@@ -1,10 +1,10 @@
 //! What was recorded is kept for its outlets, and written as far as these take it.
 ghost use Rattle.std.specs.Prelude.{◌≡◌};
-ghost use Rattle.live_ends.specs.Backlog.{room_left};
+ghost use Rattle.live_outlets.specs.Backlog.{room_left};
 
 use crate::journal::Journal;
 use crate::trace::Trace;
-use live_ends::{Outlet, Outlets, Record, TEXT_ROOM};
+use live_outlets::{Outlet, Outlets, Record, TEXT_ROOM};
 use std::io::Write;
 
 // What the log says is kept for standard error, or that memory was refused for it.

@@ -2,7 +2,7 @@
 #![tactic(auto, unfolding(crate::proofs::Computing::on_examples))]
 
 ghost use Rattle.std.specs.Prelude.{◌≡◌, ◌+◌, ◌++◌, codes, true, false, []};
-ghost use Rattle.live_ends.specs.declared.record.RecordState.TheVariants.{Off, On, OutOfMemory};
+ghost use Rattle.live_outlets.specs.declared.record.RecordState.TheVariants.{Off, On, OutOfMemory};
 ghost use Rattle.live_journal.specs.declared.trace.Trace.{Trace};
 ghost use Rattle.live_journal.specs.Recording.{is_telling, has_ended, HasPlace};
 

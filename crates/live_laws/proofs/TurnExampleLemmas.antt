@@ -8,9 +8,9 @@ use Rattle.page_answers.specs.Showing.{BoardState}
 use Rattle.surroundings.specs.declared.surroundings.Fault.{Fault}
 use Rattle.live_ends.specs.declared.ending.CommonEnding.{CommonEnding}
 use Rattle.live_ends.specs.declared.ending.CommonEnding.TheVariants.{OutOfMemory}
-use Rattle.live_ends.specs.declared.written.Written.{Written}
+use Rattle.live_outlets.specs.declared.written.Written.{Written}
 use Rattle.live_ends.specs.Ending.{served_ending}
-use Rattle.live_ends.specs.Written.{faults_in}
+use Rattle.live_outlets.specs.Written.{faults_in}
 use Rattle.live_journal.specs.declared.trace.Trace.{Trace}
 use Rattle.live_gateway.specs.declared.admission.Admission.{Admission}
 use Rattle.live_gateway.specs.declared.desk.Desk.{Desk}

@@ -2,7 +2,7 @@
 use crate::desk::Desk;
 use crate::host_names::HostNames;
 use http_server::{Config, Connection};
-use live_ends::boxed;
+use live_outlets::boxed;
 use page_answers::Board;
 use std::alloc::Global;
 use std::hash::RandomState;

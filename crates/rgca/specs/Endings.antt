@@ -2,8 +2,8 @@
 use Rattle.std.specs.Prelude.{◌≡◌, ◌≢◌, ◌⊎◌, ℕ, codes, decimal, List, ◌++◌}
 use Rattle.std.specs.declared.io.ErrorKind.TheVariants as kinds
 use Rattle.std.specs.declared.net.socket_addr.SocketAddrV4.{SocketAddrV4}
-use Rattle.agent_texts.specs.declared.config_fault.ConfigRefusal.{ConfigRefusal}
-use Rattle.agent_texts.specs.declared.config_fault.ConfigRefusal.TheVariants as refusals
+use Rattle.agent_config.specs.declared.config_fault.ConfigRefusal.{ConfigRefusal}
+use Rattle.agent_config.specs.declared.config_fault.ConfigRefusal.TheVariants as refusals
 use Rattle.live_ends.specs.declared.address_words.AddressWord.TheVariants.{Own}
 use Rattle.live_ends.specs.declared.ending.CommonEnding.TheVariants as endings
 use Rattle.live_checks.specs.declared.check_fault.CheckFault.{CheckFault}

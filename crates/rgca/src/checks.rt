@@ -4,7 +4,8 @@ ghost use Rattle.rgca.specs.Endings.{Unchecked};
 ghost use Rattle.rgca_words.specs.Names.{name_of, Says};
 
 use live_checks::{CheckFault, Checked, check_gateway, check_list, fault_text};
-use live_ends::{AddressWord, CommonEnding, Outlet, Outlets};
+use live_ends::{AddressWord, CommonEnding};
+use live_outlets::{Outlet, Outlets};
 use mg_bytes::OutOfMemory;
 use rgca_words::{CheckWords, Ending, Named, Said, check_words_ending, read_check_words};
 use std::alloc::Global;

@@ -2,7 +2,7 @@
 ghost use Rattle.std.specs.Prelude.{◌≡◌};
 ghost use Rattle.rgca.specs.Endings.{config_by};
 
-use agent_texts::{AgentConfig, ConfigRefusal, Place, missing, read_config, too_long};
+use agent_config::{AgentConfig, ConfigRefusal, Place, missing, read_config, too_long};
 use live_ends::CommonEnding;
 use rgca_words::Ending;
 use rgw_scripts::LIMIT;

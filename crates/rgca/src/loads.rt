@@ -5,7 +5,8 @@ ghost use Rattle.rgca_words.specs.Names.{Says};
 
 use crate::configs::{bench_refusal, config_ending, config_of};
 use live_agent::{LoadEnding, load_agent};
-use live_ends::{CommonEnding, Outlets, read_file};
+use live_ends::{CommonEnding, read_file};
+use live_outlets::Outlets;
 use load_bench::{LoadFault, LoadSettings};
 use rgca_words::{Ending, Named, Said, load_words_ending, read_load_words};
 use rgw_scripts::LIMIT;

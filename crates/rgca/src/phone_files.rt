@@ -4,7 +4,7 @@ ghost use Rattle.phone_scripts.specs.Wording.{place_text};
 ghost use Rattle.rgca.specs.Endings.{too_long_text, FileEnds};
 ghost use Rattle.rgca_words.specs.Names.{Says};
 
-use agent_texts::copied;
+use agent_config::copied;
 use live_ends::{CommonEnding, read_file};
 use mg_bytes::{Draft, OutOfMemory, Text};
 use phone_scripts::{Place, Reader, Script, ScriptFault, Wanted, fault_line, put_place};

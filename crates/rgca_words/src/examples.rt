@@ -10,7 +10,7 @@ ghost use Rattle.std.specs.declared.net.socket_addr.SocketAddrV4.{SocketAddrV4};
 ghost use Rattle.live_ends.specs.declared.ending.CommonEnding.{CommonEnding};
 ghost use Rattle.live_ends.specs.declared.ending.CommonEnding.TheVariants.{Unreadable, Unwritable};
 ghost use Rattle.live_ends.specs.Ending.{status_of as common_status, is_asked as is_commonly_asked, ending_text as common_text};
-ghost use Rattle.live_ends.specs.Reasons.{reason_of};
+ghost use Rattle.live_outlets.specs.Reasons.{reason_of};
 ghost use Rattle.rgca_words.specs.declared.words.WordFault.TheVariants as faults;
 ghost use Rattle.rgca_words.specs.declared.phone_words.PhoneWordFault.TheVariants as phone_faults;
 ghost use Rattle.rgca_words.specs.declared.load_words.LoadWordFault.TheVariants as number_faults;

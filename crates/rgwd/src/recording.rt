@@ -2,8 +2,9 @@
 ghost use Rattle.std.specs.Prelude.{◌≡◌, ◌&&◌, not};
 ghost use Rattle.mg_bytes.specs.Lists.{is_empty};
 
-use live_ends::{CaptureFiles, Finisher, Outlets, Written};
+use live_ends::CaptureFiles;
 use live_journal::{Journal, Recorder, Trace};
+use live_outlets::{Finisher, Outlets, Written};
 use std::io::Write;
 use std::rt::{Clock, Files};
 

@@ -11,7 +11,7 @@ ghost use Rattle.live_ends.specs.declared.ending.FileNames.{FileNames};
 ghost use Rattle.live_ends.specs.declared.ending.CommonEnding.{CommonEnding};
 ghost use Rattle.live_ends.specs.declared.ending.CommonEnding.TheVariants.{Unreadable, Unwritable};
 ghost use Rattle.live_ends.specs.Ending.{status_of as common_status, is_asked as is_commonly_asked, ending_text as common_text};
-ghost use Rattle.live_ends.specs.Reasons.{reason_of};
+ghost use Rattle.live_outlets.specs.Reasons.{reason_of};
 ghost use Rattle.rgwd_words.specs.declared.ending.Ending.TheVariants.{Common, Checked, BadAgents, BadHosts, BadSize, BadFiles, AnyAddress, BadFirst, BadSpread, NoTimeOfDay, Replayed, Differs, NoTrace, Answered, NoAnswer};
 ghost use Rattle.rgwd_words.specs.Names.{name_of, Says};
 ghost use Rattle.rgwd_words.specs.Parting.{parting_of};

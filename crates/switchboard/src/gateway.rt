@@ -15,7 +15,7 @@ ghost use Rattle.switchboard.specs.Wakes.{first_moment, first_woken, behind_woke
 
 use crate::flight::Flight;
 use crate::own_copy::Room;
-use agent_texts::copied;
+use agent_config::copied;
 use call_agent::{Agent, IssueFault, Issued};
 use endpoint_names::Route;
 use mg_bytes::{OutOfMemory, Text};

@@ -27,7 +27,8 @@ use crate::naming::{has_domain, is_meant, is_unknown, line_behind, line_meant, m
 use crate::orders::{answer_at, issue_by, issue_named};
 use crate::taking::take_from;
 use crate::typed::{TypedFault, typed_in};
-use agent_texts::{AgentConfig, Journal, Station, copied};
+use agent_config::{AgentConfig, copied};
+use agent_texts::{Journal, Station};
 use call_agent::{IssueFault, Issued};
 use call_office::{Office, Order, Worklist};
 use call_routing::NumberPlan;

@@ -6,7 +6,7 @@ ghost use Rattle.told_messages.specs.Recording.{Records};
 use crate::strangers::Quiet;
 use exchange_log::{Note, Stamp, Way, put_given_up, put_message, put_note};
 use gateway_core::{GivenUpCommand, Label, SentMessage, TextOutcome, What, Whose};
-use live_ends::{Now, Record};
+use live_outlets::{Now, Record};
 use message_counts::Taken;
 use mg_bytes::{OutOfMemory, Text};
 use mgcp_text::TransactionId;

@@ -6,7 +6,7 @@ ghost use Rattle.told_messages.specs.Recording.{Records};
 
 use crate::log::Log;
 use exchange_log::{Note, Stamp, Way, put_pause};
-use live_ends::Now;
+use live_outlets::Now;
 use piggyback::parts;
 use std::net::SocketAddrV4;
 

@@ -8,7 +8,7 @@ ghost use Rattle.told_messages.specs.Strangers.{told_at, quiet_after, unheard_te
 use crate::log::Log;
 use exchange_log::{Note, Stamp, put_note};
 use gateway_core::SentMessage;
-use live_ends::Now;
+use live_outlets::Now;
 use message_counts::is_own;
 use mg_bytes::OutOfMemory;
 use small_rules::count;

@@ -1,8 +1,8 @@
 //! What a program records, kept as the program keeps it, and read late, or never.
 use crate::stories::clocks::Clocks;
 use crate::stories::transcript::Transcript;
-use live_ends::{Finisher, Outlet, Outlets, Stream, Written};
 use live_journal::{Journal, Trace};
+use live_outlets::{Finisher, Outlet, Outlets, Stream, Written};
 use std::alloc::{AllocError, Global};
 use std::cell::Cell;
 use std::io::{self, ErrorKind, Write};

@@ -1,6 +1,6 @@
 use Rattle.std.proofs.Common.{◌≡◌, ℕ, List, ◌++◌, codes, subst}
 use Rattle.live_ends.specs.Ending.{ending_text as common_text}
-use Rattle.live_ends.specs.Reasons.{reason_of}
+use Rattle.live_outlets.specs.Reasons.{reason_of}
 use Rattle.rgca_words.specs.Texts.{ending_text}
 use Rattle.rgca_words.proofs.examples.an_ending_names_what_fails.Goals as goal
 

@@ -2,7 +2,7 @@ use Rattle.std.proofs.Common.{refl, sym, ◌∙◌, ap}
 use Rattle.live_play.specs.Coming.{Came}
 use Rattle.live_gateway.specs.Desk.{at_desk}
 use Rattle.live_gateway.proofs.DeskLemmas.{standing_of, counted_so, ticks}
-use Rattle.live_ends.specs.declared.now.Now.{Now}
+use Rattle.live_outlets.specs.declared.now.Now.{Now}
 use Rattle.live_gateway.proofs.OverLemmas.{sends_tried, sends_noted}
 use Rattle.live_gateway.proofs.TurningLemmas.{tries}
 use Rattle.live_gateway.proofs.desk.Desk.tick.Goals as goal
