@@ -2,7 +2,7 @@
 use Rattle.std.specs.Prelude.{◌≡◌, ◌⊎◌, ℕ, Bool, true, Option, Result}
 use Rattle.std.specs.Global.{Box}
 use Rattle.mg_bytes.specs.Lists.{is_empty}
-use Rattle.page_answers.specs.Showing.{BoardState}
+use Rattle.page_board.specs.Showing.{BoardState}
 use Rattle.surroundings.specs.Sending.{Traffic}
 use Rattle.surroundings.specs.Typing.{left_of}
 use Rattle.surroundings.specs.declared.lines.Lines.{Lines}

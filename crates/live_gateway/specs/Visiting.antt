@@ -2,7 +2,7 @@
 use Rattle.std.specs.Prelude.{◌≡◌, ℕ, Bool, false, Option, Some, None}
 use Rattle.std.specs.Global.{Box}
 pub use Rattle.turns.specs.Clock.{has_come}
-use Rattle.page_answers.specs.Showing.{BoardState}
+use Rattle.page_board.specs.Showing.{BoardState}
 
 -- whether they are ready over these surroundings, at this moment, as they said; where there are none, none is
 abbrev pub AreReady : {V S : Type 0} → (V → S → ℕ → Bool → Type 0) → Option (Box V) → S → ℕ → Bool → Type 0

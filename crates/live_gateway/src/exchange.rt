@@ -1,7 +1,7 @@
 //! What goes between the gateway and others: over sockets, behind a bad network where one is asked for; and its journal.
 ghost use Rattle.std.specs.Prelude.{◌≡◌, ◌<◌, ◌≤◌, ◌∷◌, ◌⊎◌, ⊤, [], true, false, length, take, ℕ, Bool, List, Option, Result, IfSome, is_some, map, option_map};
 ghost use Rattle.small_rules.specs.Counting.{counted};
-ghost use Rattle.page_answers.specs.declared.ring.Kind.TheVariants.{Sent as OfSent, Received as OfReceived};
+ghost use Rattle.page_board.specs.declared.ring.Kind.TheVariants.{Sent as OfSent, Received as OfReceived};
 ghost use Rattle.told_messages.specs.Labelling.{sent_label};
 ghost use Rattle.told_messages.specs.Showing.{GoesOn, Happened, HappenedWith};
 ghost use Rattle.surroundings.specs.declared.surroundings.Fault.{Fault};

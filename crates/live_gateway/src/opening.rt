@@ -15,7 +15,7 @@ use live_journal::{Capture, Journal, Trace};
 use live_outlets::{Now, Written, boxed};
 use live_play::LivePlay;
 use message_counts::MessageTally;
-use page_answers::Board;
+use page_board::Board;
 use std::alloc::{AllocError, Global};
 use std::net::SocketAddrV4;
 use surroundings::{Lines, Surroundings};

@@ -2,14 +2,14 @@
 ghost use Rattle.std.specs.Prelude.{◌≡◌};
 ghost use Rattle.live_gateway.specs.Visiting.{AreReady, ClosesAt};
 
-use page_answers::Board;
+use page_board::Board;
 use surroundings::Surroundings;
 
 /// Visitors of a page, who come over the same surroundings and are served between the gateway's turns. They can be held to what they said
 /// when they were asked, and to each turn that they had.
 pub trait Visitors<S: Surroundings> {
     ghost use Rattle.std.specs.Prelude.{ℕ, Bool, Option};
-    ghost use Rattle.page_answers.specs.Showing.{BoardState};
+    ghost use Rattle.page_board.specs.Showing.{BoardState};
 
     /// They were asked whether they are ready over these surroundings, at this moment in ms: that gave this.
     ghost waits: { Self → S → ℕ → Bool → Type 0 };

@@ -4,7 +4,7 @@ use Rattle.std.specs.Prelude.{⊤, Result, is_some}
 use Rattle.std.specs.Global.{Box}
 use Rattle.std.specs.declared.net.socket_addr.SocketAddrV4.{SocketAddrV4}
 use Rattle.bad_network.specs.declared.fate.Fate.{Fate}
-use Rattle.page_answers.specs.Showing.{BoardState}
+use Rattle.page_board.specs.Showing.{BoardState}
 use Rattle.surroundings.specs.declared.surroundings.Fault.{Fault}
 use Rattle.live_ends.specs.declared.ending.CommonEnding.{CommonEnding}
 use Rattle.live_ends.specs.declared.ending.CommonEnding.TheVariants.{OutOfMemory}

@@ -15,7 +15,7 @@ ghost use Rattle.std.specs.declared.net.socket_addr.SocketAddrV4.{SocketAddrV4};
 ghost use Rattle.message_counts.specs.Tallying.{with_received, with_stranger};
 ghost use Rattle.message_counts.specs.declared.message_tally.MessageTally.{MessageTally};
 ghost use Rattle.message_counts.specs.declared.reporting.Faults.{Faults};
-ghost use Rattle.page_answers.specs.declared.counts.Counts.{Counts as Counted};
+ghost use Rattle.gateway_metrics.specs.declared.counts.Counts.{Counts as Counted};
 ghost use Rattle.rgw_scripts.specs.Moves.{Move, Shown};
 ghost use Rattle.traces.specs.declared.telling.Mark.{Mark};
 ghost use Rattle.traces.specs.declared.telling.Mark.TheVariants.{Unsent, Lost};

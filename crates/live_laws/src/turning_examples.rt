@@ -20,7 +20,7 @@ ghost use Rattle.live_gateway.specs.Leaving.{OnlyShows, OnlyPlays, OnlyTicks, On
 ghost use Rattle.live_gateway.specs.Turning.{ready_at, RunsTurns};
 ghost use Rattle.surroundings.specs.Sending.{untold};
 ghost use Rattle.std.specs.Global.{Box};
-ghost use Rattle.page_answers.specs.Showing.{BoardState};
+ghost use Rattle.page_board.specs.Showing.{BoardState};
 ghost use Rattle.live_gateway.specs.Visiting.{AreReady, ClosesAt, ServesOnce};
 
 /// Where nothing changes of what may, nothing does. Neither a wait nor a visitor changes how much was read; without a turn the end stays.

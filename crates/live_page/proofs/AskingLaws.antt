@@ -8,7 +8,7 @@ use Rattle.http.specs.declared.request.Request.{Request}
 use Rattle.http.specs.Request.{head_of, body_of}
 use Rattle.http_server.specs.declared.response.Response.{Response}
 use Rattle.http_server.specs.Response.{IsResponse}
-use Rattle.page_answers.specs.Showing.{BoardState}
+use Rattle.page_board.specs.Showing.{BoardState}
 use Rattle.live_page.specs.declared.desk.Desk.{Desk}
 use Rattle.live_page.specs.Serving.{Answered}
 use Rattle.live_page.specs.Answering.{Answers}

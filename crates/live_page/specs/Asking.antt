@@ -7,8 +7,8 @@ use Rattle.http.specs.Uri.{uri_path, uri_query, uri_authority}
 use Rattle.http.specs.declared.request.Parts.{Parts}
 use Rattle.http1.specs.Fields.{Header}
 use Rattle.mg_bytes.specs.Numbers.{decimal_of}
-use Rattle.page_answers.specs.declared.board.ActOutcome.{ActOutcome}
-use Rattle.page_answers.specs.declared.board.ActOutcome.TheVariants.{Queued, NoRoom, Unreadable}
+use Rattle.page_answers.specs.declared.answers.ActOutcome.{ActOutcome}
+use Rattle.page_answers.specs.declared.answers.ActOutcome.TheVariants.{Queued, NoRoom, Unreadable}
 use Rattle.live_page.specs.declared.route.Route.{Route}
 use Rattle.live_page.specs.declared.route.Route.TheVariants.{Page, Style, Script, State, Metrics, Health, Ready, Events, Phone, Nothing}
 use Rattle.live_page.specs.declared.asked.Asked.{Asked}

@@ -1,7 +1,7 @@
 //! The desk: a request is answered by what the board has.
 ghost use Rattle.std.specs.Prelude.{◌≡◌, ◌++◌, OnOk, OnErr, string_bytes};
 ghost use Rattle.http_server.specs.Response.{IsBlank, fields_of};
-ghost use Rattle.page_answers.specs.declared.board.ActOutcome.{ActOutcome as Outcome};
+ghost use Rattle.page_answers.specs.declared.answers.ActOutcome.{ActOutcome as Outcome};
 ghost use Rattle.live_page.specs.Asking.{outcome_status, method_for, refusal_status, refusal_fields};
 ghost use Rattle.live_page.specs.Fields.{kind_fields};
 ghost use Rattle.live_page.specs.declared.fields.Content.TheVariants as contents;
@@ -18,13 +18,15 @@ use crate::route::Route;
 use bytes::Bytes;
 use http::{HeaderValue, Request, StatusCode, header};
 use http_server::{Response, Service};
-use page_answers::{ActOutcome, Board};
-use std::alloc::AllocError;
+use page_answers::{ActOutcome, act_on, events_of, state_of};
+use page_board::Board;
+use std::alloc::{AllocError, Global};
 use std::net::SocketAddrV4;
 
 /// The desk of the page at an address, and under further names, which answers by a board for a turn.
 #[derive(Drop)]
 pub(crate) struct Desk<'a> {
+    alloc: Global,
     site: SocketAddrV4,
     names: &'a HostNames,
     board: &'a mut Board,
@@ -96,7 +98,12 @@ fn act_status(outcome: ActOutcome) -> StatusCode
 }
 
 // Puts what stands there.
-fn read(board: &Board, route: Route, response: &mut Response) -> Result<(), AllocError>
+fn read(
+    alloc: Global,
+    board: &Board,
+    route: Route,
+    response: &mut Response,
+) -> Result<(), AllocError>
     requires { IsBlank response.old }
     ensures { OnOk result (Reads board.now route response.new) }
 {
@@ -104,11 +111,11 @@ fn read(board: &Board, route: Route, response: &mut Response) -> Result<(), Allo
         Route::Page => put_static(response, Content::Page, page_text()),
         Route::Style => put_static(response, Content::Style, style_text()),
         Route::Script => put_static(response, Content::Script, script_text()),
-        Route::State => put_json(response, board.state()?),
+        Route::State => put_json(response, state_of(alloc, board)?),
         Route::Metrics => put_metrics(response, board.metrics()?),
         Route::Health => put_health(response, board.is_alive()),
         Route::Ready => put_readiness(response, board.is_serving()),
-        Route::Events { after } => put_json(response, board.events(after)?),
+        Route::Events { after } => put_json(response, events_of(alloc, board, after)?),
         Route::Phone | Route::Nothing => {
             response.status = StatusCode::NOT_FOUND;
             Ok(())
@@ -117,12 +124,17 @@ fn read(board: &Board, route: Route, response: &mut Response) -> Result<(), Allo
 }
 
 // Does what a body asks for, as far as the board does. After an error the board is as it was.
-fn act(board: &mut Board, body: &[u8], response: &mut Response) -> Result<(), AllocError>
+fn act(
+    alloc: Global,
+    board: &mut Board,
+    body: &[u8],
+    response: &mut Response,
+) -> Result<(), AllocError>
     requires { IsBlank response.old }
     ensures ok { OnOk result ((outcome : Outcome) × Acts board.old body.now response.new board.new outcome) }
     ensures err { OnErr result (board.new ≡ board.old) }
 {
-    response.status = act_status(board.act(body)?);
+    response.status = act_status(act_on(alloc, board, body)?);
     Ok(())
 }
 
@@ -168,13 +180,23 @@ fn put_refusal(response: &mut Response, asked: Asked) -> Result<(), AllocError>
 
 impl<'a> Desk<'a> {
     /// The desk of the page at this address, and under these names, over this board.
-    pub(crate) fn new(site: SocketAddrV4, names: &'a HostNames, board: &'a mut Board) -> Desk<'a>
+    pub(crate) fn new(
+        alloc: Global,
+        site: SocketAddrV4,
+        names: &'a HostNames,
+        board: &'a mut Board,
+    ) -> Desk<'a>
         ensures site { result.site ≡ site }
         ensures names { result.names.now ≡ names.now }
         ensures board { result.board.now ≡ board.old }
         ensures same_reference { result.board.ghost_name ≡ board.entry.ghost_name }
     {
-        Desk { site, names, board }
+        Desk {
+            alloc,
+            site,
+            names,
+            board,
+        }
     }
 }
 
@@ -189,8 +211,8 @@ impl Service for Desk<'_> {
         response: &mut Response,
     ) -> Result<(), AllocError> {
         match asked_of(self.site, self.names, request) {
-            Asked::Reading { route } => read(self.board, route, response),
-            Asked::Acting => act(self.board, request.body().as_slice(), response),
+            Asked::Reading { route } => read(self.alloc, self.board, route, response),
+            Asked::Acting => act(self.alloc, self.board, request.body().as_slice(), response),
             refused => put_refusal(response, refused),
         }
     }

@@ -4,7 +4,7 @@
 ghost use Rattle.std.specs.Prelude.{◌≡◌, codes, map, true, false, [], ◌∷◌, ◌++◌, Some, None};
 ghost use Rattle.std.specs.Global.{Box};
 ghost use Rattle.live_page.specs.Access.{only, is_known_host, is_same_origin, is_json};
-ghost use Rattle.page_answers.specs.declared.board.ActOutcome.TheVariants.{Queued, NoRoom, Unreadable};
+ghost use Rattle.page_answers.specs.declared.answers.ActOutcome.TheVariants.{Queued, NoRoom, Unreadable};
 ghost use Rattle.live_page.specs.Asking.{route_of, is_refused, reading_status, refusal_status, refusal_fields, outcome_status};
 ghost use Rattle.live_page.specs.Fields.{kind_of, policy, kind_fields, fields_at};
 ghost use Rattle.live_page.specs.declared.fields.Content.TheVariants as contents;

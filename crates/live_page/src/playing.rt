@@ -3,7 +3,7 @@ use crate::desk::Desk;
 use crate::host_names::HostNames;
 use http_server::{Config, Connection};
 use live_outlets::boxed;
-use page_answers::Board;
+use page_board::Board;
 use std::alloc::Global;
 use std::hash::RandomState;
 use std::io;
@@ -38,7 +38,7 @@ pub fn answer_to(
     board: &mut Board,
     request: &[u8],
 ) -> io::Result<Vec<u8>> {
-    let mut desk = Desk::new(site, names, board);
+    let mut desk = Desk::new(alloc, site, names, board);
     let mut connection = boxed(alloc, Connection::new(alloc, keys, Config::default()))?;
     let mut answer = Vec::new(alloc);
     put_answer(&mut connection, &mut desk, request, &mut answer)?;

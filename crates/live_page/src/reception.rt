@@ -7,7 +7,7 @@ ghost use Rattle.std.specs.Prelude.{◌≡◌};
 use crate::host_names::HostNames;
 use crate::site::Site;
 use live_ends::Readiness;
-use page_answers::Board;
+use page_board::Board;
 use std::alloc::Global;
 use std::io;
 use std::net::{Net, SocketAddrV4};
@@ -17,7 +17,7 @@ use std::random::RandomSource;
 pub trait Reception: Drop {
     ghost use Rattle.std.specs.Prelude.{ℕ, Bool, Option};
     ghost use Rattle.live_ends.specs.declared.readiness.Readiness.{Readiness};
-    ghost use Rattle.page_answers.specs.Showing.{BoardState};
+    ghost use Rattle.page_board.specs.Showing.{BoardState};
 
     /// A visitor has more to do at once, or somebody may have come.
     ghost busy: { Self → Bool };

@@ -9,7 +9,7 @@ use crate::reception::Reception;
 use crate::visitor::Visitor;
 use live_ends::{MOST_VISITORS, Readiness};
 use mio::net::{TcpListener, TcpStream};
-use page_answers::Board;
+use page_board::Board;
 use std::alloc::{AllocError, Global};
 use std::hash::RandomState;
 use std::io;
@@ -272,7 +272,7 @@ impl Site {
             return;
         };
         self.last = place;
-        let mut desk = Desk::new(address, &self.names, board);
+        let mut desk = Desk::new(self.alloc, address, &self.names, board);
         let stays = match self.places.get_mut(place) {
             Some(Some(visitor)) => visitor.turn(&mut desk, now),
             _ => true,

@@ -7,10 +7,10 @@ use Rattle.plain_machine.specs.Machine.{serves}
 use Rattle.gateway_core.specs.GatewayState.{GatewayState}
 use Rattle.gateway_core.specs.Remembering.{remembered}
 use Rattle.gateway_core.specs.Stands.{Stands}
-use Rattle.page_answers.specs.declared.act.QueuedAct.{QueuedAct}
-use Rattle.page_answers.specs.declared.picture.Picture.{Picture}
-use Rattle.page_answers.specs.Acting.{act_line}
-use Rattle.page_answers.specs.Showing.{BoardState}
+use Rattle.page_board.specs.declared.act.QueuedAct.{QueuedAct}
+use Rattle.gateway_metrics.specs.declared.picture.Picture.{Picture}
+use Rattle.page_board.specs.Acts.{act_line}
+use Rattle.page_board.specs.Showing.{BoardState}
 use Rattle.surroundings.specs.declared.lines.Lines.{Lines}
 use Rattle.surroundings.specs.Hearing.{Begins}
 use Rattle.live_journal.specs.declared.journal.Journal.{Journal}

@@ -8,7 +8,7 @@ ghost use Rattle.plain_machine.specs.Machine.{Machine};
 ghost use Rattle.gateway_core.specs.GatewayState.{GatewayState};
 ghost use Rattle.gateway_core.specs.Stands.{Stands};
 ghost use Rattle.message_counts.specs.declared.reporting.Faults.{Faults};
-ghost use Rattle.page_answers.specs.declared.picture.Picture.{Picture};
+ghost use Rattle.gateway_metrics.specs.declared.picture.Picture.{Picture};
 ghost use Rattle.line_changes.specs.Example.{resting, lifted};
 ghost use Rattle.line_changes.specs.Watching.{nobody};
 ghost use Rattle.live_journal.specs.declared.journal.Journal.{Journal};

@@ -7,8 +7,8 @@ use Rattle.hex.specs.Hex.{encode_lower}
 use Rattle.serde_json.specs.Data.{Data, string, object, no_members, put}
 use Rattle.serde_json.specs.View.{view, items_of}
 use Rattle.serde_json.specs.Written.{has_float, items_have_float, compact_text}
-use Rattle.page_answers.specs.declared.label.MessageLabel.{MessageLabel}
-use Rattle.page_answers.specs.Keeping.{Event, RingState}
+use Rattle.page_board.specs.declared.label.MessageLabel.{MessageLabel}
+use Rattle.page_board.specs.Keeping.{Event, RingState}
 use Rattle.page_answers.specs.Labelling.{label_data, with_said}
 use Rattle.page_answers.specs.Telling.{event_data, put_circumstances, told_after, last_number, events_data}
 use Rattle.page_answers.specs.Texts.{number_data}

@@ -1,11 +1,4 @@
-pub mod Keeping
-pub mod Verbs
-pub mod Totals
-pub mod Metrics
-pub mod Samples
 pub mod Acting
-pub mod Showing
-pub mod Health
 pub mod Outcomes
 pub mod Texts
 pub mod Labelling

@@ -3,8 +3,8 @@ ghost use Rattle.std.specs.Prelude.{◌≡◌, IfOk, IfSome, IsUtf8, Some, None}
 ghost use Rattle.serde_json.specs.View.{view};
 ghost use Rattle.page_answers.specs.Acting.{line_in as line_of, act_in as act_of, queued_in as queued_of, asked_by};
 
-use crate::act::{PhoneAct, QueuedAct, act_named};
 use mg_bytes::OutOfMemory;
+use page_board::{PhoneAct, QueuedAct, act_named};
 use serde_json::Value;
 use std::alloc::{AllocError, Global};
 

@@ -3,12 +3,13 @@ ghost use Rattle.std.specs.Prelude.{◌≡◌, map, fold, IfOk, OnOk, string_byt
 ghost use Rattle.serde_json.specs.Data.{array};
 ghost use Rattle.serde_json.specs.View.{view, members_view, items_of};
 ghost use Rattle.page_answers.specs.Texts.{state_data, TellsState, signal_data, connection_data, hook_word, line_data, lines_data, with_verb, with_code, given_up_in, put_counted, counts_data};
-ghost use Rattle.page_answers.specs.Totals.{totals_of};
+ghost use Rattle.gateway_metrics.specs.Totals.{totals_of};
 
-use crate::counts::{CodeCount, Counts, VerbCount, verb_word};
 use crate::members::{number_value, put_item, put_name, put_numbers, put_shown, put_text};
-use crate::metrics::code_digits;
-use crate::picture::{ConnectionView, LineView, Picture, SignalView};
+use gateway_metrics::{
+    CodeCount, ConnectionView, Counts, LineView, Picture, SignalView, VerbCount, code_digits,
+    verb_word,
+};
 use serde_json::{Map, Value, put};
 use std::alloc::{AllocError, Global};
 

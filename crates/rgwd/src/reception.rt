@@ -2,7 +2,7 @@
 use live_ends::Live;
 use live_gateway::Visitors;
 use live_page::Reception;
-use page_answers::Board;
+use page_board::Board;
 use std::net::Net;
 use std::random::RandomSource;
 use std::rt::Clock;

@@ -1,7 +1,7 @@
 -- What is told in the worked examples.
 use Rattle.std.specs.Prelude.{ℕ, Option}
-use Rattle.page_answers.specs.declared.label.MessageKind.{MessageKind}
-use Rattle.page_answers.specs.declared.label.MessageLabel.{MessageLabel}
+use Rattle.page_board.specs.declared.label.MessageKind.{MessageKind}
+use Rattle.page_board.specs.declared.label.MessageLabel.{MessageLabel}
 use Rattle.told_messages.specs.declared.strangers.Quiet.{Quiet}
 
 -- what the page is told of a message of this line, with this id and code, that is sent so often

@@ -2,7 +2,7 @@
 use crate::stories::{Clocks, Machine, Transcript, Visit};
 use live_gateway::Visitors;
 use live_page::{HostNames, answer_to};
-use page_answers::Board;
+use page_board::Board;
 use scenario_files::parted;
 use std::alloc::Global;
 use std::collections::VecDeque;

@@ -1,0 +1,5 @@
+pub mod Keeping
+pub mod Acts
+pub mod Showing
+pub mod Health
+pub mod Example
