@@ -39,9 +39,9 @@ use crate::stories::{
 use gateway_core::{ConfigFault, Gateway};
 use live_gateway::{Admission, Desk, DeskSettings, boxed, end_desk, open_desk, speakers_of};
 use live_journal::{Journal, Recorder, Trace};
-use live_page::HostNames;
 use mg_bytes::OutOfMemory;
 use new_start::FirstNumber;
+use page_access::HostNames;
 use rgw_scenes::read_config;
 use rgwd_words::{Settings, hosts_in, speakers_in};
 use scenario_files::{Report, Titled};

@@ -1,3 +1,2 @@
 pub mod Computing
-pub mod AskingLaws
-pub mod SeatingLaws
+pub mod AnsweringLaws

@@ -1,11 +1,6 @@
-pub mod Access
-pub mod Naming
 pub mod Health
-pub mod Asking
+pub mod Statuses
 pub mod Fields
 pub mod Serving
 pub mod Answering
-pub mod Places
-pub mod Seating
 pub mod Waiting
-pub mod Example

@@ -13,12 +13,12 @@ use Rattle.page_answers.specs.Texts.{TellsState}
 use Rattle.page_answers.specs.Telling.{events_text}
 use Rattle.page_board.specs.Health.{is_alive}
 use Rattle.live_page.specs.Health.{alive_text, ready_text}
-use Rattle.live_page.specs.declared.route.Route.{Route}
-use Rattle.live_page.specs.declared.route.Route.TheVariants.{Page, Style, Script, State, Metrics, Health, Ready, Events, Phone, Nothing}
-use Rattle.live_page.specs.declared.asked.Asked.{Asked}
-use Rattle.live_page.specs.declared.asked.Asked.TheVariants.{Reading, Acting}
+use Rattle.page_access.specs.declared.route.Route.{Route}
+use Rattle.page_access.specs.declared.route.Route.TheVariants.{Page, Style, Script, State, Metrics, Health, Ready, Events, Phone, Nothing}
+use Rattle.page_access.specs.declared.asked.Asked.{Asked}
+use Rattle.page_access.specs.declared.asked.Asked.TheVariants.{Reading, Acting}
 use Rattle.live_page.specs.Fields.{fields_at}
-use Rattle.live_page.specs.Asking.{is_refused, reading_status, refusal_status, refusal_fields, outcome_status}
+use Rattle.live_page.specs.Statuses.{is_refused, reading_status, refusal_status, refusal_fields, outcome_status}
 
 -- the file that stands at a route
 abbrev pub file_at : Route → Option (List ℕ)

@@ -2,22 +2,19 @@
 ghost use Rattle.std.specs.Prelude.{◌≡◌, ◌++◌, OnOk, OnErr, string_bytes};
 ghost use Rattle.http_server.specs.Response.{IsBlank, fields_of};
 ghost use Rattle.page_answers.specs.declared.answers.ActOutcome.{ActOutcome as Outcome};
-ghost use Rattle.live_page.specs.Asking.{outcome_status, method_for, refusal_status, refusal_fields};
+ghost use Rattle.live_page.specs.Statuses.{outcome_status, method_for, refusal_status, refusal_fields};
 ghost use Rattle.live_page.specs.Fields.{kind_fields};
 ghost use Rattle.live_page.specs.declared.fields.Content.TheVariants as contents;
 ghost use Rattle.live_page.specs.Health.{well_status, alive_text, ready_text};
 ghost use Rattle.live_page.specs.Serving.{Reads, Acts};
 
-use crate::asked::Asked;
-use crate::asking::asked_of;
 use crate::fields::{Content, put_body, put_kind};
 use crate::files::{page_text, script_text, style_text};
 use crate::health::{alive_text, ready_text, well_status};
-use crate::host_names::HostNames;
-use crate::route::Route;
 use bytes::Bytes;
 use http::{HeaderValue, Request, StatusCode, header};
 use http_server::{Response, Service};
+use page_access::{Asked, HostNames, Route, asked_of};
 use page_answers::{ActOutcome, act_on, events_of, state_of};
 use page_board::Board;
 use std::alloc::{AllocError, Global};

@@ -1,8 +1,8 @@
 //! A visitor who is played: a request is answered over a connection of its own, where no socket is.
 use crate::desk::Desk;
-use crate::host_names::HostNames;
 use http_server::{Config, Connection};
 use live_outlets::boxed;
+use page_access::HostNames;
 use page_board::Board;
 use std::alloc::Global;
 use std::hash::RandomState;

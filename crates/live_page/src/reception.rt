@@ -4,9 +4,9 @@
 //! sockets and a server of HTTP. So the site isn't shown. A program is told of it as of some type that receives visitors.
 ghost use Rattle.std.specs.Prelude.{◌≡◌};
 
-use crate::host_names::HostNames;
 use crate::site::Site;
 use live_ends::Readiness;
+use page_access::HostNames;
 use page_board::Board;
 use std::alloc::Global;
 use std::io;

@@ -3,12 +3,11 @@ ghost use Rattle.std.specs.Prelude.{◌≡◌, ◌||◌, None, is_some, map};
 ghost use Rattle.live_page.specs.Waiting.{deadline_of, sooner, soonest_from, is_late, stays_at, has_more, is_behind, turn_from, next_turn};
 
 use crate::desk::Desk;
-use crate::host_names::HostNames;
-use crate::places::{Seat, place_for};
 use crate::reception::Reception;
 use crate::visitor::Visitor;
 use live_ends::{MOST_VISITORS, Readiness};
 use mio::net::{TcpListener, TcpStream};
+use page_access::{HostNames, Seat, place_for};
 use page_board::Board;
 use std::alloc::{AllocError, Global};
 use std::hash::RandomState;

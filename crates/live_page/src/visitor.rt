@@ -2,12 +2,12 @@
 ghost use Rattle.std.specs.Prelude.{◌≡◌};
 
 use crate::desk::Desk;
-use crate::places::Seat;
 use http_server::{Config, Connection};
 use http1::Limits;
 use live_ends::Visit;
 use live_outlets::boxed;
 use mio::net::TcpStream;
+use page_access::Seat;
 use std::alloc::{AllocError, Global};
 use std::hash::RandomState;
 use std::io;

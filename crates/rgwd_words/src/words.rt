@@ -1,7 +1,7 @@
 //! What the words of the command line ask for.
 ghost use Rattle.std.specs.Prelude.{◌≡◌, ◌≢◌, ◌⊎◌, Some, None, IfOk, IfErr, codes, option_map};
 ghost use Rattle.clap.specs.Matches.{found_of, first_value};
-ghost use Rattle.live_page.specs.Naming.{names_in, names_of};
+ghost use Rattle.page_access.specs.Naming.{names_in, names_of};
 ghost use Rattle.surroundings.specs.Speaking.{admitted_by, admitted_in};
 ghost use Rattle.rgwd_words.specs.Names.{name_of, HasNames};
 
@@ -13,8 +13,8 @@ use clap::ArgMatches;
 use command_words::Kind;
 use live_ends::{AddressWord, CommonEnding, FileNames, Parting, address_in, network_in};
 use live_outlets::boxed;
-use live_page::HostNames;
 use new_start::{FirstNumber, spread_in};
+use page_access::HostNames;
 use std::alloc::{AllocError, Global};
 use std::net::SocketAddrV4;
 use surroundings::Speakers;

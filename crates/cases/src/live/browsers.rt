@@ -1,7 +1,8 @@
 //! Visitors of a page in memory: each asks once, and gets an answer.
 use crate::stories::{Clocks, Machine, Transcript, Visit};
 use live_gateway::Visitors;
-use live_page::{HostNames, answer_to};
+use live_page::answer_to;
+use page_access::HostNames;
 use page_board::Board;
 use scenario_files::parted;
 use std::alloc::Global;

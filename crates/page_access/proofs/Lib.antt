@@ -1,0 +1,3 @@
+pub mod Computing
+pub mod AskingLaws
+pub mod SeatingLaws
