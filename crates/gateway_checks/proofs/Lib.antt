@@ -1,7 +1,5 @@
 pub mod Computing
 pub mod VerdictLaws
-pub mod BarLemmas
-pub mod MailLemmas
-pub mod PartLemmas
+pub mod SplitLemmas
 pub mod PieceLemmas
-pub mod PlayLemmas
+pub mod SignLemmas

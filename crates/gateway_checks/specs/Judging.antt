@@ -6,10 +6,6 @@ use Rattle.gateway_checks.specs.declared.judging.Fault.TheVariants.{NotSupported
 use Rattle.gateway_checks.specs.declared.judging.Verdict.{Verdict}
 use Rattle.gateway_checks.specs.declared.judging.Verdict.TheVariants as verdicts
 
--- the answer is still to come
-abbrev pub is_provisional : ℕ → Bool
-is_provisional code = nat_le 100 code && nat_le code 199
-
 -- a permanent error: the gateway can't do what it is asked
 abbrev pub is_permanent : ℕ → Bool
 is_permanent code = nat_le 500 code && nat_le code 599

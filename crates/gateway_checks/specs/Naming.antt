@@ -1,5 +1,5 @@
 -- What the names in braces stand for.
-use Rattle.std.specs.Prelude.{ℕ, ◌+◌, ◌==◌, Bool, not, if◌then◌else◌, min, codes, bytes_eq, decimal, nat_le, string_bytes, flat_map, map, List, [], ◌∷◌, ◌++◌, Option, Some, None}
+use Rattle.std.specs.Prelude.{ℕ, ◌+◌, ◌-◌, ◌==◌, Bool, not, ◌||◌, if◌then◌else◌, min, codes, bytes_eq, decimal, nat_le, nat_lt, string_bytes, flat_map, map, List, [], ◌∷◌, ◌++◌, Option, Some, None}
 use Rattle.std.specs.List.{slice_split}
 use Rattle.std.specs.Str.{str_to_ascii_uppercase}
 use Rattle.std.specs.Str.Lossy.{utf8_lossy}
@@ -116,6 +116,10 @@ value_under names name = value_named names.base names.places (names_kept names) 
 -- a text with what its names stand for, as text for people
 abbrev pub filled : Names → List ℕ → List ℕ
 filled names text = utf8_lossy (filled_by (value_under names) text)
+
+-- an id isn't one of an earlier check's: those have the thousand before this one's
+abbrev pub is_own : ℕ → ℕ → Bool
+is_own base id = nat_le base id || nat_lt id (base - 1000)
 
 -- ids are 32 bits wide
 abbrev pub greatest_id : ℕ

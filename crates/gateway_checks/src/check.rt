@@ -1,7 +1,4 @@
 //! A check, as its text says it.
-ghost use Rattle.std.specs.Prelude.{◌≡◌, ◌<◌};
-ghost use Rattle.gateway_checks.specs.Steps.{before, behind};
-
 use crate::checks::{CHECKS, UNDO_BOTH, UNDO_CALL, UNDO_REQUEST, UNDO_TELEPHONE};
 use crate::notices::{NOTICES, TELEPHONES};
 
@@ -14,27 +11,14 @@ pub struct Check<'a> {
     pub sections: &'a str,
     /// What is right.
     pub rule: &'a str,
-    // A line a step, and what undoes them.
-    pub(crate) steps: &'a str,
-    pub(crate) undo: &'a str,
+    /// A line a step, and what undoes them.
+    pub steps: &'a str,
+    pub undo: &'a str,
 }
 
-/// What stands before and behind the first of these separators; all before it where there is none.
-pub(crate) fn parted<'a>(text: &'a str, separator: &str) -> (&'a str, &'a str) {
+// What stands before and behind the first of these separators; all before it where there is none.
+fn parted<'a>(text: &'a str, separator: &str) -> (&'a str, &'a str) {
     text.split_once(separator).unwrap_or((text, ""))
-}
-
-/// What stands before and behind the first of this sign; all before it where there is none.
-#[tactic(auto, using(crate::proofs::PartLemmas::all_before, crate::proofs::PartLemmas::none_behind))]
-pub(crate) fn parted_at(text: &str, sign: char) -> (&str, &str)
-    requires { sign < 128 }
-    ensures before { result.0.now ≡ before sign text.now }
-    ensures behind { result.1.now ≡ behind sign text.now }
-{
-    match text.split_once(sign) {
-        Some((front, rest)) => (front, rest),
-        None => (text, ""),
-    }
 }
 
 // The steps that stand for what stands behind `undo`.

@@ -34,7 +34,7 @@ fn is_permanent(code: u16) -> bool
 /// What is at fault with an answer, if anything is: whether its return code is due, whether what was asked may be left out,
 /// and the code.
 #[tactic(auto, unfolding(crate::specs::Judging::judged))]
-pub(crate) fn judged(is_due: bool, is_optional: bool, code: u16) -> Option<Fault>
+pub fn judged(is_due: bool, is_optional: bool, code: u16) -> Option<Fault>
     ensures { result ≡ judged is_due is_optional code }
 {
     if is_due {
@@ -48,7 +48,7 @@ pub(crate) fn judged(is_due: bool, is_optional: bool, code: u16) -> Option<Fault
 
 /// What is at fault with a check after a further step: the first fault counts.
 #[tactic(auto, unfolding(crate::specs::Judging::settled))]
-pub(crate) fn settled(before: Option<Fault>, step: Option<Fault>) -> Option<Fault>
+pub fn settled(before: Option<Fault>, step: Option<Fault>) -> Option<Fault>
     ensures { result ≡ settled before step }
 {
     match before {
@@ -59,7 +59,7 @@ pub(crate) fn settled(before: Option<Fault>, step: Option<Fault>) -> Option<Faul
 
 /// What comes of a check with this fault, or none; whether RFC 3435 leaves open what is right.
 #[tactic(auto, unfolding(crate::specs::Judging::verdict_of))]
-pub(crate) fn verdict_of(is_open: bool, fault: Option<Fault>) -> Verdict
+pub fn verdict_of(is_open: bool, fault: Option<Fault>) -> Verdict
     ensures { result ≡ verdict_of is_open fault }
 {
     match fault {

@@ -1,39 +1,25 @@
-//! Checks of any MGCP gateway: what RFC 3435 asks of it, played as a call agent: what it answers, and what it says by itself, with
-//! someone at its telephones or without.
+//! Checks of any MGCP gateway: what RFC 3435 asks of it, what comes of a check, and what is told of that.
 //!
-//! What is asked, and what is right, is text (`checks.rt`, `notices.rt`). A `Player` plays one check: it says what is to be sent, what
-//! is to be done at a telephone and until when something is waited for, is given what came, and comes to a verdict. It has no
-//! socket and no clock.
+//! What is asked, and what is right, is text (`checks.rt`, `notices.rt`). Names in it stand for where a check is played, and for what
+//! answers gave. How what comes is matched with it says `check_matching`, and `check_player` plays it.
 #![tactic(auto)]
 
 mod check;
 mod checks;
-mod dialogue;
 pub mod examples;
-mod expecting;
-mod gaps;
-mod hearing;
-mod inbox;
 mod judging;
 mod junit;
 pub mod laws;
-mod mailbox;
-mod matching;
 mod names;
 mod notices;
-mod player;
 mod report;
-mod socket;
-mod step;
+mod signs;
 mod texts;
-mod unasked;
-mod waiting;
 
 pub use crate::check::{Check, all_checks, check_named, check_of};
 pub use crate::checks::{IN_USE, SERVES, UNKNOWN};
-pub use crate::judging::{Fault, Verdict};
+pub use crate::judging::{Fault, Verdict, judged, settled, verdict_of};
 pub use crate::junit::{put_case, put_suite};
 pub use crate::names::{Names, Places};
-pub use crate::player::{Player, Turn};
 pub use crate::report::{Tally, put_check, put_entry, put_tally, word_of};
-pub use crate::socket::{SOCKETS, Socket};
+pub use crate::texts::{append, text_of};

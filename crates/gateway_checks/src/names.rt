@@ -3,10 +3,11 @@ ghost use Rattle.std.specs.Prelude.{◌≡◌, ◌++◌, ◌∷◌, [], Some, If
 ghost use Rattle.std.specs.List.{slice_split};
 ghost use Rattle.std.specs.Str.{str_to_ascii_uppercase};
 ghost use Rattle.std.specs.Str.Lossy.{utf8_lossy};
-ghost use Rattle.gateway_checks.specs.Hearing.{is_own};
 ghost use Rattle.gateway_checks.specs.Naming.{meaning_in, meaning_of, value_kept, kept_or_name, endpoint_name, upper_endpoint_name};
-ghost use Rattle.gateway_checks.specs.Naming.{value_meant, is_brace, piece_filled, filled_by, value_under, filled, id_by, id_in, differ, names_kept, kept_with};
+ghost use Rattle.gateway_checks.specs.Naming.{value_meant, is_brace, piece_filled, filled_by, value_under, filled, id_by, id_in, is_own, differ, names_kept, kept_with};
+ghost use Rattle.gateway_checks.specs.Sending.{datagram};
 
+use crate::signs::{end_line, put_signs};
 use crate::texts::text_of;
 use mg_bytes::{Draft, OutOfMemory, decimal, split_once};
 use std::alloc::Global;
@@ -14,9 +15,6 @@ use std::alloc::Global;
 // A session description: G.711 to and from the machine's own address.
 const SDP: &str =
     "v=0 / o=- 1 1 IN IP4 127.0.0.1 / s=- / c=IN IP4 127.0.0.1 / t=0 0 / m=audio 40000 RTP/AVP 0 8";
-
-// Signs of a datagram's text, and what each stands for.
-const SIGNS: [(&str, &str); 3] = [(" / ", "\r\n"), ("\\t", "\t"), ("\\n", "\n")];
 
 // What a name stands for in each check.
 #[derive(Clone, Copy)]
@@ -127,13 +125,25 @@ pub struct Places<'a> {
 }
 
 /// What the names of a check stand for.
-#[derive(Drop)]
 pub struct Names<'a> {
     alloc: Global,
     places: Places<'a>,
     // The number before its first transaction id, which is that of its call.
     base: u32,
     kept: Vec<Kept<'a>>,
+}
+
+// Written out: a derived drop, and those of all its parts, are proved anew by each crate that lets one go.
+impl Drop for Names<'_> {
+    fn drop(self) {
+        let Names {
+            alloc: _,
+            places: _,
+            base: _,
+            kept,
+        } = self;
+        drop(kept);
+    }
 }
 
 impl<'a> Names<'a> {
@@ -152,21 +162,21 @@ impl<'a> Names<'a> {
     }
 
     /// Whether an id isn't one of an earlier check's: those have the thousand before.
-    pub(crate) fn is_own(&self, id: u32) -> bool
+    pub fn is_own(&self, id: u32) -> bool
         ensures { result ≡ is_own self.now.base id }
     {
         id >= self.base || id < self.base.saturating_sub(1000)
     }
 
     /// The number before its ids and its request identifiers.
-    pub(crate) fn base(&self) -> u32
+    pub fn base(&self) -> u32
         ensures { result ≡ self.now.base }
     {
         self.base
     }
 
     /// Gives a value a name.
-    pub(crate) fn keep(&mut self, name: &'a str, value: String) -> Result<(), OutOfMemory>
+    pub fn keep(&mut self, name: &'a str, value: String) -> Result<(), OutOfMemory>
         ensures kept { OnOk result (names_kept self.new ≡ kept_with name.now (Some (string_bytes value)) (names_kept self.old)) }
         ensures rest { self.new ≡ record self.old { kept = self.new.kept } }
     {
@@ -175,7 +185,7 @@ impl<'a> Names<'a> {
     }
 
     /// Gives an id a name.
-    pub(crate) fn keep_id(&mut self, name: &'a str, id: u32) -> Result<(), OutOfMemory>
+    pub fn keep_id(&mut self, name: &'a str, id: u32) -> Result<(), OutOfMemory>
         ensures kept { OnOk result (names_kept self.new ≡ kept_with name.now (Some (utf8_lossy (digits_of id))) (names_kept self.old)) }
         ensures rest { self.new ≡ record self.old { kept = self.new.kept } }
     {
@@ -283,7 +293,7 @@ impl<'a> Names<'a> {
     }
 
     /// A text with what its names stand for.
-    pub(crate) fn filled(&self, text: &str) -> Result<String, OutOfMemory>
+    pub fn filled(&self, text: &str) -> Result<String, OutOfMemory>
         ensures { IfOk result (λ out. string_bytes out ≡ filled self.now text.now) }
     {
         let mut out = Draft::new(self.alloc);
@@ -292,7 +302,7 @@ impl<'a> Names<'a> {
     }
 
     /// The transaction id that a text says; 0 where it says none.
-    pub(crate) fn id_in(&self, text: &str) -> Result<u32, OutOfMemory>
+    pub fn id_in(&self, text: &str) -> Result<u32, OutOfMemory>
         ensures { IfOk result (λ id. id ≡ id_in self.now text.now) }
     {
         let digits = self.filled(text)?;
@@ -300,7 +310,7 @@ impl<'a> Names<'a> {
     }
 
     /// Whether two texts stand for different values.
-    pub(crate) fn differ(&self, first: &str, second: &str) -> Result<bool, OutOfMemory>
+    pub fn differ(&self, first: &str, second: &str) -> Result<bool, OutOfMemory>
         ensures { IfOk result (λ differs. differs ≡ differ self.now first.now second.now) }
     {
         let first = self.filled(first)?;
@@ -309,15 +319,14 @@ impl<'a> Names<'a> {
     }
 
     /// The bytes of a datagram that a step sends: each of its lines ends in CRLF, or as its text says.
-    pub(crate) fn datagram(&self, text: &str) -> Result<Vec<u8>, OutOfMemory> {
-        let alloc = self.alloc;
-        let mut text = self.filled(text)?;
-        for (sign, bytes) in SIGNS.iter() {
-            text = text.replace(alloc, *sign, *bytes)?;
-        }
-        if !text.ends_with('\n') {
-            text.push_str("\r\n")?;
-        }
-        Vec::from_slice(alloc, text.as_bytes())
+    pub fn datagram(&self, text: &str) -> Result<Vec<u8>, OutOfMemory>
+        ensures { IfOk result (λ bytes. bytes.items ≡ datagram self.now text.now) }
+    {
+        let text = self.filled(text)?;
+        let mut written = Draft::new(self.alloc);
+        put_signs(&mut written, text.as_bytes());
+        let mut bytes = written.end()?;
+        end_line(&mut bytes)?;
+        Ok(bytes)
     }
 }

@@ -1,12 +1,12 @@
 //! Texts that are put together as drafts.
-ghost use Rattle.std.specs.Prelude.{◌≡◌, IfOk, string_bytes};
+ghost use Rattle.std.specs.Prelude.{◌≡◌, ◌++◌, IfOk, OnOk, string_bytes};
 ghost use Rattle.std.specs.Str.Lossy.{utf8_lossy};
 
 use mg_bytes::{Draft, OutOfMemory};
 use std::alloc::Global;
 
 /// All that was put, as a text for people. Its only error is want of memory, also for what was put.
-pub(crate) fn text_of(alloc: Global, draft: Draft) -> Result<String, OutOfMemory>
+pub fn text_of(alloc: Global, draft: Draft) -> Result<String, OutOfMemory>
     ensures { IfOk result (λ text. string_bytes text ≡ utf8_lossy draft) }
 {
     let bytes = draft.end()?;
@@ -14,7 +14,9 @@ pub(crate) fn text_of(alloc: Global, draft: Draft) -> Result<String, OutOfMemory
 }
 
 /// Appends all that was put to a text. After an error, which is for want of memory only, also for what was put, `out` is as it was.
-pub(crate) fn append(draft: Draft, out: &mut String) -> Result<(), OutOfMemory> {
+pub fn append(draft: Draft, out: &mut String) -> Result<(), OutOfMemory>
+    ensures { OnOk result (string_bytes out.new ≡ string_bytes out.old ++ utf8_lossy draft) }
+{
     let text = text_of(*out.allocator(), draft)?;
     out.push_str(text.as_str())
 }

@@ -3,8 +3,9 @@ use crate::check_fault::CheckFault;
 use crate::ends::Ends;
 use crate::json::{check_text, tally_text};
 use crate::telephone::Telephone;
+use check_player::Player;
 use gateway_checks::{
-    Check, IN_USE, Names, Places, Player, SERVES, Tally, UNKNOWN, Verdict, all_checks, check_named,
+    Check, IN_USE, Names, Places, SERVES, Tally, UNKNOWN, Verdict, all_checks, check_named,
     check_of, put_case, put_check, put_entry, put_suite, put_tally,
 };
 use live_ends::time_of_day;

@@ -1,7 +1,8 @@
 //! The two sockets of a check, the one by which telephones are worked, and the clock.
 use crate::check_fault::CheckFault;
 use crate::telephone::Telephone;
-use gateway_checks::{Player, Socket, Turn};
+use check_matching::Socket;
+use check_player::{Player, Turn};
 use live_ends::{LiveClock, bind};
 use live_outlets::boxed;
 use mio::net::UdpSocket;

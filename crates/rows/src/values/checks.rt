@@ -9,9 +9,11 @@
 //! list of all, `unplayed NAME` how it is reported where it isn't played, and `slow NAME` whether it takes half a minute, whatever the
 //! value is.
 use crate::texts::words_of;
+use check_matching::Socket;
+use check_player::{Player, Turn};
 use gateway_checks::{
-    Check, Names, Places, Player, Socket, Tally, Turn, Verdict, check_named, put_case, put_check,
-    put_entry, put_suite, put_tally,
+    Check, Names, Places, Tally, Verdict, check_named, put_case, put_check, put_entry, put_suite,
+    put_tally,
 };
 use mg_bytes::{OutOfMemory, decimal};
 use scenario_files::{Outcome, parted};

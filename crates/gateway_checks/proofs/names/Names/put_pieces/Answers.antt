@@ -1,4 +1,4 @@
-use Rattle.gateway_checks.proofs.BarLemmas.{rest_shorter}
+use Rattle.gateway_checks.proofs.SplitLemmas.{rest_shorter}
 use Rattle.gateway_checks.proofs.PieceLemmas.{pieces_more, pieces_last}
 use Rattle.gateway_checks.specs.Naming.{piece_filled, value_under}
 use Rattle.gateway_checks.proofs.names.Names.put_pieces.Goals as goal

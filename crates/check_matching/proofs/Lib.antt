@@ -1,0 +1,4 @@
+pub mod Computing
+pub mod BarLemmas
+pub mod MailLemmas
+pub mod PartLemmas

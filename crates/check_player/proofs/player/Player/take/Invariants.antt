@@ -1,0 +1,19 @@
+use Rattle.std.proofs.Common.{◌≡◌, ◌⊎◌, ◌++◌, map, None}
+use Rattle.piggyback.specs.Parts.{parts_of}
+use Rattle.check_matching.specs.Hearing.{came_as, awaits_answer, kept_in}
+use Rattle.check_player.proofs.player.Player.take.Given as goal
+
+-- what was kept so far, and what is kept of the texts that are left, are all that is kept of the datagram
+abbrev pub invariant-loop-text : goal.invariant-loop-text
+invariant-loop-text l = record {
+  waiting : map came_as l.self.inbox.waiting.items ++ kept_in l.fn.self.names.base (awaits_answer l.fn.self.step) l.at l.text-iterator
+      ≡ map came_as l.fn.self.inbox.waiting.items ++ kept_in l.fn.self.names.base (awaits_answer l.fn.self.step) l.at (parts_of l.datagram);
+  until : (l.self.until ≡ l.fn.self.until) ⊎ (l.self.until ≡ None);
+  rest : l.self ≡ record l.fn.self {
+    inbox = record l.fn.self.inbox { waiting = l.self.inbox.waiting };
+    mailbox = l.self.mailbox;
+    until = l.self.until;
+    said = l.self.said;
+    came = l.self.came;
+  };
+}

@@ -1,0 +1,10 @@
+//! Plays a check of a gateway, as a call agent: a `Player` says what is to be sent, what is to be done at a telephone and until when
+//! something is waited for, is given what came, and comes to a verdict. It has no socket and no clock.
+#![tactic(auto)]
+
+mod dialogue;
+pub mod examples;
+pub mod laws;
+mod player;
+
+pub use crate::player::{Player, Turn};

@@ -1,0 +1,786 @@
+//! Plays a check: what is to be sent, until when something is waited for, and what comes of it.
+ghost use Rattle.std.specs.Prelude.{◌≡◌, ◌⊎◌, ◌==◌, ◌++◌, [], length, map, not, true, false, Some, None};
+ghost use Rattle.std.specs.Prelude.{IfOk, OnOk, is_some, string_bytes, unwrap_or};
+ghost use Rattle.piggyback.specs.Parts.{parts_of};
+ghost use Rattle.check_matching.specs.Hearing.{came_as, awaits_answer, kept_of, kept_in};
+ghost use Rattle.gateway_checks.specs.Judging.{verdict_of};
+ghost use Rattle.check_matching.specs.Matching.{last_text};
+ghost use Rattle.gateway_checks.specs.Naming.{filled, id_in, names_kept, kept_with};
+ghost use Rattle.check_player.specs.Playing.{counted, fault_unless, LeavesRest, ComesTo, due_until, passed_by, until_in, answer_until, answer_outcome};
+ghost use Rattle.check_player.specs.Playing.{answer_in, TakesAnswer, NamesFound, same_outcome, found_outcome, like_at, notice_due, again_outcome, is_silent_in, silence_outcome, acted_by};
+ghost use Rattle.check_player.specs.Playing.{is_over, met_at_once, named_at_once, outcome_at_once, outcome_of, Further, Plays};
+ghost use Rattle.check_matching.specs.Unasked.{likeness_at, first_meant, announced_by};
+
+mod stepping;
+
+use crate::dialogue::{put_said, told_due};
+use check_matching::{
+    Arrived, Asks, Expected, Heard, Inbox, Mailbox, Socket, Step, UNASKED_TIME, Unasked,
+    code_fault, first_word, hear_text, is_as_due, is_for_check, is_prolonged, is_told, keep_value,
+    name_id, put_response, waited_until,
+};
+use gateway_checks::{Check, Fault, Names, Verdict, append, judged, settled, verdict_of};
+use mg_bytes::{Draft, OutOfMemory};
+use piggyback::parts;
+use std::alloc::{AllocError, Global};
+
+// No check has more steps, those that undo it among them.
+const MOST_STEPS: u32 = 1000;
+
+/// What a player asks of who plays it.
+#[derive(Clone, Copy)]
+pub enum Turn {
+    /// What `sent` gives is to be sent from this socket.
+    Send { from: Socket },
+    /// What comes until this moment is to be given to it, in ms.
+    Wait { until: u64 },
+    /// What `act` gives is to be done at the line's telephone, or with the gateway; whether it was is to be told to it.
+    Act,
+    /// The check is over.
+    Over,
+}
+
+/// A check that is played at a gateway. After an error it isn't used any more.
+pub struct Player<'a> {
+    alloc: Global,
+    names: Names<'a>,
+    is_open: bool,
+    // Whether its steps answer what the gateway notifies, and what it announces.
+    hears: bool,
+    announces: bool,
+    // The lines that are left, those that undo it, and whether these are played.
+    lines: &'a str,
+    undo: &'a str,
+    is_undoing: bool,
+    // The step that isn't done yet, with its line, since when an answer is waited for, and until when it waits.
+    step: Option<Step<'a>>,
+    line: &'a str,
+    begun: Option<u64>,
+    until: Option<u64>,
+    // What was sent last, from where, and the answers.
+    sent: Vec<u8>,
+    from: Socket,
+    inbox: Inbox,
+    // What the gateway said by itself.
+    mailbox: Mailbox,
+    // The datagrams that came since something was sent last, but for what undoes the check.
+    came: Vec<Vec<u8>>,
+    // What is to be done at a telephone, and whether it was.
+    act: &'a str,
+    acted: Option<bool>,
+    // What is at fault, and what was said.
+    fault: Option<Fault>,
+    said: String,
+    due: String,
+    // Whether memory was refused for what a turn does.
+    is_refused: bool,
+}
+
+// Written out: a derived drop, and those of all its parts, are proved anew by each crate that lets one go.
+impl Drop for Player<'_> {
+    fn drop(self) {
+        let Player {
+            alloc: _,
+            names,
+            is_open: _,
+            hears: _,
+            announces: _,
+            lines: _,
+            undo: _,
+            is_undoing: _,
+            step: _,
+            line: _,
+            begun: _,
+            until: _,
+            sent,
+            from: _,
+            inbox,
+            mailbox,
+            came,
+            act: _,
+            acted: _,
+            fault: _,
+            said,
+            due,
+            is_refused: _,
+        } = self;
+        drop(names);
+        drop(sent);
+        drop(inbox);
+        drop(mailbox);
+        drop(came);
+        drop(said);
+        drop(due);
+    }
+}
+
+impl<'a> Player<'a> {
+    /// A check at its beginning.
+    pub fn new(alloc: Global, check: &Check<'a>, names: Names<'a>) -> Player<'a>
+        ensures lines { (result.lines ≡ check.now.steps) × (result.undo ≡ check.now.undo) × (result.is_undoing ≡ false) }
+        ensures none { (result.step ≡ None) × (result.fault ≡ None) }
+        ensures empty { (result.inbox.waiting.items ≡ []) × (result.inbox.taken.items ≡ []) }
+        ensures names { result.names ≡ names.entry }
+    {
+        Player {
+            alloc,
+            names,
+            is_open: check.is_open(),
+            hears: check.hears(),
+            announces: check.announces(),
+            lines: check.steps,
+            undo: check.undo,
+            is_undoing: false,
+            step: None,
+            line: "",
+            begun: None,
+            until: None,
+            sent: Vec::new(alloc),
+            from: Socket::First,
+            inbox: Inbox::new(alloc),
+            mailbox: Mailbox::new(alloc),
+            came: Vec::new(alloc),
+            act: "",
+            acted: None,
+            fault: None,
+            said: String::new(alloc),
+            due: String::new(alloc),
+            is_refused: false,
+        }
+    }
+
+    /// What is to be sent.
+    pub fn sent(&self) -> &[u8]
+        ensures { result.now ≡ self.now.sent.items }
+    {
+        self.sent.as_slice()
+    }
+
+    /// What is to be done: `off`, `on`, `flash` or a key at the line's telephone, or `restart`.
+    pub fn act(&self) -> &'a str
+        ensures { result.now ≡ self.now.act.now }
+    {
+        self.act
+    }
+
+    /// What was to be done was done, or can't be.
+    pub fn acted(&mut self, is_done: bool)
+        ensures { self.new ≡ record self.old { acted = Some is_done } }
+    {
+        self.acted = Some(is_done);
+    }
+
+    /// What comes of the check, as far as it has been played.
+    pub fn verdict(&self) -> Verdict
+        ensures { result ≡ verdict_of self.now.is_open self.now.fault }
+    {
+        verdict_of(self.is_open, self.fault)
+    }
+
+    /// What was said, a line for each datagram; and what was due where that isn't what came.
+    pub fn said(&self) -> &str
+        ensures { result.now ≡ string_bytes self.now.said }
+    {
+        self.said.as_str()
+    }
+
+    /// What was due where something else came; empty where nothing did.
+    pub fn due(&self) -> &str
+        ensures { result.now ≡ string_bytes self.now.due }
+    {
+        self.due.as_str()
+    }
+
+    /// The datagrams that came since something was sent last.
+    pub fn came(&self) -> &[Vec<u8>]
+        ensures { result.now ≡ self.now.came.items }
+    {
+        self.came.as_slice()
+    }
+
+    /// Whether the gateway has answered what was asked.
+    pub fn has_answer(&self) -> bool
+        ensures { result ≡ not (length (last_text self.now.inbox.taken.items) == 0) }
+    {
+        !self.inbox.last().is_empty()
+    }
+
+    // Notes what came or went; what undoes the check isn't told.
+    fn note(&mut self, mark: &str, bytes: &[u8]) -> Result<(), OutOfMemory>
+        ensures { self.new ≡ record self.old { said = self.new.said } }
+    {
+        if self.is_undoing {
+            return Ok(());
+        }
+        put_said(&mut self.said, mark, bytes)
+    }
+
+    // Notes that a datagram came.
+    fn note_came(&mut self, mark: &str, datagram: &[u8]) -> Result<(), OutOfMemory>
+        ensures { self.new ≡ record self.old { said = self.new.said; came = self.new.came } }
+    {
+        self.note(mark, datagram)?;
+        if self.is_undoing {
+            return Ok(());
+        }
+        let datagram = Vec::from_slice(self.alloc, datagram)?;
+        self.came.push(datagram)?;
+        Ok(())
+    }
+
+    // Notes that what is there goes out: what came before that is told no more.
+    fn note_sent(&mut self, mark: &str) -> Result<(), OutOfMemory>
+        ensures { self.new ≡ record self.old { said = self.new.said; came = self.new.came } }
+    {
+        if self.is_undoing {
+            return Ok(());
+        }
+        put_said(&mut self.said, mark, self.sent.as_slice())?;
+        self.came = Vec::new(self.alloc);
+        Ok(())
+    }
+
+    // The step is done, with this fault in it or none, and asks for nothing more. The first fault is told; those of steps that undo the
+    // check don't count.
+    fn finish(&mut self, fault: Option<Fault>) -> Option<Turn>
+        ensures none { result ≡ None }
+        ensures fault { self.new.fault ≡ counted self.old.is_undoing self.old.fault fault }
+        ensures step { self.new.step ≡ None }
+        ensures rest { LeavesRest self.old self.new }
+    {
+        self.step = None;
+        if self.is_undoing {
+            return None;
+        }
+        let was_faultless = self.fault.is_none();
+        self.fault = settled(self.fault, fault);
+        if was_faultless && fault.is_some() {
+            match told_due(&self.names, &mut self.said, self.line) {
+                Ok(due) => self.due = due,
+                Err(_) => self.is_refused = true,
+            }
+        }
+        None
+    }
+
+    // The step is done, and met or not.
+    fn finish_met(&mut self, is_met: bool) -> Option<Turn>
+        ensures none { result ≡ None }
+        ensures fault { self.new.fault ≡ counted self.old.is_undoing self.old.fault (fault_unless is_met) }
+        ensures step { self.new.step ≡ None }
+        ensures rest { LeavesRest self.old self.new }
+    {
+        self.finish(judged(is_met, false, 0))
+    }
+
+    /// What is asked for at this moment, in ms. It is asked again once that was done.
+    pub fn turn(&mut self, now: u64) -> Result<Turn, OutOfMemory>
+        ensures plays { IfOk result (λ turn. Plays now self.old self.new turn) }
+        ensures refused { OnOk result (self.new.is_refused ≡ false) }
+    {
+        let turn = self.next_turn(now);
+        if self.is_refused {
+            return Err(AllocError);
+        }
+        Ok(turn)
+    }
+
+    // The same, but where memory was refused, which is kept.
+    fn next_turn(&mut self, now: u64) -> Turn
+        ensures { Plays now self.old self.new result }
+    {
+        for _ in 0..MOST_STEPS {
+            match self.play_next(now) {
+                Some(turn) => return turn,
+                None => {}
+            }
+        }
+        Turn::Over
+    }
+
+    // Memory was refused for what a turn does: that ends there.
+    fn refused(&mut self) -> Option<Turn>
+        ensures refused { self.new.is_refused ≡ true }
+        ensures rest { self.new ≡ record self.old { is_refused = self.new.is_refused } }
+    {
+        self.is_refused = true;
+        Some(Turn::Over)
+    }
+
+    // Plays the next step: what is asked for then, or nothing where it is done.
+    #[tactic(auto, using(crate::proofs::PlayLemmas::steps_further))]
+    fn play_next(&mut self, now: u64) -> Option<Turn>
+        ensures { Further now self.old self.new result }
+    {
+        let next = self.next_step();
+        if let Some(turn) = self.answer_left() {
+            return Some(turn);
+        }
+        match next {
+            Some(step) => self.play(step, now),
+            None => Some(Turn::Over),
+        }
+    }
+
+    // Before what undoes a check that a fault has ended all is answered that the gateway said by itself meanwhile: it would come again,
+    // and keep its line from notifying what the checks behind are for.
+    fn answer_left(&mut self) -> Option<Turn>
+        ensures some { is_some result ≡ true → self.old.is_undoing ≡ true }
+        ensures goes_on { self.new.is_refused ≡ false → is_over result ≡ false }
+        ensures left { self.old.is_undoing ≡ false → self.new ≡ self.old }
+        ensures rest { self.new ≡ record self.old { mailbox = self.new.mailbox; sent = self.new.sent; is_refused = self.new.is_refused } }
+    {
+        if !self.is_undoing || self.fault.is_none() {
+            return None;
+        }
+        let Some(unasked) = self.mailbox.take() else {
+            return None;
+        };
+        let mut response = Draft::new(self.alloc);
+        put_response(&mut response, true, unasked.id);
+        match response.end() {
+            Ok(sent) => {
+                self.sent = sent;
+                Some(Turn::Send { from: unasked.at })
+            }
+            Err(_) => self.refused(),
+        }
+    }
+
+    // Plays a step: what it asks for, or nothing where it is done.
+    #[tactic(auto, using(crate::proofs::PlayLemmas::comes_same))]
+    fn play(&mut self, step: Step<'a>, now: u64) -> Option<Turn>
+        ensures { ComesTo self.old self.new result (outcome_of self.old step.entry now) }
+    {
+        let line = self.line;
+        let (at, first, second) = (step.at, step.first, step.second);
+        match step.asks {
+            Asks::Send => self.send(at, step.rest),
+            Asks::Answer => self.answered(first, second, false, now),
+            Asks::AnswerIfDone => self.answered(first, second, true, now),
+            Asks::Same => self.answered_again(first, now),
+            Asks::Silence => self.quiet(step.number, false, now),
+            Asks::Wait => self.waited(step.number, true, now),
+            Asks::Notified => self.notified(at, first, second, now),
+            Asks::Announced => self.announced(at, first, second, now),
+            Asks::Again => self.came_again(step.number, false, now),
+            Asks::Slower => self.came_again(step.number, true, now),
+            Asks::Quiet => self.quiet(step.number, true, now),
+            Asks::Act => self.ask_for(first),
+            Asks::Restart => self.ask_for(line),
+            _ => self.play_at_once(step),
+        }
+    }
+
+    // Whether a step is met that is met or not at once: by what the last answer holds, or by what names stand for.
+    fn met_at_once(&mut self, step: Step<'a>) -> Result<bool, OutOfMemory>
+        ensures met { IfOk result (λ is_met. is_met
+            ≡ met_at_once step.entry.asks self.old.names (last_text self.old.inbox.taken.items) step.entry) }
+        ensures kept { OnOk result (names_kept self.new.names ≡ kept_with step.entry.first.now
+            (named_at_once step.entry.asks (last_text self.old.inbox.taken.items) step.entry) (names_kept self.old.names)) }
+        ensures rest { self.new ≡ record self.old { names = self.new.names } }
+    {
+        let alloc = self.alloc;
+        let (first, second) = (step.first, step.second);
+        let answer = self.inbox.last();
+        match step.asks {
+            Asks::Has => Ok(is_as_due(alloc, &self.names, answer, first, second, false)?),
+            Asks::Unlike => Ok(is_as_due(alloc, &self.names, answer, first, second, true)?),
+            Asks::Tells => Ok(is_told(answer, step.rest.as_bytes())),
+            Asks::Keep => Ok(keep_value(alloc, &mut self.names, answer, first, second)?),
+            Asks::Differ => Ok(self.names.differ(first, second)?),
+            _ => Ok(false),
+        }
+    }
+
+    // Plays such a step.
+    #[tactic(auto, using(crate::proofs::PlayLemmas::comes_at_once))]
+    fn play_at_once(&mut self, step: Step<'a>) -> Option<Turn>
+        ensures { ComesTo self.old self.new result (outcome_at_once self.old step.entry) }
+    {
+        match self.met_at_once(step) {
+            Ok(is_met) => self.finish_met(is_met),
+            Err(_) => self.refused(),
+        }
+    }
+
+    // What is there goes out from a socket.
+    #[tactic(auto, using(crate::proofs::PlayLemmas::comes_at_once))]
+    fn send_now(&mut self, from: Socket) -> Option<Turn>
+        ensures comes { ComesTo self.old self.new result (Some None) }
+    {
+        let mark = if from.is_second() { ">> " } else { "> " };
+        self.from = from;
+        if self.note_sent(mark).is_err() {
+            return self.refused();
+        }
+        let _ = self.finish(None);
+        Some(Turn::Send { from })
+    }
+
+    // This goes out from a socket, or what went out last does again.
+    #[tactic(auto, using(crate::proofs::PlayLemmas::comes_sent))]
+    fn send(&mut self, from: Socket, text: &str) -> Option<Turn>
+        ensures comes { ComesTo self.old self.new result (Some None) }
+    {
+        if text == "again" {
+            return self.send_now(from);
+        }
+        match self.names.datagram(text) {
+            Ok(sent) => {
+                self.sent = sent;
+                self.send_now(from)
+            }
+            Err(_) => self.refused(),
+        }
+    }
+
+    // Until when this step waits, which has begun now if it hasn't before.
+    fn deadline(&mut self, ms: u64, now: u64) -> u64
+        ensures until { result ≡ until_in self.old.until ms now }
+        ensures stands { self.new.until ≡ Some result }
+        ensures rest { self.new ≡ record self.old { until = self.new.until } }
+    {
+        match self.until {
+            Some(until) => until,
+            None => {
+                let until = now.saturating_add(ms);
+                self.until = Some(until);
+                until
+            }
+        }
+    }
+
+    // Until when this step waits for an answer, which has begun now if it hasn't before, or begins anew.
+    fn answer_deadline(&mut self, now: u64) -> u64
+        ensures until { result ≡ answer_until self.old.until self.old.begun now }
+        ensures begun { self.old.until ≡ None → self.new.begun ≡ Some (unwrap_or self.old.begun now) }
+        ensures stands { self.new.until ≡ Some result }
+        ensures rest { self.new ≡ record self.old { begun = self.new.begun; until = self.new.until } }
+    {
+        if let Some(until) = self.until {
+            return until;
+        }
+        let begun = self.begun.unwrap_or(now);
+        let until = waited_until(begun, now);
+        self.begun = Some(begun);
+        self.until = Some(until);
+        until
+    }
+
+    // Waits for an answer; where none came in time the step isn't met.
+    #[tactic(auto, using(crate::proofs::PlayLemmas::comes_in_time))]
+    fn await_answer(&mut self, now: u64) -> Option<Turn>
+        ensures { ComesTo self.old self.new result (due_until (answer_until self.old.until self.old.begun now) now) }
+    {
+        let until = self.answer_deadline(now);
+        if now < until {
+            return Some(Turn::Wait { until });
+        }
+        self.finish_met(false)
+    }
+
+    // The first answer to the command with this id is taken that came to the socket from which the last text went out.
+    #[tactic(auto, unfolding(check_matching::specs::Matching::answer_for))]
+    fn take_answer(&mut self, id: u32) -> Option<Arrived>
+        ensures found { result ≡ answer_in self.old id }
+        ensures taken { self.new.inbox.taken ≡ self.old.inbox.taken }
+        ensures rest { self.new ≡ record self.old { inbox = self.new.inbox } }
+    {
+        self.inbox.take(self.from, id)
+    }
+
+    // The answer with this id is to come, with one of these codes.
+    #[tactic(auto, using(crate::proofs::PlayLemmas::comes_on))]
+    fn answered(&mut self, codes: &str, id: &str, is_optional: bool, now: u64) -> Option<Turn>
+        ensures comes { ComesTo self.old self.new result (answer_outcome self.old codes.now id.now is_optional now) }
+        ensures taken { TakesAnswer self.old self.new (answer_in self.old (id_in self.old.names id.now)) }
+    {
+        let Ok(id) = self.names.id_in(id) else {
+            return self.refused();
+        };
+        match self.take_answer(id) {
+            Some(arrived) => {
+                let code = arrived.code;
+                if self.inbox.keep(arrived).is_err() {
+                    return self.refused();
+                }
+                self.finish(code_fault(codes, is_optional, code))
+            }
+            None => self.await_answer(now),
+        }
+    }
+
+    // The answer with this id is to come again as it first came.
+    #[tactic(auto, using(crate::proofs::PlayLemmas::comes_on))]
+    fn answered_again(&mut self, id: &str, now: u64) -> Option<Turn>
+        ensures { ComesTo self.old self.new result (same_outcome self.old id.now now) }
+    {
+        let Ok(id) = self.names.id_in(id) else {
+            return self.refused();
+        };
+        match self.take_answer(id) {
+            Some(arrived) => {
+                let is_same = arrived.text.as_slice() == self.inbox.first_of(id);
+                self.finish_met(is_same)
+            }
+            None => self.await_answer(now),
+        }
+    }
+
+    // It is waited for so long; then the step is met or not.
+    #[tactic(auto, using(crate::proofs::PlayLemmas::comes_in_time))]
+    fn waited(&mut self, ms: u64, is_met: bool, now: u64) -> Option<Turn>
+        ensures passes { is_met ≡ true → ComesTo self.old self.new result (passed_by (until_in self.old.until ms now) now) }
+        ensures is_due { is_met ≡ false → ComesTo self.old self.new result (due_until (until_in self.old.until ms now) now) }
+    {
+        let until = self.deadline(ms, now);
+        if now < until {
+            return Some(Turn::Wait { until });
+        }
+        self.finish_met(is_met)
+    }
+
+    // This is to come to a socket: whether as due or not, its id has this name from here on.
+    #[tactic(auto, using(crate::proofs::PlayLemmas::comes_on))]
+    fn find(&mut self, at: Socket, expected: &Expected<'_>, name: &'a str, now: u64) -> Option<Turn>
+        ensures comes { ComesTo self.old self.new result (found_outcome self.old
+            (likeness_at self.old.mailbox.heard.items at expected.now) now) }
+        ensures named { NamesFound name.now self.old self.new
+            (first_meant (likeness_at self.old.mailbox.heard.items at expected.now) 0 self.old.mailbox.waiting.items) }
+    {
+        match self.mailbox.first_meant(at, expected) {
+            Ok(Some((place, is_due))) => {
+                match name_id(&mut self.mailbox, &mut self.names, place, name) {
+                    Ok(()) => self.finish_met(is_due),
+                    Err(_) => self.refused(),
+                }
+            }
+            Ok(None) => self.waited(UNASKED_TIME, false, now),
+            Err(_) => self.refused(),
+        }
+    }
+
+    // A notification is to come to a socket: the endpoint, X and O that are due have blanks between them.
+    #[tactic(auto, using(crate::proofs::PlayLemmas::comes_notified))]
+    fn notified(&mut self, at: Socket, name: &'a str, due: &str, now: u64) -> Option<Turn>
+        ensures { ComesTo self.old self.new result (found_outcome self.old
+            (like_at self.old.mailbox.heard.items at (notice_due (filled self.old.names due.now))) now) }
+    {
+        let Ok(due) = self.names.filled(due) else {
+            return self.refused();
+        };
+        let (endpoint, rest) = first_word(due.as_str());
+        let (x, events) = first_word(rest);
+        let expected = Expected::Notification {
+            name: endpoint.as_bytes(),
+            x: x.as_bytes(),
+            events: events.as_bytes(),
+        };
+        self.find(at, &expected, name, now)
+    }
+
+    // An announcement with this method is to come to a socket.
+    #[tactic(auto, using(crate::proofs::PlayLemmas::announced_comes))]
+    fn announced(&mut self, at: Socket, name: &'a str, method: &str, now: u64) -> Option<Turn>
+        ensures { ComesTo self.old self.new result (found_outcome self.old
+            (like_at self.old.mailbox.heard.items at (announced_by method.now)) now) }
+    {
+        let method = method.as_bytes();
+        self.find(at, &Expected::Announcement { method }, name, now)
+    }
+
+    // What a step asked for last is to come so often again, each time within a time of its own.
+    #[tactic(auto, using(crate::proofs::PlayLemmas::comes_in_time))]
+    fn came_again(&mut self, times: u64, grows: bool, now: u64) -> Option<Turn>
+        ensures { ComesTo self.old self.new result (again_outcome self.old times grows now) }
+    {
+        let Some(gaps) = self.mailbox.gaps() else {
+            return self.finish_met(false);
+        };
+        if u64::from(gaps.count) >= times {
+            return self.finish_met(gaps.are_due(grows));
+        }
+        let until = gaps.previous.saturating_add(UNASKED_TIME);
+        if now < until {
+            return Some(Turn::Wait { until });
+        }
+        self.finish_met(false)
+    }
+
+    // Whether the gateway has said nothing by itself since this moment, or no answer waits.
+    #[tactic(auto, unfolding(crate::specs::Playing::is_silent))]
+    fn is_silent(&self, is_unasked: bool, since: u64) -> bool
+        ensures { result ≡ is_silent_in self.now is_unasked since }
+    {
+        if is_unasked {
+            self.mailbox.is_quiet(since)
+        } else {
+            self.inbox.is_empty()
+        }
+    }
+
+    // No answer is to come for so long, or the gateway is to say nothing by itself.
+    #[tactic(auto, using(crate::proofs::PlayLemmas::comes))]
+    fn quiet(&mut self, ms: u64, is_unasked: bool, now: u64) -> Option<Turn>
+        ensures { ComesTo self.old self.new result (silence_outcome self.old ms is_unasked now) }
+    {
+        let until = self.deadline(ms, now);
+        let is_quiet = self.is_silent(is_unasked, until.saturating_sub(ms));
+        if !is_quiet {
+            return self.finish_met(false);
+        }
+        if now < until {
+            return Some(Turn::Wait { until });
+        }
+        if self.note("(nothing comes)", &[]).is_err() {
+            return self.refused();
+        }
+        self.finish_met(true)
+    }
+
+    // This is to be done at the line's telephone, or with the gateway.
+    #[tactic(auto, using(crate::proofs::PlayLemmas::comes))]
+    fn ask_for(&mut self, act: &'a str) -> Option<Turn>
+        ensures { ComesTo self.old self.new result (acted_by self.old.acted) }
+    {
+        match self.acted {
+            None => {
+                self.act = act;
+                if self.note("@ ", act.as_bytes()).is_err() {
+                    return self.refused();
+                }
+                Some(Turn::Act)
+            }
+            Some(is_done) => {
+                self.acted = None;
+                self.finish_met(is_done)
+            }
+        }
+    }
+
+    // Whether an answer is waited for, and not silence.
+    fn awaits_answer(&self) -> bool
+        ensures { result ≡ awaits_answer self.now.step }
+    {
+        match self.step {
+            Some(step) => !matches!(step.asks, Asks::Silence | Asks::Wait),
+            None => true,
+        }
+    }
+
+    // The id of the command whose answer is waited for.
+    fn awaited_id(&self) -> Result<Option<u32>, OutOfMemory> {
+        let Some(step) = self.step else {
+            return Ok(None);
+        };
+        let id = match step.asks {
+            Asks::Answer | Asks::AnswerIfDone => step.second,
+            Asks::Same => step.first,
+            _ => return Ok(None),
+        };
+        Ok(Some(self.names.id_in(id)?))
+    }
+
+    // A provisional response has come to a socket: behind one to the same command the answer is waited for anew.
+    fn prolong(&mut self, at: Socket, id: u32) -> Result<(), OutOfMemory>
+        ensures until { (self.new.until ≡ self.old.until) ⊎ (self.new.until ≡ None) }
+        ensures rest { self.new ≡ record self.old { until = self.new.until } }
+    {
+        if is_prolonged(self.awaited_id()?, self.from, id, at) {
+            self.until = None;
+        }
+        Ok(())
+    }
+
+    // Whether the steps of the check answer a command of the gateway's.
+    fn is_for_steps(&self, text: &[u8]) -> Result<bool, OutOfMemory> {
+        if !self.hears || self.is_undoing {
+            return Ok(false);
+        }
+        is_for_check(self.alloc, text, self.names.base(), self.announces)
+    }
+
+    /// Puts the responses to the commands of a datagram that the gateway says by itself, but to those that steps answer: a gateway that
+    /// announces itself waits for one.
+    pub fn put_responses(&self, out: &mut String, datagram: &[u8]) -> Result<(), OutOfMemory> {
+        let mut responses = Draft::new(self.alloc);
+        let mut is_first = out.is_empty();
+        for text in parts(datagram) {
+            if let Heard::Command { id } = hear_text(self.alloc, text)? {
+                if !self.is_for_steps(text)? {
+                    put_response(&mut responses, is_first, id);
+                    is_first = false;
+                }
+            }
+        }
+        append(responses, out)
+    }
+
+    // The gateway has said this by itself, at this moment: it waits for a step where one may answer it.
+    fn hear_unasked(
+        &mut self,
+        at: Socket,
+        moment: u64,
+        id: u32,
+        text: &[u8],
+    ) -> Result<(), OutOfMemory>
+        ensures { self.new ≡ record self.old { mailbox = self.new.mailbox } }
+    {
+        if !self.is_for_steps(text)? {
+            return Ok(());
+        }
+        let text = Vec::from_slice(self.alloc, text)?;
+        self.mailbox.put(Unasked {
+            at,
+            moment,
+            id,
+            text,
+        })
+    }
+
+    // A text has come to a socket at this moment. What is no message counts as an answer to nothing.
+    fn hear(&mut self, at: Socket, text: &[u8], moment: u64) -> Result<(), OutOfMemory>
+        ensures waiting { OnOk result (map came_as self.new.inbox.waiting.items
+            ≡ map came_as self.old.inbox.waiting.items ++ kept_of self.old.names.base (awaits_answer self.old.step) at text.now) }
+        ensures until { (self.new.until ≡ self.old.until) ⊎ (self.new.until ≡ None) }
+        ensures rest { self.new ≡ record self.old {
+          inbox = record self.old.inbox { waiting = self.new.inbox.waiting };
+          mailbox = self.new.mailbox;
+          until = self.new.until;
+        } }
+    {
+        let (id, code) = match hear_text(self.alloc, text)? {
+            Heard::Answer { id, code } if self.names.is_own(id) => (id, code),
+            Heard::Answer { .. } => return Ok(()),
+            Heard::Command { id } => return self.hear_unasked(at, moment, id, text),
+            Heard::Provisional { id } if self.awaits_answer() => return self.prolong(at, id),
+            Heard::Provisional { .. } | Heard::Nothing => (0, 0),
+        };
+        let text = Vec::from_slice(self.alloc, text)?;
+        self.inbox.put(Arrived { at, id, code, text })
+    }
+
+    /// A datagram has come to a socket at this moment, in ms. Whatever it is, the step that waits began when it began.
+    #[tactic(auto, unfolding(check_matching::specs::Hearing::kept_in))]
+    pub fn take(&mut self, at: Socket, datagram: &[u8], moment: u64) -> Result<(), OutOfMemory>
+        ensures begun { self.new.begun ≡ self.old.begun }
+        ensures waiting { OnOk result (map came_as self.new.inbox.waiting.items ≡ map came_as self.old.inbox.waiting.items
+            ++ kept_in self.old.names.base (awaits_answer self.old.step) at (parts_of datagram.now)) }
+        ensures until { (self.new.until ≡ self.old.until) ⊎ (self.new.until ≡ None) }
+        ensures rest { self.new ≡ record self.old {
+          inbox = record self.old.inbox { waiting = self.new.inbox.waiting };
+          mailbox = self.new.mailbox;
+          until = self.new.until;
+          said = self.new.said;
+          came = self.new.came;
+        } }
+    {
+        let mark = if at.is_second() { "<< " } else { "< " };
+        self.note_came(mark, datagram)?;
+        for text in parts(datagram) {
+            self.hear(at, text, moment)?;
+        }
+        Ok(())
+    }
+}

@@ -1,0 +1,106 @@
+//! Signs of a datagram's text, and what they stand for.
+ghost use Rattle.std.specs.Prelude.{◌≡◌, ◌++◌, OnOk};
+ghost use Rattle.gateway_checks.specs.Sending.{sign_at, stands_for, bytes_behind, put_at, left_behind, bytes_of, length_behind, written_out, ended};
+
+use mg_bytes::{Draft, OutOfMemory};
+
+// A sign.
+#[derive(Clone, Copy)]
+enum Sign {
+    // ` / `
+    LineEnd,
+    // `\t`
+    Tab,
+    // `\n`
+    LineFeed,
+}
+
+// The sign that begins a text, if one does.
+fn sign_at(text: &[u8]) -> Option<Sign>
+    ensures { result ≡ sign_at text.now }
+{
+    if text.starts_with(b" / ") {
+        Some(Sign::LineEnd)
+    } else if text.starts_with(b"\\t") {
+        Some(Sign::Tab)
+    } else if text.starts_with(b"\\n") {
+        Some(Sign::LineFeed)
+    } else {
+        None
+    }
+}
+
+impl Sign {
+    // What it stands for.
+    fn bytes(self) -> &'static [u8]
+        ensures { result.now ≡ bytes_of self }
+    {
+        match self {
+            Sign::LineEnd => b"\r\n",
+            Sign::Tab => b"\t",
+            Sign::LineFeed => b"\n",
+        }
+    }
+
+    // How many bytes it has behind its first.
+    fn length_behind(self) -> usize
+        ensures { result ≡ length_behind self }
+    {
+        match self {
+            Sign::LineEnd => 2,
+            Sign::Tab | Sign::LineFeed => 1,
+        }
+    }
+}
+
+// Puts what this sign stands for, or a byte that begins none: how many bytes behind that belong to it.
+fn put_sign(out: &mut Draft, byte: u8, sign: Option<Sign>) -> usize
+    ensures put { out.new ≡ out.old ++ stands_for byte sign }
+    ensures left { result ≡ bytes_behind sign }
+{
+    match sign {
+        Some(sign) => {
+            out.put(sign.bytes());
+            sign.length_behind()
+        }
+        None => {
+            out.put_byte(byte);
+            0
+        }
+    }
+}
+
+// Puts what the first byte of a text stands for, of which so many belong to a sign before: how many behind it do.
+fn put_front(out: &mut Draft, left: usize, byte: u8, text: &[u8]) -> usize
+    ensures put { out.new ≡ out.old ++ put_at left byte text.now }
+    ensures left { result ≡ left_behind left text.now }
+{
+    if left == 0 {
+        put_sign(out, byte, sign_at(text))
+    } else {
+        left - 1
+    }
+}
+
+/// Puts a text with what its signs stand for.
+#[tactic(auto, unfolding(crate::specs::Sending::written_from), using(crate::proofs::SignLemmas::front_put))]
+pub(crate) fn put_signs(out: &mut Draft, text: &[u8])
+    ensures { out.new ≡ out.old ++ written_out text.now }
+{
+    let mut rest = text;
+    let mut left = 0;
+    while let [byte, more @ ..] = rest {
+        left = put_front(out, left, *byte, rest);
+        rest = more;
+    }
+}
+
+/// The last line ends, where it doesn't yet.
+pub(crate) fn end_line(out: &mut Vec<u8>) -> Result<(), OutOfMemory>
+    ensures { OnOk result (out.new.items ≡ ended out.old.items) }
+{
+    if out.as_slice().ends_with(b"\n") {
+        return Ok(());
+    }
+    out.extend_from_slice(b"\r\n")
+}
