@@ -1,7 +1,10 @@
 -- What a turn leaves of a desk as it was, by its kind, and what is so as a run begins.
-use Rattle.std.specs.Prelude.{◌≡◌, ◌⊎◌, ℕ, Bool, true, Option, Result}
+use Rattle.std.specs.Prelude.{◌≡◌, ◌⊎◌, ℕ, ◌-◌, Bool, true, List, Option, Result}
 use Rattle.std.specs.Global.{Box}
 use Rattle.mg_bytes.specs.Lists.{is_empty}
+use Rattle.gateway_core.specs.Stands.{Stands}
+use Rattle.plain_machine.specs.Event.{GatewayEvent}
+use Rattle.plain_machine.specs.Lists.{plain}
 use Rattle.page_board.specs.Showing.{BoardState}
 use Rattle.surroundings.specs.Sending.{Traffic}
 use Rattle.surroundings.specs.Typing.{left_of}
@@ -11,7 +14,7 @@ use Rattle.turns.specs.declared.turn.Turn.{Turn}
 use Rattle.turns.specs.declared.turn.Turn.TheVariants.{End, Look, Wait, Tick, Command, Datagram, Visit, Note}
 use Rattle.turns.specs.Schedule.{opening}
 use Rattle.live_journal.specs.declared.journal.Journal.{Journal}
-use Rattle.live_telephones.specs.Paging.{TakesAct}
+use Rattle.live_telephones.specs.Paging.{ShowsPage, TakesAct}
 use Rattle.live_gateway.specs.declared.desk.Desk.{Desk}
 use Rattle.live_gateway.specs.declared.exchange.Exchange.{Exchange}
 use Rattle.live_gateway.specs.Visiting.{ServesOnce}
@@ -63,19 +66,25 @@ pub record TakesFromPage {S T : Type 0} (is_of_page : Bool) (was is : Desk S T) 
   pub shown : OnlyShows was.exchange is.exchange
   pub took : MayTake was.exchange.journal was.lines is_of_page is.exchange.journal is.lines is.is_of_page
 
--- The page is shown the gateway, and then its visitors have a turn, once: only what is around the desk changes, though not what went over
+-- The page is shown the gateway as it is, whose clock is so far behind this moment, and what was counted; or, for want of memory, what it
+-- was shown before. Then its visitors have a turn by that board, once: only what is around the desk changes, though not what went over
 -- that, and what the page is shown. Then the page may be asked for the next line.
 pub record DoesVisit {S T V : Type 0} (traffic : S → Traffic) (serves : V → S → BoardState → ℕ → V → S → BoardState → Type 0) (moment : ℕ)
     (visitors left : Option (Box V)) (was is : Desk S T) : Type 0 where
   pub served : Desk S T
-  pub shown : Option (Box BoardState)
+  pub lag : ℕ
+  pub shown : Journal
+  pub behind : (events : List GatewayEvent) → Stands was.play.gateway.value events
+      → lag ≡ moment - (plain was.play.gateway.value.setup events).now
+  pub shows : ShowsPage was.play.gateway.value was.exchange.faults lag was.exchange.journal shown
   pub before : served ≡ record was {
     exchange = record was.exchange {
       around = served.exchange.around;
       journal = record was.exchange.journal { board = served.exchange.journal.board };
     };
   }
-  pub turn : ServesOnce serves moment visitors was.exchange.around shown left served.exchange.around served.exchange.journal.board
+  pub turn : ServesOnce serves moment visitors was.exchange.around shown.board
+      left served.exchange.around served.exchange.journal.board
   pub kept : traffic served.exchange.around ≡ traffic was.exchange.around
   pub page : TakesFromPage was.is_of_page served is
 
