@@ -4,3 +4,4 @@ pub mod Fields
 pub mod Serving
 pub mod Answering
 pub mod Waiting
+pub mod Visiting

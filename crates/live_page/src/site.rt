@@ -1,11 +1,14 @@
 //! The site: the socket at which browsers ask for the page, and whose turn it is.
-ghost use Rattle.std.specs.Prelude.{◌≡◌, ◌||◌, None, is_some, map};
+ghost use Rattle.std.specs.Prelude.{◌≡◌, ◌||◌, None, false, is_some, map, replicate};
+ghost use Rattle.live_ends.specs.Looking.{no_visit};
+ghost use Rattle.live_page.specs.Naming.{names_of};
+ghost use Rattle.live_page.specs.Visiting.{ServesPlace, ServesNext};
 ghost use Rattle.live_page.specs.Waiting.{deadline_of, sooner, soonest_from, is_late, stays_at, has_more, is_behind, turn_from, next_turn};
 
 use crate::desk::Desk;
 use crate::reception::Reception;
 use crate::visitor::Visitor;
-use live_ends::{MOST_VISITORS, Readiness};
+use live_ends::{MOST_VISITORS, Readiness, Visit};
 use mio::net::{TcpListener, TcpStream};
 use page_access::{HostNames, Seat, place_for};
 use page_board::Board;
@@ -130,6 +133,29 @@ fn turn_behind(places: &[Option<Box<Visitor>>], last: Option<usize>) -> Option<u
     None
 }
 
+// What was told of each visitor's socket.
+fn note_visits(places: &mut [Option<Box<Visitor>>], visits: &[Visit; MOST_VISITORS]) {
+    for place in 0..MOST_VISITORS {
+        if let Some(Some(visitor)) = places.get_mut(place) {
+            visitor.note(visits[place]);
+        }
+    }
+}
+
+// Whoever has the place has a turn, and goes where nothing more is to be done for them.
+fn serve_place(held: &mut Option<Box<Visitor>>, desk: &mut Desk<'_>, now: u64)
+    ensures same_reference { desk.new.board.ghost_name ≡ desk.old.board.ghost_name }
+    ensures served { ServesPlace desk.old.site (names_of desk.old.names.now) held.old desk.old.board.now held.new desk.new.board.now }
+{
+    let stays = match held {
+        Some(visitor) => visitor.turn(desk, now),
+        None => true,
+    };
+    if !stays {
+        *held = None;
+    }
+}
+
 // Nobody has any of the places.
 fn free_places(alloc: Global) -> Result<Vec<Option<Box<Visitor>>>, AllocError> {
     let mut places = Vec::with_capacity(alloc, MOST_VISITORS)?;
@@ -201,14 +227,15 @@ impl Site {
     }
 
     /// What the system told of its sockets since it was asked last.
-    pub fn look(&mut self, ready: &mut Readiness) {
+    pub fn look(&mut self, ready: &mut Readiness)
+        ensures address { self.new.address ≡ self.old.address }
+        ensures names { names_of self.new.names ≡ names_of self.old.names }
+        ensures last { self.new.last ≡ self.old.last }
+        ensures forgotten { ready.new ≡ record ready.old { listener = false; visits = replicate MOST_VISITORS no_visit } }
+    {
         self.may_accept = self.may_accept || ready.listener;
         ready.listener = false;
-        for place in 0..MOST_VISITORS {
-            if let Some(Some(visitor)) = self.places.get_mut(place) {
-                visitor.note(ready.visits[place]);
-            }
-        }
+        note_visits(self.places.as_mut_slice(), &ready.visits);
         ready.forget_visits();
     }
 
@@ -236,7 +263,11 @@ impl Site {
         now: u64,
         mut stream: TcpStream,
         host: Ipv4Addr,
-    ) -> io::Result<()> {
+    ) -> io::Result<()>
+        ensures address { self.new.address ≡ self.old.address }
+        ensures names { names_of self.new.names ≡ names_of self.old.names }
+        ensures last { self.new.last ≡ self.old.last }
+    {
         let Some(place) = self.place_for(host) else {
             return Ok(());
         };
@@ -249,7 +280,11 @@ impl Site {
     }
 
     /// Takes somebody who has come, if anybody has.
-    pub fn accept<R: RandomSource>(&mut self, rt: &R, ready: &Readiness, now: u64) {
+    pub fn accept<R: RandomSource>(&mut self, rt: &R, ready: &Readiness, now: u64)
+        ensures address { self.new.address ≡ self.old.address }
+        ensures names { names_of self.new.names ≡ names_of self.old.names }
+        ensures last { self.new.last ≡ self.old.last }
+    {
         if !self.may_accept {
             return;
         }
@@ -263,7 +298,9 @@ impl Site {
     }
 
     /// A turn of one visitor who has more to do, each in their turn: it is answered by this board.
-    pub fn turn(&mut self, board: &mut Board, now: u64) {
+    pub fn turn(&mut self, board: &mut Board, now: u64)
+        ensures { ServesNext self.old.address (next_turn self.old.last self.old.places.items) self.old board.old self.new board.new }
+    {
         let Some(address) = self.address else {
             return;
         };
@@ -272,28 +309,22 @@ impl Site {
         };
         self.last = place;
         let mut desk = Desk::new(self.alloc, address, &self.names, board);
-        let stays = match self.places.get_mut(place) {
-            Some(Some(visitor)) => visitor.turn(&mut desk, now),
-            _ => true,
-        };
-        if stays {
-            return;
-        }
         if let Some(held) = self.places.get_mut(place) {
-            *held = None;
+            serve_place(held, &mut desk, now);
         }
     }
 }
 
 impl Reception for Site {
-    ghost use Rattle.std.specs.Prelude.{⊤, ◌||◌, None, is_some};
+    ghost use Rattle.std.specs.Prelude.{◌||◌, None, is_some};
+    ghost use Rattle.live_page.specs.Visiting.{ServesOne};
     ghost use Rattle.live_page.specs.Waiting.{soonest_from, next_turn};
 
     ghost busy = { λ site. site.may_accept || is_some (next_turn site.last site.places.items) };
 
     ghost closes = { λ site. soonest_from None site.places.items };
 
-    ghost serves = { λ was before board now is after shown. ⊤ };
+    ghost serves = { λ was told board now is after shown. ServesOne was told board is after shown };
 
     fn at<R: Net>(
         rt: &R,

@@ -1,5 +1,7 @@
 //! A visitor: a browser's connection, with the moment until which it is waited for.
-ghost use Rattle.std.specs.Prelude.{◌≡◌};
+ghost use Rattle.std.specs.Prelude.{◌≡◌, IsTrue};
+ghost use Rattle.live_page.specs.Naming.{names_of};
+ghost use Rattle.live_page.specs.Visiting.{calls_of, AnswersVisitor, IsAnswered};
 
 use crate::desk::Desk;
 use http_server::{Config, Connection};
@@ -90,7 +92,9 @@ impl Visitor {
     }
 
     // Reads once, where there is something. Gives whether the visitor stays.
-    fn read(&mut self, now: u64) -> bool {
+    fn read(&mut self, now: u64) -> bool
+        ensures calls { calls_of self.new ≡ calls_of self.old }
+    {
         if !self.may_read || !self.connection.wants_read() {
             return true;
         }
@@ -107,7 +111,9 @@ impl Visitor {
     }
 
     // Writes once, where something waits. Gives whether the visitor stays.
-    fn write(&mut self, now: u64) -> bool {
+    fn write(&mut self, now: u64) -> bool
+        ensures calls { calls_of self.new ≡ calls_of self.old }
+    {
         if !self.may_write || !self.connection.wants_write() {
             return true;
         }
@@ -134,16 +140,35 @@ impl Visitor {
         reads || writes
     }
 
+    // Answers what came.
+    fn answer(&mut self, desk: &mut Desk<'_>)
+        ensures site { desk.new.site ≡ desk.old.site }
+        ensures names { names_of desk.new.names.now ≡ names_of desk.old.names.now }
+        ensures same_reference { desk.new.board.ghost_name ≡ desk.old.board.ghost_name }
+        ensures answered { AnswersVisitor desk.old.site (names_of desk.old.names.now) self.old desk.old.board.now
+            self.new desk.new.board.now }
+        ensures all { IsAnswered self.new }
+    {
+        self.connection.advance(desk);
+    }
+
     /// Reads once, answers what came, and writes once: whether the visitor stays.
-    pub(crate) fn turn(&mut self, desk: &mut Desk<'_>, now: u64) -> bool {
+    pub(crate) fn turn(&mut self, desk: &mut Desk<'_>, now: u64) -> bool
+        ensures site { desk.new.site ≡ desk.old.site }
+        ensures names { names_of desk.new.names.now ≡ names_of desk.old.names.now }
+        ensures same_reference { desk.new.board.ghost_name ≡ desk.old.board.ghost_name }
+        ensures answered { AnswersVisitor desk.old.site (names_of desk.old.names.now) self.old desk.old.board.now
+            self.new desk.new.board.now }
+        ensures all { IsTrue result → IsAnswered self.new }
+    {
         if !self.read(now) {
             return false;
         }
-        self.connection.advance(desk);
+        self.answer(desk);
         if !self.write(now) {
             return false;
         }
-        self.connection.advance(desk);
+        self.answer(desk);
         self.has_turn = self.has_more();
         !self.connection.is_done()
     }

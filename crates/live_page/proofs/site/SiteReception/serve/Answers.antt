@@ -1,0 +1,14 @@
+use Rattle.std.proofs.Common.{◌∙◌, ap}
+use Rattle.live_page.specs.declared.host_names.HostNames.{HostNames}
+use Rattle.live_page.specs.Naming.{names_of}
+use Rattle.live_page.proofs.site.SiteReception.serve.Goals as goal
+
+pub returns : goal.returns
+returns g c = record {
+  there = c.accept.new.self;
+  address = c.accept.ensures.address ∙ c.look.ensures.address ∙ c.close_late.ensures.address;
+  names = c.accept.ensures.names ∙ c.look.ensures.names ∙ ap (λ (n : HostNames). names_of n) c.close_late.ensures.names;
+  last = c.accept.ensures.last ∙ c.look.ensures.last ∙ c.close_late.ensures.last;
+  forgotten = c.look.ensures.forgotten;
+  next = c.turn.ensures;
+}

@@ -1,0 +1,21 @@
+use Rattle.live_page.proofs.VisitLemmas.{worked}
+use Rattle.live_page.proofs.visitor.Visitor.answer.Goals as goal
+
+pub returns-clause-site : goal.returns-clause-site
+returns-clause-site c = (worked c.args.desk.now c.advance.ensures.calls.0 c.advance.new.service c.advance.ensures.calls.2).0
+
+pub returns-clause-names : goal.returns-clause-names
+returns-clause-names c = (worked c.args.desk.now c.advance.ensures.calls.0 c.advance.new.service c.advance.ensures.calls.2).1
+
+pub returns-clause-same_reference : goal.returns-clause-same_reference
+returns-clause-same_reference c = (worked c.args.desk.now c.advance.ensures.calls.0 c.advance.new.service c.advance.ensures.calls.2).2
+
+pub returns-clause-answered : goal.returns-clause-answered
+returns-clause-answered c = (
+  c.advance.ensures.calls.0,
+  c.advance.ensures.calls.1,
+  (worked c.args.desk.now c.advance.ensures.calls.0 c.advance.new.service c.advance.ensures.calls.2).3,
+)
+
+pub returns-clause-all : goal.returns-clause-all
+returns-clause-all c = c.advance.ensures.rests
