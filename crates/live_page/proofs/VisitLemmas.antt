@@ -4,12 +4,12 @@ use Rattle.std.specs.declared.net.socket_addr.SocketAddrV4.{SocketAddrV4}
 use Rattle.http.specs.declared.request.Request.{Request}
 use Rattle.http_server.specs.declared.response.Response.{Response}
 use Rattle.http_server.specs.Exchange.{Call, Chain, Calls}
-use Rattle.page_answers.specs.Showing.{BoardState}
+use Rattle.page_board.specs.Showing.{BoardState}
 use Rattle.live_page.specs.declared.desk.Desk.{Desk}
-use Rattle.live_page.specs.declared.host_names.HostNames.{HostNames}
+use Rattle.page_access.specs.declared.host_names.HostNames.{HostNames}
 use Rattle.live_page.specs.declared.visitor.Visitor.{Visitor}
 use Rattle.live_page.specs.Answering.{Answers}
-use Rattle.live_page.specs.Naming.{names_of}
+use Rattle.page_access.specs.Naming.{names_of}
 use Rattle.live_page.specs.Visiting.{calls_of, AnsweredAt, AnswersVisitor}
 
 -- calls behind others are calls of both

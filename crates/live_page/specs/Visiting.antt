@@ -11,11 +11,11 @@ use Rattle.http_server.specs.History.{Rests}
 use Rattle.live_ends.specs.declared.readiness.Readiness.{Readiness}
 use Rattle.live_ends.specs.declared.readiness.TheConstants.{MOST_VISITORS}
 use Rattle.live_ends.specs.Looking.{no_visit}
-use Rattle.page_answers.specs.Showing.{BoardState}
+use Rattle.page_board.specs.Showing.{BoardState}
 use Rattle.live_page.specs.declared.site.Site.{Site}
 use Rattle.live_page.specs.declared.visitor.Visitor.{Visitor}
-use Rattle.live_page.specs.Asking.{asked_of}
-use Rattle.live_page.specs.Naming.{names_of}
+use Rattle.page_access.specs.Asking.{asked_of}
+use Rattle.page_access.specs.Naming.{names_of}
 use Rattle.live_page.specs.Serving.{Answered}
 use Rattle.live_page.specs.Waiting.{next_turn}
 
@@ -29,6 +29,10 @@ calls_of visitor = (history visitor.connection).calls
 -- the page at this address, and under these further names, answers a request by what a board has, and does it to that
 abbrev pub AnsweredAt : SocketAddrV4 → List (List ℕ) → BoardState → Request (List ℕ) → Response → BoardState → Type 0
 AnsweredAt site names was request response is = Answered (asked_of site names (head_of request)) was (body_of request) response is
+
+-- a board became another by requests that were answered so, one after the other, and by nothing else
+abbrev pub AnswersBy : SocketAddrV4 → List (List ℕ) → BoardState → BoardState → Type 0
+AnswersBy site names board shown = (calls : List Call) × Chain (AnsweredAt site names) board calls shown
 
 -- requests of a visitor were answered so, one after the other, and nothing else was done to the board
 abbrev pub AnswersVisitor : SocketAddrV4 → List (List ℕ) → Visitor → BoardState → Visitor → BoardState → Type 0

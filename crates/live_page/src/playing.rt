@@ -1,4 +1,8 @@
 //! A visitor who is played: a request is answered over a connection of its own, where no socket is.
+ghost use Rattle.std.specs.Prelude.{◌≡◌};
+ghost use Rattle.page_access.specs.Naming.{names_of};
+ghost use Rattle.live_page.specs.Visiting.{AnswersBy};
+
 use crate::desk::Desk;
 use http_server::{Config, Connection};
 use live_outlets::boxed;
@@ -9,16 +13,19 @@ use std::hash::RandomState;
 use std::io;
 use std::net::SocketAddrV4;
 
-// Puts what is answered to a request.
-fn put_answer(
-    connection: &mut Connection,
-    desk: &mut Desk<'_>,
-    request: &[u8],
-    out: &mut Vec<u8>,
-) -> io::Result<()> {
+// Answers a request.
+fn answer(connection: &mut Connection, desk: &mut Desk<'_>, request: &[u8]) -> io::Result<()>
+    ensures same_reference { desk.new.board.ghost_name ≡ desk.old.board.ghost_name }
+    ensures answered { AnswersBy desk.old.site (names_of desk.old.names.now) desk.old.board.now desk.new.board.now }
+{
     let mut reader = request;
     connection.read_from(&mut reader)?;
     connection.advance(desk);
+    Ok(())
+}
+
+// Puts what was answered.
+fn put_answer(connection: &mut Connection, out: &mut Vec<u8>) -> io::Result<()> {
     for _ in 0..u16::MAX {
         if !connection.wants_write() {
             return Ok(());
@@ -37,10 +44,13 @@ pub fn answer_to(
     names: &HostNames,
     board: &mut Board,
     request: &[u8],
-) -> io::Result<Vec<u8>> {
-    let mut desk = Desk::new(alloc, site, names, board);
+) -> io::Result<Vec<u8>>
+    ensures { AnswersBy site (names_of names.now) board.old board.new }
+{
     let mut connection = boxed(alloc, Connection::new(alloc, keys, Config::default()))?;
-    let mut answer = Vec::new(alloc);
-    put_answer(&mut connection, &mut desk, request, &mut answer)?;
-    Ok(answer)
+    let mut desk = Desk::new(alloc, site, names, board);
+    answer(&mut connection, &mut desk, request)?;
+    let mut out = Vec::new(alloc);
+    put_answer(&mut connection, &mut out)?;
+    Ok(out)
 }

@@ -1,7 +1,7 @@
 //! The site: the socket at which browsers ask for the page, and whose turn it is.
 ghost use Rattle.std.specs.Prelude.{◌≡◌, ◌||◌, None, false, is_some, map, replicate};
 ghost use Rattle.live_ends.specs.Looking.{no_visit};
-ghost use Rattle.live_page.specs.Naming.{names_of};
+ghost use Rattle.page_access.specs.Naming.{names_of};
 ghost use Rattle.live_page.specs.Visiting.{ServesPlace, ServesNext};
 ghost use Rattle.live_page.specs.Waiting.{deadline_of, sooner, soonest_from, is_late, stays_at, has_more, is_behind, turn_from, next_turn};
 

@@ -1,6 +1,6 @@
 //! A visitor: a browser's connection, with the moment until which it is waited for.
 ghost use Rattle.std.specs.Prelude.{◌≡◌, IsTrue};
-ghost use Rattle.live_page.specs.Naming.{names_of};
+ghost use Rattle.page_access.specs.Naming.{names_of};
 ghost use Rattle.live_page.specs.Visiting.{calls_of, AnswersVisitor, IsAnswered};
 
 use crate::desk::Desk;

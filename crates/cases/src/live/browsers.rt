@@ -1,4 +1,9 @@
 //! Visitors of a page in memory: each asks once, and gets an answer.
+ghost use Rattle.std.specs.Prelude.{◌≡◌, drop};
+ghost use Rattle.page_access.specs.Naming.{names_of};
+ghost use Rattle.live_page.specs.Visiting.{AnswersBy};
+ghost use Rattle.cases.specs.Browsing.{next_of};
+
 use crate::stories::{Clocks, Machine, Transcript, Visit};
 use live_gateway::Visitors;
 use live_page::answer_to;
@@ -63,7 +68,9 @@ impl Browsers {
     }
 
     // The moment at which the next one comes.
-    fn next(&self) -> Option<u64> {
+    fn next(&self) -> Option<u64>
+        ensures { result ≡ next_of self.now.visits.items }
+    {
         match self.visits.front() {
             Some(visit) => Some(visit.moment),
             None => None,
@@ -71,7 +78,10 @@ impl Browsers {
     }
 
     // Who comes next is answered.
-    fn serve(&mut self, board: &mut Board) -> io::Result<()> {
+    fn serve(&mut self, board: &mut Board) -> io::Result<()>
+        ensures board { AnswersBy self.old.site (names_of self.old.names) board.old board.new }
+        ensures visits { self.new.visits.items ≡ drop 1 self.old.visits.items }
+    {
         let Some(visit) = self.visits.pop_front() else {
             return Ok(());
         };
@@ -96,13 +106,18 @@ impl Browsers {
 }
 
 impl Visitors<Machine<'_>> for Browsers {
-    ghost use Rattle.std.specs.Prelude.{⊤};
+    ghost use Rattle.std.specs.Prelude.{◌≡◌, drop};
+    ghost use Rattle.live_gateway.specs.Visiting.{has_come};
+    ghost use Rattle.page_access.specs.Naming.{names_of};
+    ghost use Rattle.live_page.specs.Visiting.{AnswersBy};
+    ghost use Rattle.cases.specs.Browsing.{next_of};
 
-    ghost waits = { λ browsers around moment ready. ⊤ };
+    ghost waits = { λ browsers around moment ready. ready ≡ has_come (next_of browsers.visits.items) moment };
 
-    ghost closes = { λ browsers deadline. ⊤ };
+    ghost closes = { λ browsers deadline. deadline ≡ next_of browsers.visits.items };
 
-    ghost serves = { λ was before board moment is after shown. ⊤ };
+    ghost serves = { λ was before board moment is after shown. AnswersBy was.site (names_of was.names) board shown
+        × (is.visits.items ≡ drop 1 was.visits.items) × (after ≡ before) };
 
     fn is_ready(&self, _around: &Machine<'_>, moment: u64) -> bool {
         match self.next() {
