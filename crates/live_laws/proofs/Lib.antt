@@ -6,3 +6,4 @@ pub mod HearingLaws
 pub mod LiveLaws
 pub mod Computing
 pub mod TurnExampleLemmas
+pub mod WayExampleLemmas

@@ -1,3 +1,4 @@
 pub mod Replay
 pub mod Example
 pub mod TurnExample
+pub mod WayExample

@@ -6,3 +6,4 @@ pub mod examples;
 pub mod laws;
 pub mod play_laws;
 pub mod turning_examples;
+pub mod way_examples;

@@ -1,4 +1,3 @@
-use Rattle.std.proofs.Common.{◌∙◌}
 use Rattle.page_access.specs.Naming.{names_of}
 use Rattle.live_page.proofs.VisitLemmas.{none_answered, answered_before, answered_behind, answered_both}
 use Rattle.live_page.proofs.visitor.Visitor.turn.Goals as goal

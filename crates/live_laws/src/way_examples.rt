@@ -1,0 +1,146 @@
+//! Worked examples of what goes over an exchange, of what an outlet is told and handed, and of what a page is shown, as theorems.
+#![tactic(auto)]
+
+ghost use Rattle.std.specs.Prelude.{◌≡◌, ◌⊎◌, ⊤, [], ◌∷◌, true, false, ℕ, List, Option, Some, None, Result, Ok, Err};
+ghost use Rattle.std.specs.Global.{Box};
+ghost use Rattle.std.specs.declared.net.socket_addr.SocketAddrV4.{SocketAddrV4};
+ghost use Rattle.bad_network.specs.declared.fate.Fate.{Fate};
+ghost use Rattle.bad_network.specs.declared.fate.Fate.TheVariants.{Lost as NeverComes, Once, Twice};
+ghost use Rattle.bad_network.specs.declared.network.BadNetwork.{BadNetwork};
+ghost use Rattle.bad_network.specs.declared.packet.Packet.{Packet};
+ghost use Rattle.bad_network.specs.Drawing.{after_draws};
+ghost use Rattle.bad_network.specs.Waiting.{put_in};
+ghost use Rattle.gateway_core.specs.GatewayState.{GatewayState};
+ghost use Rattle.gateway_core.specs.Stands.{Stands};
+ghost use Rattle.gateway_core.specs.Wire.{counted};
+ghost use Rattle.page_board.specs.Showing.{BoardState};
+ghost use Rattle.piggyback.specs.Parts.{parts_of};
+ghost use Rattle.plain_machine.specs.declared.label.SentMessage.{SentMessage};
+ghost use Rattle.plain_machine.specs.Event.{GatewayEvent};
+ghost use Rattle.plain_machine.specs.Lists.{plain};
+ghost use Rattle.surroundings.specs.Sending.{Sent, untold, found_by};
+ghost use Rattle.surroundings.specs.declared.surroundings.Fault.{Fault};
+ghost use Rattle.traces.specs.declared.telling.Mark.TheVariants.{Lost};
+ghost use Rattle.traces.specs.Writing.{Input, became};
+ghost use Rattle.transmission.specs.declared.output.OutDatagram.{OutDatagram};
+ghost use Rattle.live_play.specs.Example.{says, loses_the_second, keeps};
+ghost use Rattle.live_play.specs.Running.{Live, sent_of, HandsBy, HandsFrom, TakesBy};
+ghost use Rattle.live_telephones.specs.Paging.{IsOf};
+ghost use Rattle.live_gateway.specs.declared.admission.Admission.{Admission};
+ghost use Rattle.live_gateway.specs.declared.desk.Desk.{Desk};
+ghost use Rattle.live_gateway.specs.declared.exchange.Exchange.{Exchange};
+ghost use Rattle.live_gateway.specs.declared.spoilt_way.SpoiltWay.{SpoiltWay};
+ghost use Rattle.live_gateway.specs.Admitting.{is_heard};
+ghost use Rattle.live_gateway.specs.Ending.{OnlyEnds};
+ghost use Rattle.live_gateway.specs.Exchanging.{with_refused, with_unreceived, OnlyWrites, OnlyNotes, LooksBetween, FoundSince};
+ghost use Rattle.live_gateway.specs.Leaving.{DoesVisit};
+ghost use Rattle.live_gateway.specs.Offering.{next_fate, TakesFirst, TakesDue};
+ghost use Rattle.live_laws.specs.Example.{at_port};
+ghost use Rattle.live_laws.specs.WayExample.{due_at, OffersOne, copy_behind, LooksSeeing, arrival, arrivals, counts_turns, is_told_by, stays_where_told};
+
+/// What becomes of a datagram that is offered is what the network draws next, and its copies wait; where memory is refused those that stand
+/// in front may, and as much is drawn.
+pub fn what_is_offered_waits_as_is_drawn()
+    ensures drawn { (fate : Fate) (was is : BadNetwork) → OffersOne (Ok fate) was is → fate ≡ next_fate was }
+    ensures lost { (was is : BadNetwork) → next_fate was ≡ NeverComes → OffersOne (Ok NeverComes) was is
+        → is.waiting.items ≡ was.waiting.items }
+    ensures once { (was is : BadNetwork) → next_fate was ≡ Once 10 → OffersOne (Ok (Once 10)) was is
+        → is.waiting.items ≡ put_in (copy_behind 10) was.waiting.items }
+    ensures twice { (was is : BadNetwork) → next_fate was ≡ Twice 10 3 → OffersOne (Ok (Twice 10 3)) was is
+        → is.waiting.items ≡ put_in (copy_behind 3) (put_in (copy_behind 10) was.waiting.items) }
+    ensures lost_for_memory { (was is : BadNetwork) → next_fate was ≡ NeverComes → OffersOne (Err tt) was is
+        → is.waiting.items ≡ was.waiting.items }
+    ensures once_for_memory { (was is : BadNetwork) → next_fate was ≡ Once 10 → OffersOne (Err tt) was is
+        → (is.waiting.items ≡ was.waiting.items) ⊎ (is.waiting.items ≡ put_in (copy_behind 10) was.waiting.items) }
+    ensures draws { (became : Result Fate ⊤) (was is : BadNetwork) → OffersOne became was is
+        → (is.generator ≡ after_draws was.generator) × (is.spoiling ≡ was.spoiling) }
+{}
+
+/// The first packet that waits is handed out, where it is due by now; nothing else is, and nothing is drawn.
+pub fn what_is_due_is_handed_out()
+    ensures due { (packet : Option Packet) (was is : BadNetwork) → was.waiting.items ≡ due_at 5 ∷ due_at 9 ∷ [] → TakesFirst 5 was packet is
+        → (packet ≡ Some (due_at 5)) × (is.waiting.items ≡ due_at 9 ∷ []) }
+    ensures later { (packet : Option Packet) (was is : BadNetwork) → was.waiting.items ≡ due_at 6 ∷ [] → TakesFirst 5 was packet is
+        → (packet ≡ None) × (is.waiting.items ≡ due_at 6 ∷ []) }
+    ensures none { (packet : Option Packet) (was is : BadNetwork) → was.waiting.items ≡ [] → TakesFirst 5 was packet is → packet ≡ None }
+    ensures undrawn { (packet : Option Packet) (was is : BadNetwork) → TakesFirst 5 was packet is
+        → (is.generator ≡ was.generator) × (is.spoiling ≡ was.spoiling) }
+    ensures nowhere { (packet : Option Packet) (is : Option (Box SpoiltWay)) → TakesDue 5 None packet is → (packet ≡ None) × (is ≡ None) }
+    ensures kept { (packet : Option Packet) (was : Box SpoiltWay) → TakesDue 5 (Some was) packet None → ⊥ }
+    ensures before { (packet : Option Packet) (was is : Box SpoiltWay) → was.value.network.waiting.items ≡ due_at 5 ∷ []
+        → TakesDue 5 (Some was) packet (Some is) → packet ≡ Some (due_at 5) }
+{}
+
+/// A look behind a network counts what it gave, once, and nothing else; what is found since is what came and is heard.
+pub fn what_is_looked_for_is_counted_and_found()
+    ensures nothing { (was is : Exchange ℕ) → LooksSeeing (Ok None) was is → (is.read ≡ was.read) × (is.faults ≡ was.faults) }
+    ensures one { (was is : Exchange ℕ) → LooksSeeing (Ok (Some (at_port 9 2727, 5))) was is
+        → (is.read ≡ counted was.read 1) × (is.faults ≡ was.faults) }
+    ensures failed { (fault : Fault) (was is : Exchange ℕ) → LooksSeeing (Err fault) was is
+        → (is.read ≡ was.read) × (is.faults ≡ with_unreceived was.faults) }
+    ensures unasked { (was is : Exchange ℕ) → LooksBetween (λ before outcome room after. ⊥) was is → ⊥ }
+    ensures came { (admission : Admission) (was is : Exchange ℕ) (found : Option (SocketAddrV4 × ℕ)) (room : List ℕ) → was.network ≡ None
+        → is.network ≡ None → was.around ≡ 0 → is.around ≡ 1 → is_heard admission (at_port 9 2727) ≡ true
+        → FoundSince arrivals admission was found room is → found_by found room ≡ arrival ∷ [] }
+    ensures strange { (admission : Admission) (was is : Exchange ℕ) (found : Option (SocketAddrV4 × ℕ)) (room : List ℕ) → was.network ≡ None
+        → is.network ≡ None → was.around ≡ 0 → is.around ≡ 1 → is_heard admission (at_port 9 2727) ≡ false
+        → FoundSince arrivals admission was found room is → found_by found room ≡ [] }
+    ensures silent { (admission : Admission) (was is : Exchange ℕ) (found : Option (SocketAddrV4 × ℕ)) (room : List ℕ) → was.network ≡ None
+        → is.network ≡ None → was.around ≡ 0 → is.around ≡ 0 → FoundSince arrivals admission was found room is → found_by found room ≡ [] }
+{}
+
+/// Of an exchange nothing changes where it is written, noted or ended but what may.
+pub fn what_stays_of_an_exchange_has_examples()
+    ensures written { (was is : Exchange ℕ) → OnlyWrites was is → is.journal ≡ was.journal → is.is_offering ≡ was.is_offering → is ≡ was }
+    ensures noted { (was is : Exchange ℕ) → OnlyNotes was is → (is.read ≡ was.read) × (is.now ≡ was.now)
+        × (is.is_offering ≡ was.is_offering) × (is.faults.receive ≡ was.faults.receive) × (is.faults.send ≡ was.faults.send) }
+    ensures refused { (was : Exchange ℕ) → OnlyNotes was (record was { faults = with_refused true was.faults }) }
+    ensures ended { (was is : Desk ℕ ℕ) → OnlyEnds was is → is.play ≡ was.play → is.exchange ≡ was.exchange → is.lines ≡ was.lines
+        → is ≡ was }
+    ensures gateway { (was is : Desk ℕ ℕ) → OnlyEnds was is → is.play.gateway ≡ was.play.gateway }
+    ensures exchange { (was is : Desk ℕ ℕ) → OnlyEnds was is → is.exchange.around ≡ was.exchange.around
+        → is.exchange.journal ≡ was.exchange.journal → is.exchange.is_offering ≡ was.exchange.is_offering → is.exchange ≡ was.exchange }
+{}
+
+/// What is noted of datagrams is what the outlet said of each; it is told of an event before anything is handed to it, by the gateway that
+/// took it, and has the messages that this tells.
+pub fn what_an_outlet_is_told_and_handed()
+    ensures noted { (was is : Live) (a : OutDatagram) (messages : List SentMessage)
+        (by : HandsBy (says None) was 0 0 (a ∷ []) messages is 0) → by.marks ≡ [] }
+    ensures same { (was is : Live) (a : OutDatagram) (messages : List SentMessage) → HandsBy (says None) was 0 0 (a ∷ []) messages is 0
+        → is.gateway ≡ was.gateway }
+    ensures handed { (was is : Live) (a : OutDatagram) (messages : List SentMessage) (are : List Sent) → was.handed ≡ Some []
+        → is.handed ≡ Some are → HandsBy (says None) was 0 0 (a ∷ []) messages is 0 → are ≡ sent_of a ∷ [] }
+    ensures before { (was is : Live) (a : OutDatagram) (from : HandsFrom counts_turns loses_the_second was 0 (a ∷ []) is 2)
+        → from.by.marks ≡ became Lost 1 ∷ [] }
+    ensures teller { (teller : GatewayState) (was is : Live) → HandsFrom (is_told_by teller) (says None) was 0 [] is 0
+        → is.gateway ≡ teller }
+    ensures messages { (was is : Live) (a : OutDatagram) (x : List ℕ) (one : SentMessage) (kept : List (List SentMessage))
+        → parts_of a.bytes ≡ x ∷ [] → is.gateway.account.sent ≡ one ∷ [] → HandsFrom stays_where_told keeps was [] (a ∷ []) is kept
+        → kept ≡ (one ∷ []) ∷ [] }
+    ensures taken_before { (was is : Live) (a : OutDatagram) (input : Input) (event : GatewayEvent)
+        (by : TakesBy counts_turns loses_the_second was 0 input event is 2) → by.takes.outputs ≡ a ∷ []
+        → by.takes.marks ≡ became Lost 1 ∷ [] }
+    ensures taken_teller { (teller : GatewayState) (was is : Live) (input : Input) (event : GatewayEvent)
+        → TakesBy (is_told_by teller) (says None) was 0 input event is 0 → is.gateway ≡ teller }
+    ensures taken_messages { (was is : Live) (a : OutDatagram) (x : List ℕ) (one : SentMessage) (kept : List (List SentMessage))
+        (input : Input) (event : GatewayEvent) (by : TakesBy stays_where_told keeps was [] input event is kept)
+        → by.takes.outputs ≡ a ∷ [] → parts_of a.bytes ≡ x ∷ [] → is.gateway.account.sent ≡ one ∷ [] → kept ≡ (one ∷ []) ∷ [] }
+{}
+
+/// A visitor is answered by a board that shows the gateway as it was when their turn came, and how far its clock is behind; or, for want of
+/// memory, by what the page was shown before.
+pub fn what_a_visitor_sees_is_the_gateway()
+    ensures lag { (visitors left : Option (Box ℕ)) (was is : Desk ℕ ℕ) (events : List GatewayEvent)
+        (visit : DoesVisit {V = ℕ} (λ around. untold) (λ v s b at w t c. ⊤) 5 visitors left was is)
+        → Stands was.play.gateway.value events → (plain was.play.gateway.value.setup events).now ≡ 3 → visit.lag ≡ 2 }
+    ensures nobody { (visitors left : Option (Box ℕ)) (was is : Desk ℕ ℕ)
+        (visit : DoesVisit {V = ℕ} (λ around. untold) (λ v s b at w t c. ⊤) 5 visitors left was is)
+        → was.exchange.journal.board ≡ None → visit.shown.board ≡ None }
+    ensures shown { (visitors left : Option (Box ℕ)) (was is : Desk ℕ ℕ) (board shown : Box BoardState)
+        (visit : DoesVisit {V = ℕ} (λ around. untold) (λ v s b at w t c. ⊤) 5 visitors left was is)
+        → was.exchange.journal.board ≡ Some board → visit.shown.board ≡ Some shown → (visit.shown ≡ was.exchange.journal)
+        ⊎ IsOf was.play.gateway.value was.exchange.journal was.exchange.faults visit.lag shown.value.picture }
+    ensures nothing { (was is : Desk ℕ ℕ) → DoesVisit {V = ℕ} (λ around. untold) (λ v s b at w t c. ⊥) 5 None None was is
+        → is.exchange.around ≡ was.exchange.around }
+{}
