@@ -88,11 +88,14 @@ pub record DoesVisit {S T V : Type 0} (traffic : S → Traffic) (serves : V → 
   pub kept : traffic served.exchange.around ≡ traffic was.exchange.around
   pub page : TakesFromPage was.is_of_page served is
 
--- it begins now: its schedule starts at the moment that the clock told, and that the clock failed is counted
+-- it begins now: its schedule starts at the moment that the clock told, or, where that failed, to which ticks have come; and that it failed
+-- is counted
 pub record Starts {S T : Type 0} (passes : S → Result ℕ Fault → Type 0) (was is : Desk S T) : Type 0 where
   pub clock : Result ℕ Fault
   pub read_so : passes was.exchange.around clock
   pub ticked : ℕ
+  pub ticked_so : (events : List GatewayEvent) → Stands was.play.gateway.value events
+      → ticked ≡ (plain was.play.gateway.value.setup events).now
   pub rest : is ≡ record was {
     exchange = record was.exchange { faults = is.exchange.faults };
     schedule = opening (moment_at clock ticked);

@@ -22,6 +22,7 @@ ghost use Rattle.surroundings.specs.Sending.{Sent, untold, found_by};
 ghost use Rattle.surroundings.specs.declared.surroundings.Fault.{Fault};
 ghost use Rattle.traces.specs.declared.telling.Mark.TheVariants.{Lost};
 ghost use Rattle.traces.specs.Writing.{Input, became};
+ghost use Rattle.turns.specs.Schedule.{opening};
 ghost use Rattle.transmission.specs.declared.output.OutDatagram.{OutDatagram};
 ghost use Rattle.live_play.specs.Example.{says, loses_the_second, keeps};
 ghost use Rattle.live_play.specs.Running.{Live, sent_of, HandsBy, HandsFrom, TakesBy};
@@ -33,7 +34,7 @@ ghost use Rattle.live_gateway.specs.declared.spoilt_way.SpoiltWay.{SpoiltWay};
 ghost use Rattle.live_gateway.specs.Admitting.{is_heard};
 ghost use Rattle.live_gateway.specs.Ending.{OnlyEnds};
 ghost use Rattle.live_gateway.specs.Exchanging.{with_refused, with_unreceived, OnlyWrites, OnlyNotes, LooksBetween, FoundSince};
-ghost use Rattle.live_gateway.specs.Leaving.{DoesVisit};
+ghost use Rattle.live_gateway.specs.Leaving.{Starts, DoesVisit};
 ghost use Rattle.live_gateway.specs.Offering.{next_fate, TakesFirst, TakesDue};
 ghost use Rattle.live_laws.specs.Example.{at_port};
 ghost use Rattle.live_laws.specs.WayExample.{due_at, OffersOne, copy_behind, LooksSeeing, arrival, arrivals, counts_turns, is_told_by, stays_where_told};
@@ -129,7 +130,7 @@ pub fn what_an_outlet_is_told_and_handed()
 {}
 
 /// A visitor is answered by a board that shows the gateway as it was when their turn came, and how far its clock is behind; or, for want of
-/// memory, by what the page was shown before.
+/// memory, by what the page was shown before. Where the clock fails at the start, turns begin at the moment to which ticks have come.
 pub fn what_a_visitor_sees_is_the_gateway()
     ensures lag { (visitors left : Option (Box ℕ)) (was is : Desk ℕ ℕ) (events : List GatewayEvent)
         (visit : DoesVisit {V = ℕ} (λ around. untold) (λ v s b at w t c. ⊤) 5 visitors left was is)
@@ -141,6 +142,8 @@ pub fn what_a_visitor_sees_is_the_gateway()
         (visit : DoesVisit {V = ℕ} (λ around. untold) (λ v s b at w t c. ⊤) 5 visitors left was is)
         → was.exchange.journal.board ≡ Some board → visit.shown.board ≡ Some shown → (visit.shown ≡ was.exchange.journal)
         ⊎ IsOf was.play.gateway.value was.exchange.journal was.exchange.faults visit.lag shown.value.picture }
+    ensures begun { (fault : Fault) (was is : Desk ℕ ℕ) (events : List GatewayEvent) → Starts (λ around clock. clock ≡ Err fault) was is
+        → Stands was.play.gateway.value events → (plain was.play.gateway.value.setup events).now ≡ 7 → is.schedule ≡ opening 7 }
     ensures nothing { (was is : Desk ℕ ℕ) → DoesVisit {V = ℕ} (λ around. untold) (λ v s b at w t c. ⊥) 5 None None was is
         → is.exchange.around ≡ was.exchange.around }
 {}

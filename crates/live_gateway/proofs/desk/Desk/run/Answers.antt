@@ -1,5 +1,9 @@
-use Rattle.std.proofs.Common.{inl, refl, ap, subst, ◌∙◌, ◌+◌, Bool, true}
+use Rattle.std.proofs.Common.{◌≡◌, inl, refl, ap, subst, ◌∙◌, ◌+◌, Bool, true, List}
 use Rattle.std.specs.Prelude.{not}
+use Rattle.plain_machine.specs.Event.{GatewayEvent}
+use Rattle.plain_machine.specs.Lists.{plain}
+use Rattle.gateway_core.specs.GatewayState.{GatewayState}
+use Rattle.gateway_core.specs.Stands.{Stands}
 use Rattle.turns.specs.Schedule.{opening}
 use Rattle.live_gateway.specs.Ending.{EndsAt}
 use Rattle.live_gateway.proofs.DeskLemmas.{stays_so, goes_on_then}
@@ -17,6 +21,8 @@ loop-init g c = (
       clock = c.moment-moment.ensures.clock.0;
       read_so = c.moment-moment.ensures.clock.1;
       ticked = c.now.result;
+      ticked_so = subst (λ (gateway : GatewayState). (events : List GatewayEvent) → Stands gateway events
+          → c.now.result ≡ (plain gateway.setup events).now) c.deref.ensures c.now.ensures.value;
       rest = starts_so c.args.self.now c.moment-moment.new.self c.starting_at-self.result opening c.moment-moment.result _
           (made_of c.moment-moment.new.self _ _ _ _ _ _ _ c.moment-moment.ensures.around c.moment-moment.ensures.network
           c.moment-moment.ensures.journal c.moment-moment.ensures.turn.0 c.moment-moment.ensures.read refl c.moment-moment.ensures.turn.1)
