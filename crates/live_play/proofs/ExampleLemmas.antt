@@ -1,12 +1,14 @@
--- What is noted of datagrams, in worked examples.
-use Rattle.std.proofs.Common.{◌≡◌, ◌⊎◌, inl, inr, ℕ, ◌+◌, ◌<◌, ◌≤◌, List, [], ◌∷◌, ◌++◌, Option, Some, None, refl, sym, ◌∙◌, ap, subst, arith}
+-- What is noted of datagrams, and what each has, in worked examples.
+use Rattle.std.proofs.Common.{◌≡◌, ◌⊎◌, inl, inr, ℕ, ◌+◌, ◌<◌, ◌≤◌, List, [], ◌∷◌, ◌++◌, length, take, drop, Option, Some, None, refl, sym, ◌∙◌, ap, subst, arith}
+use Rattle.piggyback.specs.Parts.{parts_of}
+use Rattle.plain_machine.specs.declared.label.SentMessage.{SentMessage}
 use Rattle.transmission.specs.declared.output.OutDatagram.{OutDatagram}
 use Rattle.traces.specs.declared.telling.Mark.{Mark}
 use Rattle.traces.specs.declared.telling.Mark.TheVariants.{Lost}
 use Rattle.traces.specs.Writing.{Entry, became}
-use Rattle.live_play.specs.Running.{IsNoted, HandsEach}
+use Rattle.live_play.specs.Running.{IsNoted, AreNoted, own_messages, other_messages, messages_behind, HandsEach}
 use Rattle.live_play.specs.Readable.{first_unread}
-use Rattle.live_play.specs.Example.{says, lost_behind_one, loses_the_second}
+use Rattle.live_play.specs.Example.{says, lost_behind_one, loses_the_second, keeps}
 
 noted_low : (mark : Mark) (place : ℕ) (noted : List Entry) → place < first_unread → IsNoted (Some mark) place noted → noted ≡ became mark place ∷ []
 noted_low mark place noted few (inl here) = here.1
@@ -14,24 +16,58 @@ noted_low mark place noted few (inr past) =
     let high : first_unread ≤ place = past.0 in
     absurd (omega (arith, few, high))
 
-pub none_is_noted : (a : OutDatagram) (marks : List Entry) → HandsEach (says None) 0 (a ∷ []) 0 marks 0 → marks ≡ []
-none_is_noted a marks h =
-    let noted : h.2 ≡ [] = subst (λ (m : Option Mark). IsNoted m 1 h.2) h.4 h.5 in
-    h.6 ∙ ap (λ (l : List Entry). l ++ h.3) noted ∙ h.7.0
+pub none_is_noted : (marks : List Entry) → AreNoted 0 (None ∷ []) marks → marks ≡ []
+none_is_noted marks h = h.3 ∙ ap (λ (l : List Entry). l ++ h.1) h.2 ∙ h.4
 
-pub lost_is_noted : (a : OutDatagram) (marks : List Entry) → HandsEach (says (Some Lost)) 0 (a ∷ []) 0 marks 0 → marks ≡ became Lost 1 ∷ []
-lost_is_noted a marks h =
-    let noted : h.2 ≡ became Lost 1 ∷ [] = noted_low Lost 1 h.2 (omega arith) (subst (λ (m : Option Mark). IsNoted m 1 h.2) h.4 h.5) in
-    h.6 ∙ ap (λ (l : List Entry). l ++ h.3) noted ∙ ap (λ (l : List Entry). became Lost 1 ∷ l) h.7.0
+pub lost_is_noted : (marks : List Entry) → AreNoted 0 (Some Lost ∷ []) marks → marks ≡ became Lost 1 ∷ []
+lost_is_noted marks h =
+    let noted : h.0 ≡ became Lost 1 ∷ [] = noted_low Lost 1 h.0 (omega arith) h.2 in
+    h.3 ∙ ap (λ (l : List Entry). l ++ h.1) noted ∙ ap (λ (l : List Entry). became Lost 1 ∷ l) h.4
 
-pub second_is_noted : (a b : OutDatagram) (marks : List Entry) → HandsEach loses_the_second 0 (a ∷ b ∷ []) 0 marks 2 → marks ≡ became Lost 2 ∷ []
-second_is_noted a b marks h =
-    let more = h.7 in
-    let first : h.2 ≡ [] = subst (λ (m : Option Mark). IsNoted m 1 h.2) h.4.1 h.5 in
-    let here : more.1 ≡ Some Lost = more.4.1 ∙ ap lost_behind_one h.4.0 in
-    let second : more.2 ≡ became Lost 2 ∷ [] = noted_low Lost 2 more.2 (omega arith) (subst (λ (m : Option Mark). IsNoted m 2 more.2) here more.5) in
-    h.6 ∙ ap (λ (l : List Entry). l ++ h.3) first ∙ more.6 ∙ ap (λ (l : List Entry). l ++ more.3) second
-    ∙ ap (λ (l : List Entry). became Lost 2 ∷ l) more.7.0
+pub second_is_noted : (marks : List Entry) → AreNoted 0 (None ∷ Some Lost ∷ []) marks → marks ≡ became Lost 2 ∷ []
+second_is_noted marks h =
+    let more = h.4 in
+    let second : more.0 ≡ became Lost 2 ∷ [] = noted_low Lost 2 more.0 (omega arith) more.2 in
+    h.3 ∙ ap (λ (l : List Entry). l ++ h.1) h.2 ∙ more.3 ∙ ap (λ (l : List Entry). l ++ more.1) second
+    ∙ ap (λ (l : List Entry). became Lost 2 ∷ l) more.4
 
-pub none_stays : (marks : List Entry) → HandsEach (says None) 0 [] 5 marks 6 → ⊥
-none_stays marks h = absurd (omega (arith, h.1))
+pub second_is_said : (a b : OutDatagram) (messages : List SentMessage) (said : List (Option Mark))
+    → HandsEach loses_the_second (a ∷ b ∷ []) messages 0 said 2 → said ≡ None ∷ Some Lost ∷ []
+second_is_said a b messages [] h = absurd h
+second_is_said a b messages (first ∷ []) h = absurd h.2
+second_is_said a b messages (first ∷ second ∷ []) h =
+    let more = h.2 in
+    let none : first ≡ None = h.1.1 in
+    let lost : second ≡ Some Lost = more.1.1 ∙ ap lost_behind_one h.1.0 in
+    ap (λ (m : Option Mark). m ∷ second ∷ []) none ∙ ap (λ (m : Option Mark). None ∷ m ∷ []) lost
+second_is_said a b messages (first ∷ second ∷ third ∷ said) h = let more = h.2 in absurd more.2
+
+pub none_stays : (messages : List SentMessage) → HandsEach (says None) [] messages 5 [] 6 → ⊥
+none_stays messages h = let six : 6 ≡ 5 = h in absurd (omega (arith, six))
+
+pub each_has_one : (a b : OutDatagram) (x y : List ℕ) (one other : SentMessage) (said : List (Option Mark)) (is : List (List SentMessage))
+    → parts_of a.bytes ≡ x ∷ [] → parts_of b.bytes ≡ y ∷ [] → HandsEach keeps (a ∷ b ∷ []) (one ∷ other ∷ []) [] said is
+    → is ≡ (one ∷ []) ∷ (other ∷ []) ∷ []
+each_has_one a b x y one other [] is first second h = absurd h
+each_has_one a b x y one other (m ∷ []) is first second h = absurd h.2
+each_has_one a b x y one other (m ∷ n ∷ []) is first second h =
+    let more = h.2 in
+    let own : own_messages a (one ∷ other ∷ []) ≡ one ∷ [] = ap (λ (l : List (List ℕ)). take (length l) (one ∷ other ∷ [])) first in
+    let left : other_messages a (one ∷ other ∷ []) ≡ other ∷ [] = ap (λ (l : List (List ℕ)). drop (length l) (one ∷ other ∷ [])) first in
+    let next : own_messages b (other_messages a (one ∷ other ∷ [])) ≡ other ∷ [] =
+    ap (λ (l : List SentMessage). take (length (parts_of b.bytes)) l) left ∙ ap (λ (l : List (List ℕ)). take (length l) (other ∷ [])) second in
+    more.2 ∙ more.1
+    ∙ ap (λ (l : List (List SentMessage)). l ++ own_messages b (other_messages a (one ∷ other ∷ [])) ∷ []) (h.1 ∙ ap (λ (l : List SentMessage). l ∷ []) own)
+    ∙ ap (λ (l : List SentMessage). (one ∷ []) ∷ l ∷ []) next
+each_has_one a b x y one other (m ∷ n ∷ o ∷ said) is first second h = let more = h.2 in absurd more.2
+
+pub one_has_both : (a : OutDatagram) (x y : List ℕ) (one other : SentMessage) (said : List (Option Mark)) (is : List (List SentMessage))
+    → parts_of a.bytes ≡ x ∷ y ∷ [] → HandsEach keeps (a ∷ []) (one ∷ other ∷ []) [] said is → is ≡ (one ∷ other ∷ []) ∷ []
+one_has_both a x y one other [] is both h = absurd h
+one_has_both a x y one other (m ∷ []) is both h =
+    h.2 ∙ h.1 ∙ ap (λ (l : List (List ℕ)). take (length l) (one ∷ other ∷ []) ∷ []) both
+one_has_both a x y one other (m ∷ n ∷ said) is both h = absurd h.2
+
+pub second_is_behind : (a : OutDatagram) (x : List ℕ) (one other : SentMessage) → parts_of a.bytes ≡ x ∷ []
+    → messages_behind (a ∷ []) (one ∷ other ∷ []) ≡ other ∷ []
+second_is_behind a x one other first = ap (λ (l : List (List ℕ)). drop (length l) (one ∷ other ∷ [])) first

@@ -1,7 +1,7 @@
 -- How entries follow one another.
-use Rattle.std.proofs.Common.{◌≡◌, inl, inr, ℕ, ◌+◌, ◌<◌, ◌≤◌, length, take, get_or, Bool, true, false, List, [], ◌∷◌, ◌++◌, map, Option, Some, None, refl, sym, ◌∙◌, ap, subst, append_assoc, append-nil, arith}
+use Rattle.std.proofs.Common.{◌≡◌, inl, inr, ℕ, ◌+◌, ◌<◌, ◌≤◌, length, take, drop, min, get_or, Bool, true, false, List, [], ◌∷◌, ◌++◌, map, Option, Some, None, refl, sym, ◌∙◌, ap, subst, append_assoc, append-nil, arith}
 use Rattle.std.specs.Prelude.{IfSome, OnOk, Result, Ok, Err}
-use Rattle.std.proofs.lemmas.List.{map-append, take_more, length-append, length-take-le}
+use Rattle.std.proofs.lemmas.List.{map-append, take_more, take_min, drop_min, length-append, length-take-le}
 use Rattle.std.proofs.lemmas.Bool.{le-leb}
 use Rattle.std.proofs.lemmas.Grind.{flat_map-append}
 use Rattle.std.specs.declared.net.socket_addr.SocketAddrV4.{SocketAddrV4}
@@ -10,7 +10,9 @@ use Rattle.mg_line.specs.declared.phone.Act.{Act}
 use Rattle.surroundings.specs.Sending.{Sent, Grows}
 use Rattle.surroundings.proofs.TrafficLemmas.{grows_nothing, grows_on, known}
 use Rattle.transmission.specs.declared.output.OutDatagram.{OutDatagram}
+use Rattle.piggyback.specs.Parts.{parts_of}
 use Rattle.plain_machine.specs.declared.setup.Setup.{Setup}
+use Rattle.plain_machine.specs.declared.label.SentMessage.{SentMessage}
 use Rattle.gateway_rules.specs.declared.refusal.Refusal.{Refusal}
 use Rattle.gateway_rules.specs.declared.refusal.Refusal.TheVariants.{OutOfMemory, NoSuchLine}
 use Rattle.plain_machine.specs.Event.{GatewayEvent, phone}
@@ -32,7 +34,7 @@ use Rattle.rgw_scripts.specs.Printing.{printed_line, refusal_line, shown_line}
 use Rattle.traces.specs.Replaying.{move_in}
 use Rattle.traces.specs.Telling.{told, told_mark, told_text}
 use Rattle.traces.specs.Writing.{Entry, Input, arrived, typed, passed, clock_text, at_clock, showed, became, Says, IsPlay, taken_after, sent_at, sent_in, input_text, after_input, datagrams_in, entry_text, after_entry, written, script_after}
-use Rattle.live_play.specs.Running.{Live, sent_of, Ran, AreOf, RanOf, AreInPlace, AreMarks, HandsOut, IsNoted, HandsEach, HandsBy, HandsFrom, Takes, TakesBy, Refuses, Asked, IsAnswer, TellsRefusal}
+use Rattle.live_play.specs.Running.{Live, sent_of, Ran, AreOf, RanOf, AreInPlace, AreMarks, HandsOut, IsNoted, AreNoted, own_messages, other_messages, messages_behind, HandsEach, HandsBy, HandsFrom, Takes, TakesBy, Refuses, Asked, IsAnswer, TellsRefusal}
 use Rattle.live_play.specs.Readable.{first_unread, KeepsClock, IsByTick, AreByTicks, IsLater, AreLater}
 use Rattle.traces.proofs.ShowLemmas.{both_not}
 
@@ -150,45 +152,93 @@ hands_on was mid is before some more marks others a b = record {
   all : before + length some + length more ≡ before + length (some ++ more)
   all = rw (length-append some more) (omega arith)
 
--- so it is of what an outlet said of each
-each_more : {O : Type 0} (hands : O → SocketAddrV4 → List ℕ → Option Mark → O → Type 0) (from via to : O) (before after : ℕ) (some more : List OutDatagram)
-    (marks others : List Entry) → after ≡ before + length some → HandsEach hands before some from marks via → HandsEach hands after more via others to
-    → HandsEach hands before (some ++ more) from (marks ++ others) to
-each_more {O} hands from via to before after [] more marks others same a b =
+-- ---- what an outlet is handed, and says
+
+-- of messages as many go with a datagram as it has texts, if so many are left
+pub own_so : (count : ℕ) (datagram : OutDatagram) (messages own : List SentMessage) → count ≡ min (length (parts_of datagram.bytes)) (length messages)
+    → own ≡ take count messages → own ≡ own_messages datagram messages
+own_so count datagram messages own many cut =
+    cut ∙ ap (λ (n : ℕ). take n messages) many ∙ take_min (length (parts_of datagram.bytes)) messages
+
+pub others_so : (count : ℕ) (datagram : OutDatagram) (messages others : List SentMessage) → count ≡ min (length (parts_of datagram.bytes)) (length messages)
+    → others ≡ drop count messages → others ≡ other_messages datagram messages
+others_so count datagram messages others many cut =
+    cut ∙ ap (λ (n : ℕ). drop n messages) many ∙ drop_min (length (parts_of datagram.bytes)) messages
+
+behind_one_more : (some : List OutDatagram) (d : OutDatagram) (messages : List SentMessage)
+    → messages_behind (some ++ d ∷ []) messages ≡ other_messages d (messages_behind some messages)
+behind_one_more [] d messages = refl
+behind_one_more (first ∷ some) d messages = behind_one_more some d (other_messages first messages)
+
+-- those that are left in a loop over datagrams
+pub left_behind : (datagrams : List OutDatagram) (messages left others : List SentMessage) (place : ℕ) (d : OutDatagram) → place < length datagrams
+    → left ≡ messages_behind (take place datagrams) messages → others ≡ other_messages (get_or datagrams place d) left
+    → others ≡ messages_behind (take (place + 1) datagrams) messages
+left_behind datagrams messages left others place d inside rest cut =
+    cut ∙ ap (λ (l : List SentMessage). other_messages (get_or datagrams place d) l) rest
+    ∙ sym (behind_one_more (take place datagrams) (get_or datagrams place d) messages)
+    ∙ sym (ap (λ (l : List OutDatagram). messages_behind l messages) (take_more datagrams place d inside))
+
+-- it says something of each
+said_of_each : {O : Type 0} (hands : O → SocketAddrV4 → List ℕ → List SentMessage → Option Mark → O → Type 0) (from to : O) (datagrams : List OutDatagram)
+    (messages : List SentMessage) (said : List (Option Mark)) → HandsEach hands datagrams messages from said to → length said ≡ length datagrams
+said_of_each hands from to [] messages [] each = refl
+said_of_each hands from to [] messages (mark ∷ said) each = absurd each
+said_of_each hands from to (d ∷ more) messages [] each = absurd each
+said_of_each hands from to (d ∷ more) messages (mark ∷ said) each =
+    let rest : length said ≡ length more = said_of_each hands each.0 to more (other_messages d messages) said each.2 in
+    omega (arith, rest)
+
+each_more : {O : Type 0} (hands : O → SocketAddrV4 → List ℕ → List SentMessage → Option Mark → O → Type 0) (from via to : O) (some more : List OutDatagram)
+    (messages : List SentMessage) (said others : List (Option Mark)) → HandsEach hands some messages from said via
+    → HandsEach hands more (messages_behind some messages) via others to → HandsEach hands (some ++ more) messages from (said ++ others) to
+each_more {O} hands from via to [] more messages [] others a b = subst (λ (o : O). HandsEach hands more messages o others to) a b
+each_more hands from via to [] more messages (mark ∷ said) others a b = absurd a
+each_more hands from via to (d ∷ some) more messages [] others a b = absurd a
+each_more hands from via to (d ∷ some) more messages (mark ∷ said) others a b =
+    (a.0, a.1, each_more hands a.0 via to some more (other_messages d messages) said others a.2 b)
+
+noted_more : (before after : ℕ) (said others : List (Option Mark)) (marks more : List Entry) → after ≡ before + length said
+    → AreNoted before said marks → AreNoted after others more → AreNoted before (said ++ others) (marks ++ more)
+noted_more before after [] others marks more same a b =
     let here : after ≡ before = omega (arith, same) in
-    let marked : HandsEach hands after more via (marks ++ others) to =
-    subst (λ (l : List Entry). HandsEach hands after more via l to) (sym (ap (λ (l : List Entry). l ++ others) a.0)) b in
-    subst (λ (n : ℕ). HandsEach hands n more from (marks ++ others) to) here
-    (subst (λ (o : O). HandsEach hands after more o (marks ++ others) to) a.1 marked)
-each_more hands from via to before after (d ∷ some) more marks others same a b =
-    let next : after ≡ before + 1 + length some = omega (arith, same) in (
+    subst (λ (n : ℕ). AreNoted n others (marks ++ more)) here
+    (subst (λ (l : List Entry). AreNoted after others l) (sym (ap (λ (l : List Entry). l ++ more) a)) b)
+noted_more before after (mark ∷ said) others marks more same a b =
+    let next : after ≡ before + 1 + length said = omega (arith, same) in (
       a.0,
-      a.1,
+      a.1 ++ more,
       a.2,
-      a.3 ++ others,
-      a.4,
-      a.5,
-      ap (λ (l : List Entry). l ++ others) a.6 ∙ append_assoc a.2 a.3 others,
-      each_more hands a.0 via to (before + 1) after some more a.3 others next a.7 b,
+      ap (λ (l : List Entry). l ++ more) a.3 ∙ append_assoc a.0 a.1 more,
+      noted_more (before + 1) after said others a.1 more next a.4 b,
     )
 
-each_one : {O : Type 0} (hands : O → SocketAddrV4 → List ℕ → Option Mark → O → Type 0) (from to : O) (before place : ℕ) (d : OutDatagram) (mark : Option Mark)
-    (noted : List Entry) → place ≡ before + 1 → hands from d.to d.bytes mark to → IsNoted mark place noted → HandsEach hands before (d ∷ []) from noted to
-each_one hands from to before place d mark noted here handed is =
-    (to, mark, noted, [], handed, subst (λ (n : ℕ). IsNoted mark n noted) here is, sym (append-nil noted), (refl, refl))
+each_one : {O : Type 0} (hands : O → SocketAddrV4 → List ℕ → List SentMessage → Option Mark → O → Type 0) (from to : O) (d : OutDatagram)
+    (messages own : List SentMessage) (mark : Option Mark) → own ≡ own_messages d messages → hands from d.to d.bytes own mark to
+    → HandsEach hands (d ∷ []) messages from (mark ∷ []) to
+each_one hands from to d messages own mark same handed = (to, subst (λ (l : List SentMessage). hands from d.to d.bytes l mark to) same handed, refl)
 
-pub one_more : {O : Type 0} (hands : O → SocketAddrV4 → List ℕ → Option Mark → O → Type 0) (was mid is : Live) (from via to : O) (datagrams : List OutDatagram)
-    (place : ℕ) (d : OutDatagram) → place < length datagrams → HandsBy hands was from 0 (take place datagrams) mid via
-    → HandsBy hands mid via place (get_or datagrams place d ∷ []) is to → HandsBy hands was from 0 (take (place + 1) datagrams) is to
-one_more hands was mid is from via to datagrams place d inside a b =
+noted_one : (before place : ℕ) (mark : Option Mark) (noted : List Entry) → place ≡ before + 1 → IsNoted mark place noted → AreNoted before (mark ∷ []) noted
+noted_one before place mark noted here is = (noted, [], subst (λ (n : ℕ). IsNoted mark n noted) here is, sym (append-nil noted), refl)
+
+pub one_more : {O : Type 0} (hands : O → SocketAddrV4 → List ℕ → List SentMessage → Option Mark → O → Type 0) (was mid is : Live) (from via to : O)
+    (datagrams : List OutDatagram) (messages left : List SentMessage) (place : ℕ) (d : OutDatagram) → place < length datagrams
+    → left ≡ messages_behind (take place datagrams) messages → HandsBy hands was from 0 (take place datagrams) messages mid via
+    → HandsBy hands mid via place (get_or datagrams place d ∷ []) left is to → HandsBy hands was from 0 (take (place + 1) datagrams) messages is to
+one_more hands was mid is from via to datagrams messages left place d inside rest a b =
     let so_far : length (take place datagrams) ≡ place = length-take-le place datagrams (omega arith) in
     let here : place ≡ 0 + length (take place datagrams) = rw so_far (omega arith) in
     let behind : HandsOut mid (0 + length (take place datagrams)) (get_or datagrams place d ∷ []) b.marks is =
     subst (λ (n : ℕ). HandsOut mid n (get_or datagrams place d ∷ []) b.marks is) here b.out in
-    subst (λ (l : List OutDatagram). HandsBy hands was from 0 l is to) (sym (take_more datagrams place d inside)) (record {
+    let all : length a.said ≡ length (take place datagrams) = said_of_each hands from via (take place datagrams) messages a.said a.each in
+    let after : place ≡ 0 + length a.said = rw all here in
+    subst (λ (l : List OutDatagram). HandsBy hands was from 0 l messages is to) (sym (take_more datagrams place d inside)) (record {
+      said = a.said ++ b.said;
       marks = a.marks ++ b.marks;
+      noted = noted_more 0 place a.said b.said a.marks b.marks after a.noted b.noted;
       out = hands_on was mid is 0 (take place datagrams) (get_or datagrams place d ∷ []) a.marks b.marks a.out behind;
-      each = each_more hands from via to 0 place (take place datagrams) (get_or datagrams place d ∷ []) a.marks b.marks here a.each b.each;
+      each = each_more hands from via to (take place datagrams) (get_or datagrams place d ∷ []) messages a.said b.said a.each
+          (subst (λ (l : List SentMessage). HandsEach hands (get_or datagrams place d ∷ []) l via b.said to) rest b.each);
     })
 
 pub hands_one : (was is : Live) (before : ℕ) (datagram : OutDatagram) → is.gateway ≡ was.gateway → Grows was.handed (sent_of datagram ∷ []) is.handed → is.told ≡ was.told
@@ -220,27 +270,34 @@ hands_marked was is before datagram mark place here few gateway handed told scri
   within = omega arith
 
 -- so it is in a loop over datagrams
-pub none_handed : {O : Type 0} (hands : O → SocketAddrV4 → List ℕ → Option Mark → O → Type 0) (was : Live) (from : O) → HandsBy hands was from 0 [] was from
-none_handed hands was from = record { marks = []; out = hands_nothing was 0; each = (refl, refl) }
+pub none_handed : {O : Type 0} (hands : O → SocketAddrV4 → List ℕ → List SentMessage → Option Mark → O → Type 0) (was : Live) (from : O)
+    (messages : List SentMessage) → HandsBy hands was from 0 [] messages was from
+none_handed hands was from messages = record { said = []; marks = []; noted = refl; out = hands_nothing was 0; each = refl }
 
-pub one_handed : {O : Type 0} (hands : O → SocketAddrV4 → List ℕ → Option Mark → O → Type 0) (was is : Live) (from to : O) (datagram : OutDatagram)
-    (mark : Option Mark) (before place : ℕ) → place ≡ before + 1 → hands from datagram.to datagram.bytes mark to → IsNoted mark place []
+pub one_handed : {O : Type 0} (hands : O → SocketAddrV4 → List ℕ → List SentMessage → Option Mark → O → Type 0) (was is : Live) (from to : O)
+    (datagram : OutDatagram) (messages own : List SentMessage) (mark : Option Mark) (before place : ℕ) → place ≡ before + 1
+    → own ≡ own_messages datagram messages → hands from datagram.to datagram.bytes own mark to → IsNoted mark place []
     → is.gateway ≡ was.gateway → Grows was.handed (sent_of datagram ∷ []) is.handed → is.told ≡ was.told → is.script ≡ was.script
-    → HandsBy hands was from before (datagram ∷ []) is to
-one_handed hands was is from to datagram mark before place here given noted gateway handed told script = record {
+    → HandsBy hands was from before (datagram ∷ []) messages is to
+one_handed hands was is from to datagram messages own mark before place here same given noted gateway handed told script = record {
+  said = mark ∷ [];
   marks = [];
+  noted = noted_one before place mark [] here noted;
   out = hands_one was is before datagram gateway handed told script;
-  each = each_one hands from to before place datagram mark [] here given noted;
+  each = each_one hands from to datagram messages own mark same given;
 }
 
-pub one_marked : {O : Type 0} (hands : O → SocketAddrV4 → List ℕ → Option Mark → O → Type 0) (was is : Live) (from to : O) (datagram : OutDatagram) (mark : Mark)
-    (before place : ℕ) → place ≡ before + 1 → place < first_unread → hands from datagram.to datagram.bytes (Some mark) to → is.gateway ≡ was.gateway
+pub one_marked : {O : Type 0} (hands : O → SocketAddrV4 → List ℕ → List SentMessage → Option Mark → O → Type 0) (was is : Live) (from to : O)
+    (datagram : OutDatagram) (messages own : List SentMessage) (mark : Mark) (before place : ℕ) → place ≡ before + 1
+    → own ≡ own_messages datagram messages → place < first_unread → hands from datagram.to datagram.bytes own (Some mark) to → is.gateway ≡ was.gateway
     → Grows was.handed (sent_of datagram ∷ []) is.handed → Grows was.told (told_mark mark place) is.told → is.script ≡ was.script
-    → HandsBy hands was from before (datagram ∷ []) is to
-one_marked hands was is from to datagram mark before place here few given gateway handed told script = record {
+    → HandsBy hands was from before (datagram ∷ []) messages is to
+one_marked hands was is from to datagram messages own mark before place here same few given gateway handed told script = record {
+  said = Some mark ∷ [];
   marks = became mark place ∷ [];
+  noted = noted_one before place (Some mark) (became mark place ∷ []) here (inl (few, refl));
   out = hands_marked was is before datagram mark place here few gateway handed told script;
-  each = each_one hands from to before place datagram (Some mark) (became mark place ∷ []) here given (inl (few, refl));
+  each = each_one hands from to datagram messages own (Some mark) same given;
 }
 
 all_marked : (was is : Live) (datagrams : List OutDatagram) (marks : List Entry) → HandsOut was 0 datagrams marks is → AreMarks 0 (length datagrams) marks
@@ -457,7 +514,8 @@ pub goes_on_quietly : (says : Input → Type 0) (was is : Live) → Took was.gat
     → is.script ≡ was.script → RanOf says was is
 goes_on_quietly says was is took handed told script = record { entries = []; ran = ran_nothing was is took handed told script; inputs = tt }
 
-pub takes_so : {O : Type 0} (turns : O → GatewayState → O → Type 0) (hands : O → SocketAddrV4 → List ℕ → Option Mark → O → Type 0) (was mid is : Live) (from to : O)
+pub takes_so : {O : Type 0} (turns : O → GatewayState → O → Type 0) (hands : O → SocketAddrV4 → List ℕ → List SentMessage → Option Mark → O → Type 0)
+    (was mid is : Live) (from to : O)
     (stepped : GatewayState) (input : Input) (event : GatewayEvent) (outputs sent : List OutDatagram) → Says input (give event)
     → IsByTick input (give event) (sends sent) → Took was.gateway (event ∷ []) stepped [] outputs → mid.gateway ≡ stepped → sent ≡ outputs
     → ((before : List GatewayEvent) → Stands was.gateway before → Ends (plain was.gateway.setup before) event None)
@@ -478,6 +536,8 @@ takes_so turns hands was mid is from to stepped input event outputs sent says ti
       };
       turned = handed.turned;
       told = handed.told;
+      said = handed.by.said;
+      noted = handed.by.noted;
       each = handed.by.each;
     }
 

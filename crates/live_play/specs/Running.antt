@@ -1,9 +1,11 @@
 -- How a gateway runs live.
-use Rattle.std.specs.Prelude.{◌≡◌, ⊤, ◌⊎◌, ℕ, zero, suc, ◌+◌, ◌<◌, ◌≤◌, List, [], ◌∷◌, ◌++◌, length, map, Option, Some, None, IfSome}
+use Rattle.std.specs.Prelude.{◌≡◌, ⊤, ◌⊎◌, ℕ, zero, suc, ◌+◌, ◌<◌, ◌≤◌, List, [], ◌∷◌, ◌++◌, length, map, take, drop, Option, Some, None, IfSome}
 use Rattle.std.specs.declared.net.socket_addr.SocketAddrV4.{SocketAddrV4}
 use Rattle.surroundings.specs.Sending.{Sent, Grows}
 use Rattle.transmission.specs.declared.output.OutDatagram.{OutDatagram}
+use Rattle.piggyback.specs.Parts.{parts_of}
 use Rattle.plain_machine.specs.declared.setup.Setup.{Setup}
+use Rattle.plain_machine.specs.declared.label.SentMessage.{SentMessage}
 use Rattle.plain_machine.specs.Event.{GatewayEvent}
 use Rattle.gateway_core.specs.GatewayState.{GatewayState}
 use Rattle.gateway_core.specs.Stands.{Stands, Took}
@@ -100,30 +102,54 @@ IsNoted None place noted = noted ≡ []
 IsNoted (Some mark) place noted =
     ((place < first_unread) × (noted ≡ became mark place ∷ [])) ⊎ ((first_unread ≤ place) × (noted ≡ []))
 
--- Behind so many others, these datagrams were handed to an outlet, one after the other, and nothing else was done to it: the marks are
--- what it said of each, in their order.
+-- behind so many others this was said of datagrams, in their order: that is noted of them, and nothing else
+abbrev pub AreNoted : ℕ → List (Option Mark) → List Entry → Type 0
+AreNoted before [] marks = marks ≡ []
+AreNoted before (mark ∷ said) marks =
+    (noted others : List Entry) × IsNoted mark (before + 1) noted × (marks ≡ noted ++ others) × AreNoted (before + 1) said others
+
+-- Of messages that go out in their order, those that stand in the datagram that goes next: so many as this has texts; those that stand
+-- behind it; and those that are left behind several.
+abbrev pub own_messages : OutDatagram → List SentMessage → List SentMessage
+own_messages datagram messages = take (length (parts_of datagram.bytes)) messages
+
+abbrev pub other_messages : OutDatagram → List SentMessage → List SentMessage
+other_messages datagram messages = drop (length (parts_of datagram.bytes)) messages
+
+abbrev pub messages_behind : List OutDatagram → List SentMessage → List SentMessage
+messages_behind [] messages = messages
+messages_behind (datagram ∷ more) messages = messages_behind more (other_messages datagram messages)
+
+-- These datagrams, in which these messages stand, were handed to an outlet, one after the other, each with its own messages, and nothing
+-- else was done to it; and this it said of each.
 abbrev pub HandsEach :
-    {O : Type 0} → (O → SocketAddrV4 → List ℕ → Option Mark → O → Type 0) → ℕ → List OutDatagram → O → List Entry → O → Type 0
-HandsEach hands before [] from marks to = (marks ≡ []) × (to ≡ from)
-HandsEach {O} hands before (datagram ∷ more) from marks to =
-    (next : O) × (mark : Option Mark) × (noted others : List Entry) × hands from datagram.to datagram.bytes mark next
-    × IsNoted mark (before + 1) noted × (marks ≡ noted ++ others) × HandsEach hands (before + 1) more next others to
+    {O : Type 0} → (O → SocketAddrV4 → List ℕ → List SentMessage → Option Mark → O → Type 0)
+    → List OutDatagram → List SentMessage → O → List (Option Mark) → O → Type 0
+HandsEach hands [] messages from [] to = to ≡ from
+HandsEach hands [] messages from (mark ∷ said) to = ⊥
+HandsEach hands (datagram ∷ more) messages from [] to = ⊥
+HandsEach {O} hands (datagram ∷ more) messages from (mark ∷ said) to =
+    (next : O) × hands from datagram.to datagram.bytes (own_messages datagram messages) mark next
+    × HandsEach hands more (other_messages datagram messages) next said to
 
 -- so datagrams were handed out to an outlet, and their trace has what this said of them
 pub record HandsBy {O : Type 0}
-    (hands : O → SocketAddrV4 → List ℕ → Option Mark → O → Type 0)
-    (was : Live) (from : O) (before : ℕ) (datagrams : List OutDatagram) (is : Live) (to : O) : Type 0 where
+    (hands : O → SocketAddrV4 → List ℕ → List SentMessage → Option Mark → O → Type 0)
+    (was : Live) (from : O) (before : ℕ) (datagrams : List OutDatagram) (messages : List SentMessage) (is : Live) (to : O) : Type 0 where
+  pub said : List (Option Mark)
   pub marks : List Entry
+  pub noted : AreNoted before said marks
   pub out : HandsOut was before datagrams marks is
-  pub each : HandsEach hands before datagrams from marks to
+  pub each : HandsEach hands datagrams messages from said to
 
--- an outlet was told of an event, by the gateway that took it, and then what is sent at it was handed to it
+-- an outlet was told of an event, by the gateway that took it, and then what is sent at it was handed to it, with what that gateway tells
+-- of each message
 pub record HandsFrom {O : Type 0}
-    (turns : O → GatewayState → O → Type 0) (hands : O → SocketAddrV4 → List ℕ → Option Mark → O → Type 0)
+    (turns : O → GatewayState → O → Type 0) (hands : O → SocketAddrV4 → List ℕ → List SentMessage → Option Mark → O → Type 0)
     (was : Live) (from : O) (datagrams : List OutDatagram) (is : Live) (to : O) : Type 0 where
   pub turned : O
   pub told : turns from is.gateway turned
-  pub by : HandsBy hands was turned 0 datagrams is to
+  pub by : HandsBy hands was turned 0 datagrams is.gateway.account.sent is to
 
 -- this is printed of what a line is, whatever events the gateway stands for, or of that there is none
 pub record IsAnswer (g : GatewayState) (line : ℕ) (answered : List ℕ) : Type 0 where
@@ -145,15 +171,17 @@ pub record Takes (was : Live) (input : Input) (event : GatewayEvent) (is : Live)
   pub are : AreMarks 0 (length outputs) marks
   pub ran : Ran was (showed input (give event) (sends outputs) ∷ marks) is
 
--- It took an event so, and an outlet was told of that and handed what was sent at it, one after the other, and nothing else was done to
--- it: what stands behind the entry is what the outlet said of each.
+-- It took an event so, and an outlet was told of that and handed what was sent at it, one after the other, each datagram with what is
+-- told of its messages, and nothing else was done to it: what stands behind the entry is what the outlet said of each.
 pub record TakesBy {O : Type 0}
-    (turns : O → GatewayState → O → Type 0) (hands : O → SocketAddrV4 → List ℕ → Option Mark → O → Type 0)
+    (turns : O → GatewayState → O → Type 0) (hands : O → SocketAddrV4 → List ℕ → List SentMessage → Option Mark → O → Type 0)
     (was : Live) (from : O) (input : Input) (event : GatewayEvent) (is : Live) (to : O) : Type 0 where
   pub takes : Takes was input event is
   pub turned : O
   pub told : turns from is.gateway turned
-  pub each : HandsEach hands 0 takes.outputs turned takes.marks to
+  pub said : List (Option Mark)
+  pub noted : AreNoted 0 said takes.marks
+  pub each : HandsEach hands takes.outputs is.gateway.account.sent turned said to
 
 -- An act that a line said was refused: that is an entry, and why is printed; or nothing was told, where memory was refused, for the act
 -- or for saying why it can't be done.

@@ -12,6 +12,7 @@ pub trait Outlet {
     ghost use Rattle.std.specs.declared.net.socket_addr.SocketAddrV4.{SocketAddrV4};
     ghost use Rattle.gateway_core.specs.GatewayState.{GatewayState};
     ghost use Rattle.surroundings.specs.Sending.{Sent};
+    ghost use Rattle.plain_machine.specs.declared.label.SentMessage.{SentMessage};
     ghost use Rattle.traces.specs.declared.telling.Mark.{Mark};
     ghost use Rattle.live_play.specs.Coming.{Came};
 
@@ -24,8 +25,8 @@ pub trait Outlet {
     /// It was told of an event by the gateway that took it: that left it so.
     ghost turns: { Self → GatewayState → Self → Type 0 };
 
-    /// This datagram was handed to it: that is to be noted of it, if anything is, and it was left so.
-    ghost hands: { Self → SocketAddrV4 → List ℕ → Option Mark → Self → Type 0 };
+    /// This datagram was handed to it, which has these messages: that is to be noted of it, if anything is, and it was left so.
+    ghost hands: { Self → SocketAddrV4 → List ℕ → List SentMessage → Option Mark → Self → Type 0 };
 
     /// The gateway took an event: what it sends at it is handed out next, in its order.
     fn turned(&mut self, gateway: &Gateway)
@@ -37,5 +38,5 @@ pub trait Outlet {
     fn hand(&mut self, to: SocketAddrV4, bytes: &[u8], messages: &[SentMessage]) -> Option<Mark>
         ensures handed { Grows (handed self.old) (record { to = to; bytes = bytes.now } ∷ []) (handed self.new) }
         ensures came { came self.new ≡ came self.old }
-        ensures hands { hands self.old to bytes.now result self.new };
+        ensures hands { hands self.old to bytes.now messages.now result self.new };
 }

@@ -1,19 +1,34 @@
-//! Worked examples of what is noted of datagrams that are handed out, as theorems.
+//! Worked examples of what is noted of datagrams that are handed out, and of the messages that each has, as theorems.
 #![tactic(auto)]
 
-ghost use Rattle.std.specs.Prelude.{◌≡◌, ◌∷◌, [], List, Some, None};
+ghost use Rattle.std.specs.Prelude.{◌≡◌, ◌∷◌, [], ℕ, List, Option, Some, None};
+ghost use Rattle.piggyback.specs.Parts.{parts_of};
+ghost use Rattle.plain_machine.specs.declared.label.SentMessage.{SentMessage};
 ghost use Rattle.transmission.specs.declared.output.OutDatagram.{OutDatagram};
+ghost use Rattle.traces.specs.declared.telling.Mark.{Mark};
 ghost use Rattle.traces.specs.declared.telling.Mark.TheVariants.{Lost};
 ghost use Rattle.traces.specs.Writing.{Entry, became};
-ghost use Rattle.live_play.specs.Running.{HandsEach};
-ghost use Rattle.live_play.specs.Example.{says, loses_the_second};
+ghost use Rattle.live_play.specs.Running.{AreNoted, messages_behind, HandsEach};
+ghost use Rattle.live_play.specs.Example.{says, loses_the_second, keeps};
 
 /// What stands in a trace of datagrams is what the outlet said of them, by their places: nothing where it said nothing, each that it lost,
 /// and no other one. Where none is handed out the outlet stays.
 pub fn what_is_noted_is_what_an_outlet_said()
-    ensures none { (a : OutDatagram) (marks : List Entry) → HandsEach (says None) 0 (a ∷ []) 0 marks 0 → marks ≡ [] }
-    ensures lost { (a : OutDatagram) (marks : List Entry) → HandsEach (says (Some Lost)) 0 (a ∷ []) 0 marks 0 → marks ≡ became Lost 1 ∷ [] }
-    ensures second { (a b : OutDatagram) (marks : List Entry) → HandsEach loses_the_second 0 (a ∷ b ∷ []) 0 marks 2
-        → marks ≡ became Lost 2 ∷ [] }
-    ensures stays { (marks : List Entry) → HandsEach (says None) 0 [] 5 marks 6 → ⊥ }
+    ensures none { (marks : List Entry) → AreNoted 0 (None ∷ []) marks → marks ≡ [] }
+    ensures lost { (marks : List Entry) → AreNoted 0 (Some Lost ∷ []) marks → marks ≡ became Lost 1 ∷ [] }
+    ensures second { (marks : List Entry) → AreNoted 0 (None ∷ Some Lost ∷ []) marks → marks ≡ became Lost 2 ∷ [] }
+    ensures said { (a b : OutDatagram) (messages : List SentMessage) (said : List (Option Mark))
+        → HandsEach loses_the_second (a ∷ b ∷ []) messages 0 said 2 → said ≡ None ∷ Some Lost ∷ [] }
+    ensures stays { (messages : List SentMessage) → HandsEach (says None) [] messages 5 [] 6 → ⊥ }
+{}
+
+/// Each datagram is handed over with the messages that stand in it, in their order: as many as it has texts.
+pub fn a_datagram_has_the_messages_that_stand_in_it()
+    ensures apart { (a b : OutDatagram) (x y : List ℕ) (one other : SentMessage) (said : List (Option Mark)) (is : List (List SentMessage))
+        → parts_of a.bytes ≡ x ∷ [] → parts_of b.bytes ≡ y ∷ [] → HandsEach keeps (a ∷ b ∷ []) (one ∷ other ∷ []) [] said is
+        → is ≡ (one ∷ []) ∷ (other ∷ []) ∷ [] }
+    ensures together { (a : OutDatagram) (x y : List ℕ) (one other : SentMessage) (said : List (Option Mark)) (is : List (List SentMessage))
+        → parts_of a.bytes ≡ x ∷ y ∷ [] → HandsEach keeps (a ∷ []) (one ∷ other ∷ []) [] said is → is ≡ (one ∷ other ∷ []) ∷ [] }
+    ensures behind { (a : OutDatagram) (x : List ℕ) (one other : SentMessage) → parts_of a.bytes ≡ x ∷ []
+        → messages_behind (a ∷ []) (one ∷ other ∷ []) ≡ other ∷ [] }
 {}

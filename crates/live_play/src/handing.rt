@@ -1,8 +1,10 @@
 //! What a gateway sends is handed out, and its trace told what became of it.
-ghost use Rattle.std.specs.Prelude.{◌≡◌, ◌+◌, ◌∷◌, [], ℕ};
+ghost use Rattle.std.specs.Prelude.{◌≡◌, ◌≤◌, ◌+◌, ◌∷◌, [], ℕ, List, length, min};
+ghost use Rattle.piggyback.specs.Parts.{parts_of};
+ghost use Rattle.plain_machine.specs.declared.label.SentMessage.{SentMessage};
 ghost use Rattle.gateway_core.specs.GatewayState.{GatewayState};
 ghost use Rattle.traces.specs.declared.script.Script.{Script};
-ghost use Rattle.live_play.specs.Running.{live, HandsBy};
+ghost use Rattle.live_play.specs.Running.{live, own_messages, other_messages, HandsBy};
 
 use crate::ends::Outlet;
 use crate::placed::Placed;
@@ -15,31 +17,50 @@ use surroundings::Teller;
 /// The first place that isn't read again, of 19 digits.
 pub const FIRST_UNREAD: u64 = 1_000_000_000_000_000_000;
 
-// How many messages a datagram has.
-fn messages_in(bytes: &[u8]) -> usize {
+// How many texts a datagram has, of so many at most.
+fn texts_in(bytes: &[u8], most: usize) -> usize
+    ensures count { result ≡ min (length (parts_of bytes.now)) most }
+    ensures few { result ≤ most }
+{
     let mut count: usize = 0;
-    for _ in parts(bytes) {
-        count = count.saturating_add(1);
+    for _text in parts(bytes) {
+        if count == most {
+            return count;
+        }
+        count += 1;
     }
     count
 }
 
-// The datagram at this place is handed out with the messages that it has. What became of it isn't told at a place that isn't read again.
-#[tactic(auto, using(crate::proofs::RunLemmas::one_handed))]
+// Of messages that go out in their order, those that stand in the datagram that goes next, and those behind it. No label says how long
+// its message is: where a datagram ends whose successor goes to the same address at the same moment, its bytes alone tell.
+fn split_messages<'a>(
+    datagram: &OutDatagram,
+    messages: &'a [SentMessage],
+) -> (&'a [SentMessage], &'a [SentMessage])
+    ensures own { result.0.now ≡ own_messages datagram.now messages.now }
+    ensures others { result.1.now ≡ other_messages datagram.now messages.now }
+{
+    let count = texts_in(datagram.bytes.as_bytes(), messages.len());
+    messages.split_at(count)
+}
+
+// The datagram at this place is handed out with its own messages. What became of it isn't told at a place that isn't read again.
 fn hand<O: Outlet, T: Teller>(
     alloc: Global,
     teller: &mut T,
     out: &mut O,
     datagram: &OutDatagram,
-    messages: &[SentMessage],
+    own: &[SentMessage],
     place: u64,
 )
-    ensures handed { (gateway : GatewayState) (script : Script) (before : ℕ) → place ≡ before + 1 → HandsBy O.hands
-        (live gateway script (T.told teller.old) (O.handed out.old)) out.old before (datagram.now ∷ [])
+    ensures handed { (gateway : GatewayState) (script : Script) (before : ℕ) (messages : List SentMessage) → place ≡ before + 1
+        → own.now ≡ own_messages datagram.now messages → HandsBy O.hands
+        (live gateway script (T.told teller.old) (O.handed out.old)) out.old before (datagram.now ∷ []) messages
         (live gateway script (T.told teller.new) (O.handed out.new)) out.new }
     ensures came { O.came out.new ≡ O.came out.old }
 {
-    match out.hand(datagram.to, datagram.bytes.as_bytes(), messages) {
+    match out.hand(datagram.to, datagram.bytes.as_bytes(), own) {
         Some(mark) => {
             if place < FIRST_UNREAD {
                 tell_mark(alloc, teller, mark, place);
@@ -49,8 +70,7 @@ fn hand<O: Outlet, T: Teller>(
     }
 }
 
-/// Datagrams are handed out in their order, each with those of these messages that it has, where the trace was told of them before.
-#[tactic(auto, using(crate::proofs::RunLemmas::none_handed, crate::proofs::RunLemmas::one_more))]
+/// Datagrams are handed out in their order, each with those of these messages that stand in it, where the trace was told of them before.
 pub(crate) fn hand_all<O: Outlet, T: Teller>(
     alloc: Global,
     teller: &mut T,
@@ -60,7 +80,7 @@ pub(crate) fn hand_all<O: Outlet, T: Teller>(
     _told: Placed,
 )
     ensures handed { (gateway : GatewayState) (script : Script) → HandsBy O.hands
-        (live gateway script (T.told teller.old) (O.handed out.old)) out.old 0 datagrams.now
+        (live gateway script (T.told teller.old) (O.handed out.old)) out.old 0 datagrams.now messages.now
         (live gateway script (T.told teller.new) (O.handed out.new)) out.new }
     ensures came { O.came out.new ≡ O.came out.old }
 {
@@ -68,8 +88,7 @@ pub(crate) fn hand_all<O: Outlet, T: Teller>(
     let mut left = messages;
     for datagram in datagrams {
         place = place.saturating_add(1);
-        let count = messages_in(datagram.bytes.as_bytes()).min(left.len());
-        let (own, others) = left.split_at(count);
+        let (own, others) = split_messages(datagram, left);
         hand(alloc, teller, out, datagram, own, place);
         left = others;
     }

@@ -1,4 +1,4 @@
-use Rattle.live_play.proofs.ExampleLemmas.{none_is_noted, lost_is_noted, second_is_noted, none_stays}
+use Rattle.live_play.proofs.ExampleLemmas.{none_is_noted, lost_is_noted, second_is_noted, second_is_said, none_stays}
 use Rattle.live_play.proofs.examples.what_is_noted_is_what_an_outlet_said.Goals as goal
 
 pub returns-clause-none : goal.returns-clause-none
@@ -9,6 +9,9 @@ returns-clause-lost c = lost_is_noted
 
 pub returns-clause-second : goal.returns-clause-second
 returns-clause-second c = second_is_noted
+
+pub returns-clause-said : goal.returns-clause-said
+returns-clause-said c = second_is_said
 
 pub returns-clause-stays : goal.returns-clause-stays
 returns-clause-stays c = none_stays
