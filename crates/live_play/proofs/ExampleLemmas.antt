@@ -5,8 +5,11 @@ use Rattle.plain_machine.specs.declared.label.SentMessage.{SentMessage}
 use Rattle.transmission.specs.declared.output.OutDatagram.{OutDatagram}
 use Rattle.traces.specs.declared.telling.Mark.{Mark}
 use Rattle.traces.specs.declared.telling.Mark.TheVariants.{Lost}
-use Rattle.traces.specs.Writing.{Entry, became}
-use Rattle.live_play.specs.Running.{IsNoted, AreNoted, own_messages, other_messages, messages_behind, HandsEach}
+use Rattle.traces.specs.Writing.{Entry, Input, became}
+use Rattle.std.specs.Prelude.{⊤}
+use Rattle.gateway_core.specs.GatewayState.{GatewayState}
+use Rattle.plain_machine.specs.Event.{GatewayEvent}
+use Rattle.live_play.specs.Running.{Live, IsNoted, AreNoted, own_messages, other_messages, messages_behind, HandsEach, HandsFrom, TakesBy}
 use Rattle.live_play.specs.Readable.{first_unread}
 use Rattle.live_play.specs.Example.{says, lost_behind_one, loses_the_second, keeps}
 
@@ -44,6 +47,28 @@ second_is_said a b messages (first ∷ second ∷ third ∷ said) h = let more =
 
 pub none_stays : (messages : List SentMessage) → HandsEach (says None) [] messages 5 [] 6 → ⊥
 none_stays messages h = let six : 6 ≡ 5 = h in absurd (omega (arith, six))
+
+pub none_is_far : (noted : List Entry) → IsNoted (Some Lost) first_unread noted → noted ≡ []
+none_is_far noted (inl low) =
+    let few : first_unread < first_unread = low.0 in
+    absurd (omega (arith, few))
+none_is_far noted (inr past) = past.1
+
+pub none_is_told : (was is : Live) (to : ℕ) → HandsFrom (λ (before : ℕ) (gateway : GatewayState) (told : ℕ). gateway ≡ is.gateway → ⊥) (says None) was 0 [] is to → ⊥
+none_is_told was is to hands = hands.told refl
+
+one_is_lost : (a : OutDatagram) (messages : List SentMessage) (from to : ℕ) (said : List (Option Mark)) (marks : List Entry)
+    → HandsEach (says (Some Lost)) (a ∷ []) messages from said to → AreNoted 0 said marks → marks ≡ became Lost 1 ∷ []
+one_is_lost a messages from to [] marks h noted = absurd h
+one_is_lost a messages from to (m ∷ []) marks h noted = lost_is_noted marks (subst (λ (m : Option Mark). AreNoted 0 (m ∷ []) marks) h.1 noted)
+one_is_lost a messages from to (m ∷ n ∷ said) marks h noted = absurd h.2
+
+pub one_is_marked : (was is : Live) (to : ℕ) (input : Input) (event : GatewayEvent) (a : OutDatagram)
+    → (takes : TakesBy (λ (before : ℕ) (gateway : GatewayState) (told : ℕ). ⊤) (says (Some Lost)) was 0 input event is to)
+    → takes.takes.outputs ≡ a ∷ [] → takes.takes.marks ≡ became Lost 1 ∷ []
+one_is_marked was is to input event a takes same =
+    one_is_lost a is.gateway.account.sent takes.turned to takes.said takes.takes.marks
+    (subst (λ (l : List OutDatagram). HandsEach (says (Some Lost)) l is.gateway.account.sent takes.turned takes.said to) same takes.each) takes.noted
 
 pub each_has_one : (a b : OutDatagram) (x y : List ℕ) (one other : SentMessage) (said : List (Option Mark)) (is : List (List SentMessage))
     → parts_of a.bytes ≡ x ∷ [] → parts_of b.bytes ≡ y ∷ [] → HandsEach keeps (a ∷ b ∷ []) (one ∷ other ∷ []) [] said is

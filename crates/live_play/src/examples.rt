@@ -1,14 +1,16 @@
 //! Worked examples of what is noted of datagrams that are handed out, and of the messages that each has, as theorems.
 #![tactic(auto)]
 
-ghost use Rattle.std.specs.Prelude.{◌≡◌, ◌∷◌, [], ℕ, List, Option, Some, None};
+ghost use Rattle.std.specs.Prelude.{◌≡◌, ◌∷◌, [], ⊤, ℕ, List, Option, Some, None};
 ghost use Rattle.piggyback.specs.Parts.{parts_of};
+ghost use Rattle.plain_machine.specs.Event.{GatewayEvent};
 ghost use Rattle.plain_machine.specs.declared.label.SentMessage.{SentMessage};
 ghost use Rattle.transmission.specs.declared.output.OutDatagram.{OutDatagram};
 ghost use Rattle.traces.specs.declared.telling.Mark.{Mark};
 ghost use Rattle.traces.specs.declared.telling.Mark.TheVariants.{Lost};
-ghost use Rattle.traces.specs.Writing.{Entry, became};
-ghost use Rattle.live_play.specs.Running.{AreNoted, messages_behind, HandsEach};
+ghost use Rattle.traces.specs.Writing.{Entry, Input, became};
+ghost use Rattle.live_play.specs.Readable.{first_unread};
+ghost use Rattle.live_play.specs.Running.{Live, IsNoted, AreNoted, messages_behind, HandsEach, HandsFrom, TakesBy};
 ghost use Rattle.live_play.specs.Example.{says, loses_the_second, keeps};
 
 /// What stands in a trace of datagrams is what the outlet said of them, by their places: nothing where it said nothing, each that it lost,
@@ -20,6 +22,11 @@ pub fn what_is_noted_is_what_an_outlet_said()
     ensures said { (a b : OutDatagram) (messages : List SentMessage) (said : List (Option Mark))
         → HandsEach loses_the_second (a ∷ b ∷ []) messages 0 said 2 → said ≡ None ∷ Some Lost ∷ [] }
     ensures stays { (messages : List SentMessage) → HandsEach (says None) [] messages 5 [] 6 → ⊥ }
+    ensures far { (noted : List Entry) → IsNoted (Some Lost) first_unread noted → noted ≡ [] }
+    ensures told { (was is : Live) (to : ℕ) → HandsFrom (λ before gateway told. gateway ≡ is.gateway → ⊥) (says None) was 0 [] is to → ⊥ }
+    ensures marked { (was is : Live) (to : ℕ) (input : Input) (event : GatewayEvent) (a : OutDatagram)
+        (takes : TakesBy (λ before gateway told. ⊤) (says (Some Lost)) was 0 input event is to) → takes.takes.outputs ≡ a ∷ []
+        → takes.takes.marks ≡ became Lost 1 ∷ [] }
 {}
 
 /// Each datagram is handed over with the messages that stand in it, in their order: as many as it has texts.
