@@ -1,6 +1,6 @@
 -- What is done of a line, from what the calls of its turn say.
 use Rattle.std.proofs.Common.{◌≡◌, inl, inr, ℕ, List, Option, None, Some, refl, sym, ◌∙◌, ap, subst}
-use Rattle.std.specs.Prelude.{not, is_ok, Result, Ok, Err, OnOk, IfOk, IfErr}
+use Rattle.std.specs.Prelude.{⊤, not, is_ok, true, Result, Ok, Err, OnOk, OnErr, IfOk, IfErr}
 use Rattle.std.specs.declared.net.socket_addr.SocketAddrV4.{SocketAddrV4}
 use Rattle.mg_line.specs.declared.phone.Act.{Act}
 use Rattle.gateway_core.specs.GatewayState.{GatewayState}
@@ -10,30 +10,38 @@ use Rattle.plain_machine.specs.Event.{GatewayEvent, phone}
 use Rattle.plain_machine.specs.Lists.{plain}
 use Rattle.gateway_rules.specs.declared.refusal.Refusal.{Refusal}
 use Rattle.traces.specs.Writing.{Input, typed}
-use Rattle.live_play.specs.Running.{Live, RanOf, Takes, Refuses, Asked}
+use Rattle.surroundings.specs.declared.surroundings.Fault.{Fault}
+use Rattle.live_play.specs.Running.{Live, RanOf, TakesBy, Refuses, Asked}
 use Rattle.live_telephones.specs.Asking.{usage}
 use Rattle.live_telephones.specs.Watching.{AnswersWatch, BeginsToSee}
 use Rattle.live_telephones.specs.declared.watch.Watch.{Watch}
+use Rattle.live_gateway.specs.declared.exchange.Exchange.{Exchange}
 use Rattle.live_gateway.specs.Desk.{Standing, with_input}
+use Rattle.live_gateway.specs.Exchanging.{IsTold, HandsOver, Notes, TakesOver}
+use Rattle.live_gateway.proofs.OverLemmas.{takes_over}
 use Rattle.live_gateway.specs.Answering.{no_memory, IsActAnswer, TriesAct, Asks, IsPut, AsksToWatch}
 
--- an act was taken, or refused, and that is answered
-pub tries_act : {A : Type 0} (text : List ℕ) (line : ℕ) (act : Act) (done : Result A Refusal) (printed answer : List ℕ) (was mid is : Standing)
-    → OnOk done (Takes was.live (typed text) (phone line act) mid.live)
-    → IfErr done (λ refusal. Refuses was.live text (phone line act) refusal printed mid.live)
-    → mid.came.refused ≡ was.came.refused → is ≡ with_input (not (is_ok done)) mid → IsActAnswer done printed answer
-    → TriesAct text line act answer was is
-tries_act text line act (Ok done) printed answer was mid is takes misses counts same says =
+-- an act was taken over an exchange, or refused, and that is answered
+pub tries_act : {S A : Type 0} (sends : S → SocketAddrV4 → List ℕ → Result ⊤ Fault → S → Type 0) (text : List ℕ) (line : ℕ) (act : Act)
+    (done : Result A Refusal) (printed answer : List ℕ) (was mid is : Standing) (from sent to : Exchange S)
+    → OnOk done (TakesBy (λ a gateway b. IsTold a gateway b) (λ a at bytes own mark b. HandsOver sends a at bytes own mark b)
+    was.live from (typed text) (phone line act) mid.live sent)
+    → OnErr done (sent ≡ from) → IfErr done (λ refusal. Refuses was.live text (phone line act) refusal printed mid.live)
+    → Notes (not (is_ok done)) sent to → mid.came.refused ≡ was.came.refused → is ≡ with_input (not (is_ok done)) mid
+    → IsActAnswer done printed answer → TriesAct sends text line act answer was from is to
+tries_act sends text line act (Ok done) printed answer was mid is from sent to takes stays misses notes counts same says =
     inl (
-      subst (λ (s : Standing). Takes was.live (typed text) (phone line act) s.live) (sym same) takes,
+      subst (λ (s : Standing). TakesOver sends was.live from (typed text) (phone line act) s.live to) (sym same)
+          (takes_over sends was.live from sent to (typed text) (phone line act) mid.live takes notes),
       ap (λ (s : Standing). s.came.refused) same ∙ counts,
       says.done_so,
     )
-tries_act text line act (Err refusal) printed answer was mid is takes misses counts same says =
+tries_act {S} sends text line act (Err refusal) printed answer was mid is from sent to takes stays misses notes counts same says =
     inr (
       refusal,
       printed,
       subst (λ (s : Standing). Refuses was.live text (phone line act) refusal printed s.live) (sym same) misses,
+      subst (λ (x : Exchange S). Notes true x to) stays notes,
       ap (λ (s : Standing). s.came.refused) same ∙ ap (λ (n : ℕ). counted n 1) counts,
       λ e. says.memory (rw e refl),
       says.refused,

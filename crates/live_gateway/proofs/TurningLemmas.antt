@@ -1,6 +1,7 @@
 -- What a turn does, from what its calls say.
 use Rattle.std.proofs.Common.{◌≡◌, ◌⊎◌, inl, inr, ℕ, ◌+◌, ◌<◌, ◌≤◌, ◌^◌, [], sym, ◌∙◌, ap, subst, arith}
-use Rattle.std.specs.Prelude.{not, is_ok, Result, Ok, Err, OnOk, OnErr}
+use Rattle.std.specs.Prelude.{⊤, not, is_ok, Result, Ok, Err, OnOk, OnErr, List, true}
+use Rattle.std.specs.declared.net.socket_addr.SocketAddrV4.{SocketAddrV4}
 use Rattle.gateway_core.specs.Wire.{counted}
 use Rattle.plain_machine.specs.Event.{GatewayEvent}
 use Rattle.traces.specs.Writing.{Input}
@@ -10,25 +11,44 @@ use Rattle.turns.specs.declared.turn.Turn.{Turn}
 use Rattle.turns.specs.declared.turn.Turn.TheVariants.{Tick}
 use Rattle.turns.specs.Schedule.{next_of}
 use Rattle.turns.proofs.ScheduleLaws.{ticks_within}
-use Rattle.live_play.specs.Running.{Ran, Takes}
+use Rattle.live_ends.specs.declared.now.Now.{Now}
+use Rattle.live_play.specs.Running.{Ran, TakesBy}
 use Rattle.live_gateway.specs.Desk.{Standing, with_input}
 use Rattle.live_play.specs.Readable.{first_unread}
 use Rattle.surroundings.specs.declared.surroundings.Fault.{Fault}
 use Rattle.live_gateway.specs.declared.desk.Desk.{Desk}
-use Rattle.live_gateway.specs.Exchanging.{OnlyWrites}
+use Rattle.live_gateway.specs.declared.exchange.Exchange.{Exchange}
+use Rattle.live_gateway.specs.Exchanging.{OnlyWrites, IsTold, HandsOver, Notes, TakesOver}
 use Rattle.live_gateway.specs.Turning.{Tries, TurnsAndWrites, RunsTurns}
 use Rattle.live_gateway.proofs.EndingLemmas.{wrote_once_more}
+use Rattle.live_gateway.proofs.OverLemmas.{takes_over}
 
--- it was taken, or refused, and that is counted
-pub tries : {A B : Type 0} (input : Input) (event : GatewayEvent) (done : Result A B) (was mid is : Standing) → OnOk done (Takes was.live input event mid.live)
-    → OnErr done (Ran was.live [] mid.live) → mid.came.refused ≡ was.came.refused → is ≡ with_input (not (is_ok done)) mid → Tries input event was is
-tries input event (Ok done) was mid is takes misses counts same =
-    inl (subst (λ (s : Standing). Takes was.live input event s.live) (sym same) takes, ap (λ (s : Standing). s.came.refused) same ∙ counts)
-tries input event (Err why) was mid is takes misses counts same =
+-- it was taken over an exchange, or refused, and that is counted
+pub tries : {S A B : Type 0} (sends : S → SocketAddrV4 → List ℕ → Result ⊤ Fault → S → Type 0) (input : Input) (event : GatewayEvent) (done : Result A B)
+    (was mid is : Standing) (from sent to : Exchange S)
+    → OnOk done (TakesBy (λ a gateway b. IsTold a gateway b) (λ a at bytes own mark b. HandsOver sends a at bytes own mark b)
+    was.live from input event mid.live sent)
+    → OnErr done (sent ≡ from) → OnErr done (Ran was.live [] mid.live) → Notes (not (is_ok done)) sent to
+    → mid.came.refused ≡ was.came.refused → is ≡ with_input (not (is_ok done)) mid → Tries sends input event was from is to
+tries sends input event (Ok done) was mid is from sent to takes stays misses notes counts same =
+    inl (
+      subst (λ (s : Standing). TakesOver sends was.live from input event s.live to) (sym same)
+          (takes_over sends was.live from sent to input event mid.live takes notes),
+      ap (λ (s : Standing). s.came.refused) same ∙ counts,
+    )
+tries {S} sends input event (Err why) was mid is from sent to takes stays misses notes counts same =
     inr (
       subst (λ (s : Standing). Ran was.live [] s.live) (sym same) misses,
+      subst (λ (x : Exchange S). Notes true x to) stays notes,
       ap (λ (s : Standing). s.came.refused) same ∙ ap (λ (n : ℕ). counted n 1) counts,
     )
+
+-- so it was from where a turn began
+pub tries_begun : {S : Type 0} (sends : S → SocketAddrV4 → List ℕ → Result ⊤ Fault → S → Type 0) (input : Input) (event : GatewayEvent) (was is : Standing)
+    (desk begun to : Exchange S) → begun ≡ record desk { now = begun.now } → to.now ≡ begun.now → Tries sends input event was begun is to
+    → Tries sends input event was (record desk { now = to.now }) is to
+tries_begun {S} sends input event was is desk begun to begins same tried =
+    subst (λ (x : Exchange S). Tries sends input event was x is to) (begins ∙ ap (λ (n : Now). record desk { now = n }) (sym same)) tried
 
 -- a tick that comes next goes on
 pub tick_is_later : (s : Schedule) (at : Situation) (turn : Turn) (next : Schedule) (to now : ℕ) → at.moment < 2 ^ 64 → (turn, next) ≡ next_of s at

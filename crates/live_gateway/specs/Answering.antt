@@ -1,5 +1,5 @@
 -- What is done of a line that is left, and what who typed it is answered.
-use Rattle.std.specs.Prelude.{◌≡◌, ◌≢◌, ◌↔◌, ◌⊎◌, ℕ, Bool, codes, List, [], ◌∷◌, Option, None, Some, Result, Err, IfOk, IfErr, IsTrue, IsSomeAnd, true}
+use Rattle.std.specs.Prelude.{◌≡◌, ◌≢◌, ◌↔◌, ◌⊎◌, ⊤, ℕ, Bool, codes, List, [], ◌∷◌, Option, None, Some, Result, Err, IfOk, IfErr, IsTrue, IsSomeAnd, true}
 use Rattle.std.specs.Net.Addr.{IsLoopbackV4, IsLoopbackV6, MatchIp}
 use Rattle.std.specs.Net.Socket.{socket_ip}
 use Rattle.std.specs.declared.net.socket_addr.SocketAddr.{SocketAddr}
@@ -12,6 +12,9 @@ use Rattle.surroundings.specs.Requests.{requests_from}
 use Rattle.surroundings.specs.Sending.{Traffic}
 use Rattle.surroundings.specs.Typing.{left_of, behind, v4_of}
 use Rattle.surroundings.specs.declared.lines.Lines.{Lines}
+use Rattle.surroundings.specs.declared.surroundings.Fault.{Fault}
+use Rattle.page_board.specs.declared.ring.Kind.TheVariants.{Act as OfAct, Told as OfTold}
+use Rattle.told_messages.specs.Showing.{nobody, GoesOn, Happened}
 use Rattle.plain_machine.specs.Event.{GatewayEvent, phone}
 use Rattle.plain_machine.specs.Lists.{plain}
 use Rattle.gateway_core.specs.GatewayState.{GatewayState}
@@ -21,7 +24,7 @@ use Rattle.gateway_rules.specs.declared.refusal.Refusal.{Refusal}
 use Rattle.gateway_rules.specs.declared.refusal.Refusal.TheVariants as refusals
 use Rattle.rgw_scripts.specs.Script.{line_in}
 use Rattle.traces.specs.Writing.{Input, typed}
-use Rattle.live_play.specs.Running.{Live, RanOf, Takes, Refuses, Asked, lines_shown}
+use Rattle.live_play.specs.Running.{Live, RanOf, Refuses, Asked, lines_shown}
 use Rattle.live_telephones.specs.Admitting.{typist_of}
 use Rattle.live_telephones.specs.Asking.{AsksFor, request_in, short_text, usage, wants_memory}
 use Rattle.live_telephones.specs.Losses.{counts_text}
@@ -31,9 +34,10 @@ use Rattle.live_telephones.specs.declared.telephones.TelephoneRequest.{Telephone
 use Rattle.live_telephones.specs.declared.telephones.TelephoneRequest.TheVariants.{Act as AsksAct, Show, ShowAll, Watch as AsksWatch, Counts, Stop, StopFromAfar, Refused, Unknown, OutOfMemory}
 use Rattle.live_telephones.specs.declared.watch.Watch.{Watch}
 use Rattle.live_gateway.specs.declared.desk.Desk.{Desk}
-use Rattle.live_gateway.specs.Exchanging.{OnlySends}
+use Rattle.live_gateway.specs.declared.exchange.Exchange.{Exchange}
+use Rattle.live_gateway.specs.Exchanging.{TakesOver, Notes}
 use Rattle.live_gateway.specs.Desk.{Standing, at_desk}
-use Rattle.live_gateway.specs.Leaving.{OnlyReplies}
+use Rattle.live_gateway.specs.Leaving.{OnlyShows, OnlyTells, OnlyReplies}
 
 -- The line, and what it asks for
 
@@ -87,12 +91,15 @@ pub record IsActAnswer {A : Type 0} (done : Result A Refusal) (printed answer : 
   pub memory : done ≡ Err refusals.OutOfMemory → answer ≡ no_memory
   pub refused : IfErr done (λ refusal. refusal ≢ refusals.OutOfMemory → answer ≡ printed)
 
--- an act that a line says was done, and that is answered; or it was refused, as is told, answered and counted
-abbrev pub TriesAct : List ℕ → ℕ → Act → List ℕ → Standing → Standing → Type 0
-TriesAct text line act answer was is =
-    (Takes was.live (typed text) (phone line act) is.live × (is.came.refused ≡ was.came.refused) × (answer ≡ codes "done\n"))
+-- an act that a line says was done, over an exchange, and that is answered; or it was refused, as is told, answered and counted
+abbrev pub TriesAct :
+    {S : Type 0} → (S → SocketAddrV4 → List ℕ → Result ⊤ Fault → S → Type 0) → List ℕ → ℕ → Act → List ℕ
+    → Standing → Exchange S → Standing → Exchange S → Type 0
+TriesAct sends text line act answer was from is to =
+    (TakesOver sends was.live from (typed text) (phone line act) is.live to × (is.came.refused ≡ was.came.refused)
+    × (answer ≡ codes "done\n"))
     ⊎ ((refusal : Refusal) × (printed : List ℕ) × Refuses was.live text (phone line act) refusal printed is.live
-    × (is.came.refused ≡ counted was.came.refused 1)
+    × Notes true from to × (is.came.refused ≡ counted was.came.refused 1)
     × (refusal ≡ refusals.OutOfMemory → answer ≡ no_memory) × (refusal ≢ refusals.OutOfMemory → answer ≡ printed))
 
 -- what a line is was asked, as a line says, and is told and answered; or memory was refused for that, and it is answered
@@ -143,32 +150,46 @@ abbrev pub OnlyAnswers :
 OnlyAnswers told traffic answers request was is =
     (at_desk told traffic is ≡ at_desk told traffic was) × AnswersRequest answers request was is
 
--- What a line asks for is done, and answered to who typed it. What goes out at an act goes before its answer.
+-- An act that a line asks for: the page is shown that, then it is done, or refused, and who typed it is answered behind what goes out at
+-- it, which the page is shown too. Nothing else is done.
+pub record DoesAct {S T : Type 0}
+    (told : T → Option (List ℕ)) (traffic : S → Traffic) (sends : S → SocketAddrV4 → List ℕ → Result ⊤ Fault → S → Type 0)
+    (answers : S → SocketAddr → List ℕ → S → Type 0) (text : List ℕ) (line : ℕ) (act : Act) (was is : Desk S T) : Type 0 where
+  pub asked : Exchange S
+  pub done : Exchange S
+  pub answer : List ℕ
+  pub before : OnlyShows was.exchange asked
+  pub shown : GoesOn (Happened was.exchange.now.clock OfAct nobody text) was.exchange.journal.board asked.journal.board
+  pub tries : TriesAct sends text line act answer (at_desk told traffic was) asked (at_desk told traffic is) done
+  pub says : AnswersLine answers done.around answer was is
+  pub kept : traffic is.exchange.around ≡ traffic done.around
+  pub told_so : GoesOn (Happened done.now.clock OfTold nobody answer) done.journal.board is.exchange.journal.board
+  pub behind : OnlyTells done is.exchange
+  pub rest : is ≡ record was { play = is.play; exchange = is.exchange; lines = is.lines }
+
+-- What a line asks for is done, and answered to who typed it.
 abbrev pub DoesRequest :
-    {S T : Type 0} → (T → Option (List ℕ)) → (S → Traffic) → (S → SocketAddr → List ℕ → S → Type 0)
-    → List ℕ → TelephoneRequest → Desk S T → Desk S T → Type 0
-DoesRequest {S} told traffic answers text (AsksAct line act) was is = (before : S) × (answer : List ℕ)
-    × AnswersLine answers before answer was is × (traffic is.exchange.around ≡ traffic before)
-    × TriesAct text line act answer (at_desk told traffic was) (at_desk told traffic is)
-    × OnlySends was.exchange is.exchange × (is ≡ record was { play = is.play; exchange = is.exchange; lines = is.lines })
-DoesRequest told traffic answers text (Show line) was is = (answer : List ℕ) × AnswersLine answers was.exchange.around answer was is
+    {S T : Type 0} → (T → Option (List ℕ)) → (S → Traffic) → (S → SocketAddrV4 → List ℕ → Result ⊤ Fault → S → Type 0)
+    → (S → SocketAddr → List ℕ → S → Type 0) → List ℕ → TelephoneRequest → Desk S T → Desk S T → Type 0
+DoesRequest told traffic sends answers text (AsksAct line act) was is = DoesAct told traffic sends answers text line act was is
+DoesRequest told traffic sends answers text (Show line) was is = (answer : List ℕ) × AnswersLine answers was.exchange.around answer was is
     × Asks text line answer (at_desk told traffic was).live (at_desk told traffic is).live
     × OnlyReplies (record was { play = is.play }) is
-DoesRequest told traffic answers text ShowAll was is = OnlyAnswers told traffic answers ShowAll was is
-DoesRequest told traffic answers text (AsksWatch seconds) was is = OnlyAnswers told traffic answers (AsksWatch seconds) was is
-DoesRequest told traffic answers text Counts was is = OnlyAnswers told traffic answers Counts was is
-DoesRequest told traffic answers text Stop was is = OnlyAnswers told traffic answers Stop was is
-DoesRequest told traffic answers text StopFromAfar was is = OnlyAnswers told traffic answers StopFromAfar was is
-DoesRequest told traffic answers text Refused was is = OnlyAnswers told traffic answers Refused was is
-DoesRequest told traffic answers text Unknown was is = OnlyAnswers told traffic answers Unknown was is
-DoesRequest told traffic answers text OutOfMemory was is = OnlyAnswers told traffic answers OutOfMemory was is
+DoesRequest told traffic sends answers text ShowAll was is = OnlyAnswers told traffic answers ShowAll was is
+DoesRequest told traffic sends answers text (AsksWatch seconds) was is = OnlyAnswers told traffic answers (AsksWatch seconds) was is
+DoesRequest told traffic sends answers text Counts was is = OnlyAnswers told traffic answers Counts was is
+DoesRequest told traffic sends answers text Stop was is = OnlyAnswers told traffic answers Stop was is
+DoesRequest told traffic sends answers text StopFromAfar was is = OnlyAnswers told traffic answers StopFromAfar was is
+DoesRequest told traffic sends answers text Refused was is = OnlyAnswers told traffic answers Refused was is
+DoesRequest told traffic sends answers text Unknown was is = OnlyAnswers told traffic answers Unknown was is
+DoesRequest told traffic sends answers text OutOfMemory was is = OnlyAnswers told traffic answers OutOfMemory was is
 
 -- No line is left, and nothing is done. Or what the first one asks for is, and nothing else: no act is done that nobody typed, and nobody
 -- is answered another text than that line's.
 abbrev pub DoesLine :
-    {S T : Type 0} → (T → Option (List ℕ)) → (S → Traffic) → (S → SocketAddr → List ℕ → S → Type 0)
-    → Desk S T → Desk S T → Type 0
-DoesLine told traffic answers was is =
+    {S T : Type 0} → (T → Option (List ℕ)) → (S → Traffic) → (S → SocketAddrV4 → List ℕ → Result ⊤ Fault → S → Type 0)
+    → (S → SocketAddr → List ℕ → S → Type 0) → Desk S T → Desk S T → Type 0
+DoesLine told traffic sends answers was is =
     ((left_of was.lines ≡ []) × (is ≡ was))
     ⊎ ((text : List ℕ) × (request : TelephoneRequest) × IsFirst was.lines text
-    × IsRequest was.lines was.admission.are_phones_open text request × DoesRequest told traffic answers text request was is)
+    × IsRequest was.lines was.admission.are_phones_open text request × DoesRequest told traffic sends answers text request was is)

@@ -1,5 +1,5 @@
 -- What was handed to an exchange: to the sockets, or to the bad network before them; and what came to it.
-use Rattle.std.specs.Prelude.{◌≡◌, ◌⊎◌, ⊤, ℕ, nat_lt, if◌then◌else◌, Bool, true, false, List, Option, Some, None, IsSome, is_some, Result, Ok, Err, IsErr}
+use Rattle.std.specs.Prelude.{◌≡◌, ◌⊎◌, ⊤, ℕ, ◌+◌, nat_lt, if◌then◌else◌, Bool, true, false, List, [], ◌∷◌, map, Option, Some, None, IsSome, is_some, Result, Ok, Err, IsErr}
 use Rattle.std.specs.Global.{Box}
 use Rattle.bad_network.specs.declared.fate.Fate.{Fate}
 use Rattle.bad_network.specs.declared.fate.Fate.TheVariants.{Lost as NeverComes, Once, Twice}
@@ -13,12 +13,18 @@ use Rattle.message_counts.specs.SentCounting.{tally_in, with_sent, with_given_up
 use Rattle.message_counts.specs.Tallying.{with_handed_out, CountsNoDatagram}
 use Rattle.message_counts.specs.Waiting.{unanswered_after}
 use Rattle.message_counts.specs.declared.reporting.Faults.{Faults}
-use Rattle.told_messages.specs.Showing.{GoesOn, Turned}
+use Rattle.page_board.specs.declared.ring.Kind.TheVariants.{Sent as OfSent}
+use Rattle.plain_machine.specs.Event.{GatewayEvent}
+use Rattle.plain_machine.specs.declared.label.SentMessage.{SentMessage}
+use Rattle.told_messages.specs.Labelling.{sent_label}
+use Rattle.told_messages.specs.Showing.{GoesOn, HappenedWith, Turned}
 use Rattle.live_play.specs.Coming.{Came}
 use Rattle.live_play.specs.Readable.{first_unread}
+use Rattle.live_play.specs.Running.{Live, TakesBy}
 use Rattle.std.specs.declared.net.socket_addr.SocketAddrV4.{SocketAddrV4}
 use Rattle.surroundings.specs.Sending.{Sent, Received, Traffic, found_by}
 use Rattle.surroundings.specs.declared.surroundings.Fault.{Fault}
+use Rattle.traces.specs.Writing.{Input}
 use Rattle.traces.specs.declared.telling.Mark.{Mark}
 use Rattle.traces.specs.declared.telling.Mark.TheVariants.{Unsent, Lost}
 use Rattle.live_gateway.specs.declared.admission.Admission.{Admission}
@@ -217,25 +223,47 @@ pub record IsTold {S : Type 0} (was : Exchange S) (gateway : GatewayState) (is :
   pub datagrams : CountsNoDatagram was.journal.tally.value is.journal.tally.value
   pub rest : is ≡ record was { journal = is.journal }
 
--- A datagram was handed to an exchange: it became what is to be noted of it, and is counted as handed out; that it wasn't sent counts as
--- a fault. Nothing was read, and no other fault counts.
+-- A datagram that has these messages was handed to an exchange: the page is shown it with these, and it is counted as handed out; it
+-- became what is to be noted of it, and that it wasn't sent counts as a fault. Nothing was read, and no other fault counts.
 pub record HandsOver {S : Type 0} (sends : S → SocketAddrV4 → List ℕ → Result ⊤ Fault → S → Type 0)
-    (was : Exchange S) (to : SocketAddrV4) (bytes : List ℕ) (mark : Option Mark) (is : Exchange S) : Type 0 where
+    (was : Exchange S) (to : SocketAddrV4) (bytes : List ℕ) (messages : List SentMessage) (mark : Option Mark) (is : Exchange S) : Type 0 where
+  pub shown : GoesOn (HappenedWith was.now.clock OfSent to bytes (map sent_label messages)) was.journal.board is.journal.board
   pub became : (became : Result Fate Fault) × Becomes sends was to bytes became is × (mark ≡ mark_of became)
   pub counted : is.journal.tally.value ≡ with_handed_out was.journal.tally.value
   pub faults : is.faults ≡ with_mark mark was.faults
   pub rest : (is.read ≡ was.read) × IsSameTurn was is
 
--- what the gateway sent went over an exchange: nothing was read, the turn is the same, and of faults only this counts, that so many
--- datagrams weren't sent, and that an input was refused
-pub record OnlySends {S : Type 0} (was is : Exchange S) : Type 0 where
-  pub unsent : ℕ
+-- of datagrams of which this was said, so many weren't sent
+abbrev pub unsent_in : List (Option Mark) → ℕ
+unsent_in [] = 0
+unsent_in (None ∷ said) = unsent_in said
+unsent_in (Some Lost ∷ said) = unsent_in said
+unsent_in (Some Unsent ∷ said) = unsent_in said + 1
+
+-- datagrams went over an exchange, which said this of each: nothing was read, the turn is the same, and of faults only this counts, that
+-- those of which it said so weren't sent
+pub record OnlySends {S : Type 0} (said : List (Option Mark)) (was is : Exchange S) : Type 0 where
   pub read : is.read ≡ was.read
   pub turn : IsSameTurn was is
   pub receive : is.faults.receive ≡ was.faults.receive
-  pub send : is.faults.send ≡ counted was.faults.send unsent
+  pub refused : is.faults.refused ≡ was.faults.refused
+  pub send : is.faults.send ≡ counted was.faults.send (unsent_in said)
 
--- nothing was read nor sent, and the turn is the same; of faults only this may count, that an input was refused
-abbrev pub OnlyNotes : {S : Type 0} → Exchange S → Exchange S → Type 0
-OnlyNotes was is =
-    (is.read ≡ was.read) × IsSameTurn was is × (is.faults.receive ≡ was.faults.receive) × (is.faults.send ≡ was.faults.send)
+-- of an exchange, only its log changes
+pub record Explains {S : Type 0} (was is : Exchange S) : Type 0 where
+  pub rest : is ≡ record was { journal = record was.journal { log = is.journal.log } }
+
+-- that an input was refused is counted, or nothing is; and else only the log changes
+pub record Notes {S : Type 0} (is_refused : Bool) (was is : Exchange S) : Type 0 where
+  pub rest : is ≡ record was { journal = record was.journal { log = is.journal.log }; faults = with_refused is_refused was.faults }
+
+-- The gateway took an event that came in so, over an exchange: this was told of it, and handed what was sent at it, each datagram with the
+-- messages that stand in it; what stands in the trace behind the event is what the exchange said of each; and so many as weren't sent count.
+-- Then that is noted, and nothing else is done.
+pub record TakesOver {S : Type 0} (sends : S → SocketAddrV4 → List ℕ → Result ⊤ Fault → S → Type 0)
+    (was : Live) (from : Exchange S) (input : Input) (event : GatewayEvent) (is : Live) (to : Exchange S) : Type 0 where
+  pub sent : Exchange S
+  pub by : TakesBy (λ a gateway b. IsTold a gateway b) (λ a at bytes messages mark b. HandsOver sends a at bytes messages mark b)
+      was from input event is sent
+  pub only : OnlySends by.said from sent
+  pub noted : Notes false sent to

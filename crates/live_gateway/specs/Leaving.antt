@@ -18,20 +18,23 @@ use Rattle.live_telephones.specs.Paging.{ShowsPage, TakesAct}
 use Rattle.live_gateway.specs.declared.desk.Desk.{Desk}
 use Rattle.live_gateway.specs.declared.exchange.Exchange.{Exchange}
 use Rattle.live_gateway.specs.Visiting.{ServesOnce}
-use Rattle.live_gateway.specs.Exchanging.{OnlySends, moment_at, faults_by, with_read, with_unreceived}
+use Rattle.live_gateway.specs.Exchanging.{moment_at, faults_by, with_read, with_unreceived}
 
 -- of an exchange, only what the page is shown changes
 abbrev pub OnlyShows : {S : Type 0} → Exchange S → Exchange S → Type 0
 OnlyShows was is = is ≡ record was { journal = record was.journal { board = is.journal.board } }
 
+-- only what is around it, and what the page is shown
+abbrev pub OnlyTells : {S : Type 0} → Exchange S → Exchange S → Type 0
+OnlyTells was is = is ≡ record was { around = is.around; journal = record was.journal { board = is.journal.board } }
+
 -- only its play and its exchange change
 abbrev pub OnlyPlays : {S T : Type 0} → Desk S T → Desk S T → Type 0
 OnlyPlays was is = is ≡ record was { play = is.play; exchange = is.exchange }
 
--- the clock went to a moment: only its play and its exchange change, and over that went what the gateway sent
+-- the clock went to a moment: only its play and its exchange change, and that is the moment of its turn
 abbrev pub OnlyTicks : {S T : Type 0} → ℕ → Desk S T → Desk S T → Type 0
-OnlyTicks moment was is =
-    OnlyPlays was is × (is.exchange.now.clock ≡ moment) × OnlySends (record was.exchange { now = is.exchange.now }) is.exchange
+OnlyTicks moment was is = OnlyPlays was is × (is.exchange.now.clock ≡ moment)
 
 -- only its log changes
 abbrev pub OnlyLogs : {S T : Type 0} → Desk S T → Desk S T → Type 0
@@ -102,7 +105,7 @@ pub record Starts {S T : Type 0} (passes : S → Result ℕ Fault → Type 0) (w
   }
   pub faults : is.exchange.faults ≡ faults_by clock was.exchange.faults
 
--- what a turn of this kind leaves, at this moment; of one for who types `DoesLines` says more. Visitors have a turn where it is theirs.
+-- what a turn of this kind leaves, at this moment; of ticks, datagrams and lines `Does` says more. Visitors have a turn where it is theirs.
 abbrev pub Leaves :
     {S T V : Type 0} → (S → Traffic) → (V → S → BoardState → ℕ → V → S → BoardState → Type 0) → ℕ → Turn
     → Option (Box V) → Option (Box V) → Desk S T → Desk S T → Type 0

@@ -1,5 +1,5 @@
 -- What a turn does, by its kind.
-use Rattle.std.specs.Prelude.{◌≡◌, ◌⊎◌, ℕ, Bool, false, ◌||◌, not, List, [], take, Option, None, Some, option_map, Result}
+use Rattle.std.specs.Prelude.{◌≡◌, ◌⊎◌, ⊤, ℕ, Bool, true, false, ◌||◌, not, List, [], take, Option, None, Some, option_map, Result}
 use Rattle.std.specs.Global.{Box}
 use Rattle.std.specs.declared.net.socket_addr.SocketAddr.{SocketAddr}
 use Rattle.std.specs.declared.net.socket_addr.SocketAddrV4.{SocketAddrV4}
@@ -22,7 +22,7 @@ use Rattle.turns.specs.declared.situation.Situation.{Situation}
 use Rattle.turns.specs.declared.turn.Turn.{Turn}
 use Rattle.turns.specs.declared.turn.Turn.TheVariants.{End, Look, Wait, Tick, Command, Datagram, Visit, Note}
 use Rattle.turns.specs.Schedule.{next_of}
-use Rattle.live_play.specs.Running.{Ran, Takes}
+use Rattle.live_play.specs.Running.{Ran}
 use Rattle.live_telephones.specs.Watching.{WatchesOn}
 use Rattle.live_gateway.specs.Leaving.{OnlyHears, TakesFromPage, Starts, Leaves}
 use Rattle.live_gateway.specs.declared.desk.Desk.{Desk}
@@ -31,41 +31,47 @@ use Rattle.live_gateway.specs.Answering.{DoesLine}
 use Rattle.live_gateway.specs.Visiting.{AreReady, ClosesAt}
 use Rattle.live_gateway.specs.Ending.{WroteTimes}
 use Rattle.live_gateway.specs.Desk.{Standing, at_desk, IsHeard}
-use Rattle.live_gateway.specs.Exchanging.{CountsReceived, FoundSince, OnlyWrites, OnlySends, came_by, next_due, moment_at, faults_by}
+use Rattle.live_gateway.specs.Exchanging.{CountsReceived, FoundSince, OnlyWrites, TakesOver, Notes, came_by, next_due, moment_at, faults_by}
 
--- the gateway took an event that came in so, as a play tells it; or refused it, which is counted, and nothing was told
-abbrev pub Tries : Input → GatewayEvent → Standing → Standing → Type 0
-Tries input event was is =
-    (Takes was.live input event is.live × (is.came.refused ≡ was.came.refused))
-    ⊎ (Ran was.live [] is.live × (is.came.refused ≡ counted was.came.refused 1))
+-- The gateway took an event that came in so, over an exchange, as a play tells it; or refused it, which is counted, and nothing was told
+-- nor handed over.
+abbrev pub Tries :
+    {S : Type 0} → (S → SocketAddrV4 → List ℕ → Result ⊤ Fault → S → Type 0) → Input → GatewayEvent
+    → Standing → Exchange S → Standing → Exchange S → Type 0
+Tries sends input event was from is to =
+    (TakesOver sends was.live from input event is.live to × (is.came.refused ≡ was.came.refused))
+    ⊎ (Ran was.live [] is.live × Notes true from to × (is.came.refused ≡ counted was.came.refused 1))
 
 -- None came that is heard, and nothing changed but at the exchange that looked. Or this one did, at the front of this room, and the
--- gateway took or refused it: what goes out at it changes nothing of what came, nor of what the look counted.
+-- gateway took or refused it, over that exchange: what goes out at it changes nothing of what came.
 abbrev pub TriesFound :
-    {S T : Type 0} → (T → Option (List ℕ)) → (S → Traffic) → Exchange S → Option (SocketAddrV4 × ℕ) → List ℕ → Desk S T → Desk S T → Type 0
-TriesFound told traffic looked None room was is =
+    {S T : Type 0} → (T → Option (List ℕ)) → (S → Traffic) → (S → SocketAddrV4 → List ℕ → Result ⊤ Fault → S → Type 0)
+    → Exchange S → Option (SocketAddrV4 × ℕ) → List ℕ → Desk S T → Desk S T → Type 0
+TriesFound told traffic sends looked None room was is =
     (is ≡ record was { exchange = looked }) × ((at_desk told traffic is).live ≡ (at_desk told traffic was).live)
     × (looked.faults.refused ≡ was.exchange.faults.refused)
-TriesFound told traffic looked (Some found) room was is =
+TriesFound told traffic sends looked (Some found) room was is =
     IsHeard was.admission found.0 × ((came_by traffic is.exchange).received ≡ (came_by traffic looked).received)
-    × OnlySends looked is.exchange × Tries (arrived found.0 (take found.1 room)) (datagram found.0 (take found.1 room))
-    (at_desk told traffic was) (at_desk told traffic is)
+    × Tries sends (arrived found.0 (take found.1 room)) (datagram found.0 (take found.1 room))
+    (at_desk told traffic was) looked (at_desk told traffic is) is.exchange
 
 -- it was looked for a datagram at the desk's own exchange, once, and what was found was tried
 pub record LooksForOne {S T : Type 0}
     (told : T → Option (List ℕ)) (traffic : S → Traffic)
-    (receives : S → Result (Option (SocketAddrV4 × ℕ)) Fault → List ℕ → S → Type 0) (was is : Desk S T) : Type 0 where
+    (receives : S → Result (Option (SocketAddrV4 × ℕ)) Fault → List ℕ → S → Type 0)
+    (sends : S → SocketAddrV4 → List ℕ → Result ⊤ Fault → S → Type 0) (was is : Desk S T) : Type 0 where
   pub found : Option (SocketAddrV4 × ℕ)
   pub room : List ℕ
   pub looked : Exchange S
   pub counts : CountsReceived receives was.admission was.exchange found room looked
   pub came : FoundSince traffic was.admission was.exchange found room looked
-  pub tried : TriesFound told traffic looked found room was is
+  pub tried : TriesFound told traffic sends looked found room was is
 
 -- Lines are heard where none is left; the first that is left is done, and no other one. Where none is left then, the next act of the page
 -- may be.
 pub record DoesLines {S T : Type 0}
     (told : T → Option (List ℕ)) (traffic : S → Traffic) (sockets : S → List SocketAddrV4)
+    (sends : S → SocketAddrV4 → List ℕ → Result ⊤ Fault → S → Type 0)
     (hears : S → Option (SocketAddr × ℕ) → List ℕ → S → Type 0) (answers : S → SocketAddr → List ℕ → S → Type 0) (was is : Desk S T)
     : Type 0 where
   pub heard : Desk S T
@@ -74,24 +80,26 @@ pub record DoesLines {S T : Type 0}
   pub hearing : Hears sockets hears was.exchange.around was.lines taken heard.exchange.around heard.lines
   pub before : OnlyHears taken was heard
   pub kept : traffic heard.exchange.around ≡ traffic was.exchange.around
-  pub line : DoesLine told traffic answers heard done
+  pub line : DoesLine told traffic sends answers heard done
   pub behind : TakesFromPage false done is
 
 -- what a turn of this kind does
 abbrev pub Does :
     {S T : Type 0} → (T → Option (List ℕ)) → (S → Traffic) → (S → List SocketAddrV4)
     → (S → Result (Option (SocketAddrV4 × ℕ)) Fault → List ℕ → S → Type 0)
+    → (S → SocketAddrV4 → List ℕ → Result ⊤ Fault → S → Type 0)
     → (S → Option (SocketAddr × ℕ) → List ℕ → S → Type 0) → (S → SocketAddr → List ℕ → S → Type 0)
     → Turn → Desk S T → Desk S T → Type 0
-Does told traffic sockets receives hears answers End was is = at_desk told traffic is ≡ at_desk told traffic was
-Does told traffic sockets receives hears answers Look was is = at_desk told traffic is ≡ at_desk told traffic was
-Does told traffic sockets receives hears answers (Wait until) was is = at_desk told traffic is ≡ at_desk told traffic was
-Does told traffic sockets receives hears answers (Tick moment) was is =
-    Tries (passed moment) (tick moment) (at_desk told traffic was) (at_desk told traffic is)
-Does told traffic sockets receives hears answers Command was is = DoesLines told traffic sockets hears answers was is
-Does told traffic sockets receives hears answers Datagram was is = LooksForOne told traffic receives was is
-Does told traffic sockets receives hears answers Visit was is = at_desk told traffic is ≡ at_desk told traffic was
-Does told traffic sockets receives hears answers (Note pause) was is = at_desk told traffic is ≡ at_desk told traffic was
+Does told traffic sockets receives sends hears answers End was is = at_desk told traffic is ≡ at_desk told traffic was
+Does told traffic sockets receives sends hears answers Look was is = at_desk told traffic is ≡ at_desk told traffic was
+Does told traffic sockets receives sends hears answers (Wait until) was is = at_desk told traffic is ≡ at_desk told traffic was
+Does told traffic sockets receives sends hears answers (Tick moment) was is =
+    Tries sends (passed moment) (tick moment) (at_desk told traffic was) (record was.exchange { now = is.exchange.now })
+    (at_desk told traffic is) is.exchange
+Does told traffic sockets receives sends hears answers Command was is = DoesLines told traffic sockets sends hears answers was is
+Does told traffic sockets receives sends hears answers Datagram was is = LooksForOne told traffic receives sends was is
+Does told traffic sockets receives sends hears answers Visit was is = at_desk told traffic is ≡ at_desk told traffic was
+Does told traffic sockets receives sends hears answers (Note pause) was is = at_desk told traffic is ≡ at_desk told traffic was
 
 -- What may have something: who types, where a line is left, or as was told of their socket; the network, where that which spoils it hands
 -- something out by now, or as was told of its socket; visitors, as they say.
@@ -131,6 +139,7 @@ pub record DoesNext {S T V : Type 0}
     (told : T → Option (List ℕ)) (traffic : S → Traffic) (sockets : S → List SocketAddrV4)
     (passes : S → Result ℕ Fault → Type 0) (tells : S → Told → Type 0)
     (receives : S → Result (Option (SocketAddrV4 × ℕ)) Fault → List ℕ → S → Type 0)
+    (sends : S → SocketAddrV4 → List ℕ → Result ⊤ Fault → S → Type 0)
     (hears : S → Option (SocketAddr × ℕ) → List ℕ → S → Type 0) (answers : S → SocketAddr → List ℕ → S → Type 0)
     (waits : V → S → ℕ → Bool → Type 0) (closes : V → Option ℕ → Type 0) (serves : V → S → BoardState → ℕ → V → S → BoardState → Type 0)
     (was : Desk S T) (visitors : Option (Box V)) (is : Desk S T) (left : Option (Box V)) : Type 0 where
@@ -146,7 +155,7 @@ pub record DoesNext {S T V : Type 0}
   }
   pub clock : begun.exchange.now.clock ≡ at.ticked
   pub faults : begun.exchange.faults ≡ faults_by situation.clock was.exchange.faults
-  pub does : Does told traffic sockets receives hears answers turn begun done
+  pub does : Does told traffic sockets receives sends hears answers turn begun done
   pub leaves : Leaves traffic serves at.moment turn visitors left begun done
   pub behind : is ≡ record done { exchange = record done.exchange { around = is.exchange.around }; watch = is.watch }
   pub kept : traffic is.exchange.around ≡ traffic done.exchange.around

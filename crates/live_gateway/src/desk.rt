@@ -137,7 +137,9 @@ impl<S: Surroundings + Drop, T: Teller + Drop> Desk<S, T> {
         requires { (moment < first_unread) × ((events : List GatewayEvent) → Stands self.old.play.gateway.value events
             → (plain self.old.play.gateway.value.setup events).now < moment) }
         ensures play { GoesOn T.told S.traffic self.old self.new }
-        ensures tried { Tries (passed moment) (tick moment) (at_desk T.told S.traffic self.old) (at_desk T.told S.traffic self.new) }
+        ensures tried { Tries S.sends (passed moment) (tick moment)
+            (at_desk T.told S.traffic self.old) (record self.old.exchange { now = self.new.exchange.now })
+            (at_desk T.told S.traffic self.new) self.new.exchange }
         ensures rest { OnlyTicks moment self.old self.new }
     {
         self.exchange.begin(moment);
@@ -153,7 +155,7 @@ impl<S: Surroundings + Drop, T: Teller + Drop> Desk<S, T> {
     // A datagram is taken, if one is there, and who sent it is heard.
     fn datagram(&mut self)
         ensures play { GoesOn T.told S.traffic self.old self.new }
-        ensures looked { LooksForOne T.told S.traffic S.receives self.old self.new }
+        ensures looked { LooksForOne T.told S.traffic S.receives S.sends self.old self.new }
         ensures rest { OnlyPlays self.old self.new }
     {
         let mut room = [0u8; DATAGRAM_ROOM];
@@ -238,7 +240,7 @@ impl<S: Surroundings + Drop, T: Teller + Drop> Desk<S, T> {
     #[tactic(auto, using(crate::proofs::DeskLemmas::stays_so, crate::proofs::DeskLemmas::stays))]
     fn take_line(&mut self)
         ensures play { GoesOn T.told S.traffic self.old self.new }
-        ensures line { DoesLine T.told S.traffic S.answers self.old self.new }
+        ensures line { DoesLine T.told S.traffic S.sends S.answers self.old self.new }
         ensures schedule { self.new.schedule ≡ self.old.schedule }
     {
         let who = typist(&self.lines, self.admission.are_phones_open);
@@ -271,7 +273,7 @@ impl<S: Surroundings + Drop, T: Teller + Drop> Desk<S, T> {
     // A line is taken, if one is there. Who types and the page take turns: behind what was typed comes one act of the page's.
     fn command(&mut self)
         ensures play { GoesOn T.told S.traffic self.old self.new }
-        ensures lines { DoesLines T.told S.traffic S.sockets S.hears S.answers self.old self.new }
+        ensures lines { DoesLines T.told S.traffic S.sockets S.sends S.hears S.answers self.old self.new }
         ensures schedule { self.new.schedule ≡ self.old.schedule }
     {
         let was_page = self.is_of_page;
@@ -315,7 +317,7 @@ impl<S: Surroundings + Drop, T: Teller + Drop> Desk<S, T> {
             → (to < first_unread) × ((events : List GatewayEvent) → Stands self.old.play.gateway.value events
             → (plain self.old.play.gateway.value.setup events).now < to) }
         ensures play { GoesOn T.told S.traffic self.old self.new }
-        ensures does { Does T.told S.traffic S.sockets S.receives S.hears S.answers turn self.old self.new }
+        ensures does { Does T.told S.traffic S.sockets S.receives S.sends S.hears S.answers turn self.old self.new }
         ensures leaves { Leaves S.traffic V.serves moment turn visitors.old visitors.new self.old self.new }
         ensures over { is_end turn ≡ true → (self.new.play ≡ self.old.play) × (self.new.end ≡ self.old.end) }
     {
@@ -340,8 +342,8 @@ impl<S: Surroundings + Drop, T: Teller + Drop> Desk<S, T> {
     pub fn turn<V: Visitors<S>>(&mut self, visitors: &mut Option<Box<V>>) -> bool
         ensures play { GoesOn T.told S.traffic self.old self.new }
         ensures end { EndsAt self.old.end self.old.play.gateway.value (not result) }
-        ensures does { DoesNext T.told S.traffic S.sockets S.passes S.tells S.receives S.hears S.answers V.waits V.closes V.serves
-            self.old visitors.old self.new visitors.new }
+        ensures does { DoesNext T.told S.traffic S.sockets S.passes S.tells S.receives S.sends S.hears S.answers
+            V.waits V.closes V.serves self.old visitors.old self.new visitors.new }
         ensures over { result ≡ false → (self.new.play ≡ self.old.play) × (self.new.end ≡ self.old.end) }
     {
         let ticked = self.play.gateway.now();
@@ -388,7 +390,7 @@ impl<S: Surroundings + Drop, T: Teller + Drop> Desk<S, T> {
     )
         ensures play { GoesOn T.told S.traffic self.old self.new }
         ensures end { (count : ℕ)
-            × RunsTurns S.passes (DoesNext T.told S.traffic S.sockets S.passes S.tells S.receives S.hears S.answers
+            × RunsTurns S.passes (DoesNext T.told S.traffic S.sockets S.passes S.tells S.receives S.sends S.hears S.answers
             V.waits V.closes V.serves) W.writes count self.old visitors.old recorder.old self.new visitors.new recorder.new
             × ((EndsAt self.new.end self.new.play.gateway.value true) ⊎ (count ≡ 2 ^ 64 - 1)) }
     {

@@ -1,15 +1,14 @@
 //! What goes between the gateway and others: over sockets, behind a bad network where one is asked for; and its journal.
-ghost use Rattle.std.specs.Prelude.{◌≡◌, ◌<◌, ◌≤◌, ◌∷◌, ◌⊎◌, ⊤, [], true, false, length, take, ℕ, Bool, List, Option, Result, IfSome, is_some, map, option_map};
+ghost use Rattle.std.specs.Prelude.{◌≡◌, ◌<◌, ◌≤◌, ◌∷◌, ◌⊎◌, ⊤, [], true, false, length, take, ℕ, Bool, List, Option, Result, IfSome, is_some, option_map};
 ghost use Rattle.small_rules.specs.Counting.{counted};
-ghost use Rattle.page_board.specs.declared.ring.Kind.TheVariants.{Sent as OfSent, Received as OfReceived};
-ghost use Rattle.told_messages.specs.Labelling.{sent_label};
-ghost use Rattle.told_messages.specs.Showing.{GoesOn, Happened, HappenedWith};
+ghost use Rattle.page_board.specs.declared.ring.Kind.TheVariants.{Received as OfReceived};
+ghost use Rattle.told_messages.specs.Showing.{GoesOn, Happened};
 ghost use Rattle.surroundings.specs.declared.surroundings.Fault.{Fault};
 ghost use Rattle.surroundings.specs.Hearing.{Hears};
 ghost use Rattle.surroundings.specs.Sending.{Sent, Grows, found_by};
 ghost use Rattle.live_gateway.specs.Admitting.{is_heard};
 ghost use Rattle.live_gateway.specs.Offering.{brought, TakesDue};
-ghost use Rattle.live_gateway.specs.Exchanging.{handed_by, received_by, came_by, next_due, moment_at, faultless, refusals, with_refused, with_unreceived, with_read, faults_by, Becomes, HandsOver, OnlyNotes, LosesOver, IsSameTurn, LooksOnce, CountsReceived, FoundSince};
+ghost use Rattle.live_gateway.specs.Exchanging.{handed_by, received_by, came_by, next_due, moment_at, faultless, refusals, with_refused, with_unreceived, with_read, faults_by, Becomes, HandsOver, LosesOver, IsSameTurn, LooksOnce, CountsReceived, FoundSince};
 ghost use Rattle.live_gateway.specs.Visiting.{ServesOnce};
 ghost use Rattle.live_gateway.specs.Noting.{TurnsAway, NotesArrival, NotesLate, CountsFound};
 ghost use Rattle.live_play.specs.Readable.{first_unread};
@@ -129,7 +128,7 @@ impl<S: Surroundings + Drop> Exchange<S> {
         ensures journal { self.new.journal ≡ self.old.journal }
         ensures read { self.new.read ≡ self.old.read }
         ensures turn { IsSameTurn self.old self.new }
-        ensures notes { OnlyNotes self.old self.new }
+        ensures rest { self.new ≡ record self.old { faults = with_refused is_refused self.old.faults } }
     {
         if is_refused {
             count(&mut self.faults.refused);
@@ -533,7 +532,7 @@ impl<S: Surroundings + Drop> Outlet for Exchange<S> {
 
     ghost turns = { λ was gateway is. IsTold was gateway is };
 
-    ghost hands = { λ was to bytes mark is. HandsOver S.sends was to bytes mark is };
+    ghost hands = { λ was to bytes messages mark is. HandsOver S.sends was to bytes messages mark is };
 
     fn turned(&mut self, gateway: &Gateway) {
         self.journal.turned(self.now, &taken_of(gateway));
@@ -543,9 +542,7 @@ impl<S: Surroundings + Drop> Outlet for Exchange<S> {
         ensures handed { Grows (handed_by self.old.network (S.traffic self.old.around).sent)
             (record { to = to; bytes = bytes.now } ∷ []) (handed_by self.new.network (S.traffic self.new.around).sent) }
         ensures came { came_by S.traffic self.new ≡ came_by S.traffic self.old }
-        ensures shown { GoesOn (HappenedWith self.old.now.clock OfSent to bytes.now (map sent_label messages.now))
-            self.old.journal.board self.new.journal.board }
-        ensures hands { HandsOver S.sends self.old to bytes.now result self.new }
+        ensures hands { HandsOver S.sends self.old to bytes.now messages.now result self.new }
     {
         self.journal.sent(self.now, to, bytes, messages);
         match self.send(to, bytes) {

@@ -5,10 +5,12 @@ ghost use Rattle.surroundings.specs.Requests.{requests_from};
 ghost use Rattle.surroundings.specs.Typing.{left_of, behind};
 ghost use Rattle.surroundings.specs.declared.surroundings.Fault.{Fault};
 ghost use Rattle.surroundings.specs.declared.surroundings.Told.{Told};
+ghost use Rattle.told_messages.specs.Showing.{nobody, GoesOn, Happened};
+ghost use Rattle.page_board.specs.declared.ring.Kind.TheVariants.{Told as OfTold};
 ghost use Rattle.turns.specs.Clock.{earlier, has_come};
 ghost use Rattle.live_gateway.specs.Answering.{IsTypist, IsActAnswer};
-ghost use Rattle.live_gateway.specs.Exchanging.{OnlyNotes, refusals, next_due, moment_at, faults_by};
-ghost use Rattle.live_gateway.specs.Leaving.{OnlyShows, MayTake};
+ghost use Rattle.live_gateway.specs.Exchanging.{Explains, Notes, refusals, next_due, moment_at, faults_by};
+ghost use Rattle.live_gateway.specs.Leaving.{OnlyShows, OnlyTells, MayTake};
 ghost use Rattle.live_gateway.specs.Turning.{ready_at};
 ghost use Rattle.live_gateway.specs.Visiting.{AreReady, ClosesAt};
 ghost use Rattle.live_play.specs.Readable.{first_unread};
@@ -80,8 +82,7 @@ pub(crate) fn note_taken<S: Surroundings + Drop>(
     ensures network { exchange.new.network ≡ exchange.old.network }
     ensures around { exchange.new.around ≡ exchange.old.around }
     ensures refused { exchange.new.faults.refused ≡ refusals (not is_taken) exchange.old.faults.refused }
-    ensures tally { exchange.new.journal.tally ≡ exchange.old.journal.tally }
-    ensures notes { OnlyNotes exchange.old exchange.new }
+    ensures notes { Notes (not is_taken) exchange.old exchange.new }
 {
     exchange.count_refused(!is_taken);
     if is_taken {
@@ -102,8 +103,7 @@ pub(crate) fn note_datagram<S: Surroundings + Drop>(
     ensures network { exchange.new.network ≡ exchange.old.network }
     ensures around { exchange.new.around ≡ exchange.old.around }
     ensures faults { exchange.new.faults ≡ exchange.old.faults }
-    ensures tally { exchange.new.journal.tally ≡ exchange.old.journal.tally }
-    ensures notes { OnlyNotes exchange.old exchange.new }
+    ensures notes { Explains exchange.old exchange.new }
 {
     let now = exchange.now;
     let journal = &mut exchange.journal;
@@ -134,11 +134,11 @@ pub(crate) fn answer_act<S: Surroundings + Drop>(
     ensures traffic { S.traffic exchange.new.around ≡ S.traffic exchange.old.around }
     ensures faults { exchange.new.faults ≡ exchange.old.faults }
     ensures answered { (answer : List ℕ) × IsActAnswer done printed.now answer
-        × AnswersTo S.answers lines.old.sender exchange.old.around answer exchange.new.around }
+        × AnswersTo S.answers lines.old.sender exchange.old.around answer exchange.new.around
+        × GoesOn (Happened exchange.old.now.clock OfTold nobody answer) exchange.old.journal.board exchange.new.journal.board }
     ensures left { left_of lines.new ≡ requests_from (behind (left_of lines.old)) }
     ensures sender { lines.new.sender ≡ lines.old.sender }
-    ensures tally { exchange.new.journal.tally ≡ exchange.old.journal.tally }
-    ensures notes { OnlyNotes exchange.old exchange.new }
+    ensures rest { OnlyTells exchange.old exchange.new }
 {
     let answer = act_answer(done, printed);
     let clock = exchange.now.clock;

@@ -1,10 +1,16 @@
 -- What the worked examples of turns, of visitors and of datagrams want shown.
-use Rattle.std.proofs.Common.{◌≡◌, ◌⊎◌, inl, inr, ℕ, Bool, true, false, List, Option, None, Some, ◌∙◌, ap, subst}
-use Rattle.std.specs.Prelude.{⊤, Result, is_some}
+use Rattle.std.proofs.Common.{◌≡◌, ◌⊎◌, inl, inr, ℕ, Bool, true, false, List, [], ◌∷◌, Option, None, Some, ◌∙◌, refl, ap, subst}
+use Rattle.std.specs.Prelude.{⊤, Result, Ok, Err, IsErr, is_some}
 use Rattle.std.specs.Global.{Box}
 use Rattle.std.specs.declared.net.socket_addr.SocketAddrV4.{SocketAddrV4}
 use Rattle.bad_network.specs.declared.fate.Fate.{Fate}
+use Rattle.page_board.specs.declared.ring.Kind.TheVariants.{Sent as OfSent}
 use Rattle.page_board.specs.Showing.{BoardState}
+use Rattle.plain_machine.specs.declared.label.SentMessage.{SentMessage}
+use Rattle.told_messages.specs.Labelling.{sent_label}
+use Rattle.told_messages.specs.Showing.{GoesOn, HappenedWith}
+use Rattle.traces.specs.declared.telling.Mark.{Mark}
+use Rattle.traces.specs.declared.telling.Mark.TheVariants.{Unsent}
 use Rattle.surroundings.specs.declared.surroundings.Fault.{Fault}
 use Rattle.live_ends.specs.declared.ending.CommonEnding.{CommonEnding}
 use Rattle.live_ends.specs.declared.ending.CommonEnding.TheVariants.{OutOfMemory}
@@ -17,8 +23,9 @@ use Rattle.live_gateway.specs.declared.desk.Desk.{Desk}
 use Rattle.live_gateway.specs.declared.exchange.Exchange.{Exchange}
 use Rattle.live_gateway.specs.declared.spoilt_way.SpoiltWay.{SpoiltWay}
 use Rattle.live_gateway.specs.Ending.{is_record_refused, IsCounted, EndsWith}
-use Rattle.live_gateway.specs.Exchanging.{SendsOver, Becomes, CountsReceived}
+use Rattle.live_gateway.specs.Exchanging.{mark_of, IsSentSo, SendsOver, Becomes, CountsReceived}
 use Rattle.live_gateway.specs.Visiting.{ServesOnce}
+use Rattle.live_laws.specs.TurnExample.{one, HandsNowhere, HandsWith}
 
 -- ---- the end
 
@@ -68,3 +75,36 @@ nobody_sends {S} was is to bytes became none sends =
     nobody_over to bytes was.now.clock became is.network was.around is.around
     (subst (λ (o : Option (Box SpoiltWay)). SendsOver (λ (before : S) (to : SocketAddrV4) (bytes : List ℕ) (sent : Result ⊤ Fault) (after : S). ⊥) to bytes
     was.now.clock became o was.around is.network is.around) none sends)
+
+-- one that couldn't be sent is noted as unsent
+unsent_of : (became : Result Fate Fault) → IsErr became → mark_of became ≡ Some Unsent
+unsent_of (Ok fate) failed = absurd cc
+unsent_of (Err fault) failed = refl
+
+unsent_over : (became : Result Fate Fault) (before after : ℕ)
+    → SendsOver (λ (before : ℕ) (to : SocketAddrV4) (bytes : List ℕ) (sent : Result ⊤ Fault) (after : ℕ). IsErr sent) one.0 [] 0 became None before None after
+    → IsErr became
+unsent_over became before after so = failed so.0 so.1 so.2 where
+  failed : (sent : Result ⊤ Fault) → IsErr sent → IsSentSo sent became → IsErr became
+  failed (Ok all) err is = absurd cc
+  failed (Err fault) err is = is
+
+unsent_now : (now : ℕ) (became : Result Fate Fault) (network next : Option (Box SpoiltWay)) (before after : ℕ) → network ≡ None → next ≡ None
+    → SendsOver (λ (before : ℕ) (to : SocketAddrV4) (bytes : List ℕ) (sent : Result ⊤ Fault) (after : ℕ). IsErr sent) one.0 [] now became network before next after
+    → IsErr became
+unsent_now now became None None before after none still so = unsent_over became before after so
+unsent_now now became (Some way) next before after none still so = absurd cc
+unsent_now now became None (Some way) before after none still so = absurd cc
+
+pub nothing_is_sent : (mark : Option Mark) (was is : Exchange ℕ) → was.network ≡ None → is.network ≡ None → HandsNowhere mark was is → mark ≡ Some Unsent
+nothing_is_sent mark was is none still hands =
+    hands.became.2
+    ∙ unsent_of hands.became.0 (unsent_now was.now.clock hands.became.0 was.network is.network was.around is.around none still hands.became.1)
+
+-- the page is shown a datagram with the label of its message
+pub page_has_label : (message : SentMessage) (was is : Exchange ℕ) (board shown : Box BoardState) → was.journal.board ≡ Some board
+    → is.journal.board ≡ Some shown → HandsWith message was is
+    → HappenedWith was.now.clock OfSent one.0 [] (sent_label message ∷ []) board.value shown.value
+page_has_label message was is board shown before after hands =
+    subst (λ (o : Option (Box BoardState)). GoesOn (HappenedWith was.now.clock OfSent one.0 [] (sent_label message ∷ [])) (Some board) o) after
+    (subst (λ (o : Option (Box BoardState)). GoesOn (HappenedWith was.now.clock OfSent one.0 [] (sent_label message ∷ [])) o is.journal.board) before hands.shown)

@@ -1,10 +1,11 @@
 -- What the worked examples speak of: a desk over surroundings that tell nothing, whose trace tells nothing either.
-use Rattle.std.specs.Prelude.{◌≡◌, ⊤, ℕ, false, List, [], ◌∷◌, Option, None, Some, Result, Ok, Err}
+use Rattle.std.specs.Prelude.{◌≡◌, ⊤, ℕ, false, List, [], ◌∷◌, Option, None, Some, Result, Ok, Err, IsErr}
 use Rattle.std.specs.declared.net.socket_addr.SocketAddrV4.{SocketAddrV4}
 use Rattle.bad_network.specs.declared.fate.Fate.{Fate}
 use Rattle.bad_network.specs.declared.fate.Fate.TheVariants.{Lost, Once}
 use Rattle.live_ends.specs.declared.ending.CommonEnding.{CommonEnding}
 use Rattle.live_journal.specs.declared.trace.Trace.{Trace}
+use Rattle.plain_machine.specs.declared.label.SentMessage.{SentMessage}
 use Rattle.surroundings.specs.Sending.{untold}
 use Rattle.traces.specs.declared.telling.Mark.{Mark}
 use Rattle.surroundings.specs.declared.surroundings.Fault.{Fault}
@@ -30,11 +31,11 @@ CountsStranger admission =
 
 -- a desk looked for a datagram, where nobody looks for one
 abbrev pub LooksNowhere : Desk ℕ ℕ → Desk ℕ ℕ → Type 0
-LooksNowhere was is = LooksForOne (λ told. None) (λ around. untold) (λ before outcome room after. ⊥) was is
+LooksNowhere was is = LooksForOne (λ told. None) (λ around. untold) (λ before outcome room after. ⊥) (λ before to bytes sent after. ⊤) was is
 
 -- nothing was found by an exchange that looked so
 abbrev pub FindsNothing : Exchange ℕ → Desk ℕ ℕ → Desk ℕ ℕ → Type 0
-FindsNothing looked was is = TriesFound (λ told. None) (λ around. untold) looked None [] was is
+FindsNothing looked was is = TriesFound (λ told. None) (λ around. untold) (λ before to bytes sent after. ⊤) looked None [] was is
 
 -- a desk ended so, and who writes what was recorded was told these words last, if any
 abbrev pub EndsSaying : List ℕ → Desk ℕ Trace → CommonEnding → Type 0
@@ -56,4 +57,12 @@ SendsNowhere was is = (became : Result Fate Fault) × Becomes (λ before to byte
 
 -- a datagram was handed over, of which this was to be noted, whatever sends it
 abbrev pub HandsAnywhere : Option Mark → Exchange ℕ → Exchange ℕ → Type 0
-HandsAnywhere mark was is = HandsOver (λ before to bytes sent after. ⊤) was one.0 [] mark is
+HandsAnywhere mark was is = HandsOver (λ before to bytes sent after. ⊤) was one.0 [] [] mark is
+
+-- so one was that couldn't be sent
+abbrev pub HandsNowhere : Option Mark → Exchange ℕ → Exchange ℕ → Type 0
+HandsNowhere mark was is = HandsOver (λ before to bytes sent after. IsErr sent) was one.0 [] [] mark is
+
+-- one that has this message, and went out
+abbrev pub HandsWith : SentMessage → Exchange ℕ → Exchange ℕ → Type 0
+HandsWith message was is = HandsOver (λ before to bytes sent after. ⊤) was one.0 [] (message ∷ []) None is

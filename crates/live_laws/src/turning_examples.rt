@@ -13,10 +13,18 @@ ghost use Rattle.live_gateway.specs.declared.exchange.Exchange.{Exchange};
 ghost use Rattle.live_gateway.specs.Admitting.{is_heard};
 ghost use Rattle.live_gateway.specs.Answering.{IsActAnswer};
 ghost use Rattle.live_gateway.specs.Ending.{is_record_refused, IsCounted};
-ghost use Rattle.live_laws.specs.TurnExample.{one, lost_one, once, failed, LooksNowhere, FindsNothing, SendsNowhere, HandsAnywhere, EndsSaying, CountsStranger};
-ghost use Rattle.live_gateway.specs.Exchanging.{heard_in, mark_of, is_lost, faults_by, faultless, with_unreceived, IsTold, OnlySends, LosesOver};
+ghost use Rattle.live_laws.specs.TurnExample.{one, lost_one, once, failed, LooksNowhere, FindsNothing, SendsNowhere, HandsAnywhere, HandsNowhere, HandsWith, EndsSaying, CountsStranger};
+ghost use Rattle.live_gateway.specs.Exchanging.{heard_in, mark_of, is_lost, faults_by, faultless, with_unreceived, unsent_in, IsTold, OnlySends, Explains, Notes, LosesOver};
+ghost use Rattle.gateway_core.specs.Wire.{counted};
+ghost use Rattle.message_counts.specs.Counting.{counts_in};
+ghost use Rattle.message_counts.specs.Tallying.{with_handed_out};
+ghost use Rattle.page_board.specs.declared.ring.Kind.TheVariants.{Sent as OfSent};
+ghost use Rattle.plain_machine.specs.declared.label.SentMessage.{SentMessage};
+ghost use Rattle.told_messages.specs.Labelling.{sent_label};
+ghost use Rattle.told_messages.specs.Showing.{HappenedWith};
+ghost use Rattle.traces.specs.declared.telling.Mark.{Mark};
 ghost use Rattle.traces.specs.declared.telling.Mark.TheVariants.{Unsent, Lost};
-ghost use Rattle.live_gateway.specs.Leaving.{OnlyShows, OnlyPlays, OnlyTicks, OnlyLogs, OnlyHears, OnlyReplies, OnlyWaits, MayTake, DoesVisit};
+ghost use Rattle.live_gateway.specs.Leaving.{OnlyShows, OnlyTells, OnlyPlays, OnlyTicks, OnlyLogs, OnlyHears, OnlyReplies, OnlyWaits, MayTake, DoesVisit};
 ghost use Rattle.live_gateway.specs.Turning.{ready_at, RunsTurns};
 ghost use Rattle.surroundings.specs.Sending.{untold};
 ghost use Rattle.std.specs.Global.{Box};
@@ -89,11 +97,32 @@ pub fn what_an_exchange_gives_has_examples()
 
 /// What a gateway sends leaves what was read, and what couldn't be received; where a datagram goes out, or is lost, nothing fails.
 pub fn what_goes_over_an_exchange_has_examples()
-    ensures sent { (was is : Exchange ℕ) → OnlySends was is → (is.read ≡ was.read) × (is.faults.receive ≡ was.faults.receive) }
+    ensures count { unsent_in (Some Unsent ∷ None ∷ Some Lost ∷ Some Unsent ∷ []) ≡ 2 }
+    ensures sent { (was is : Exchange ℕ) → OnlySends (Some Unsent ∷ []) was is
+        → (is.faults.send ≡ counted was.faults.send 1) × (is.read ≡ was.read) × (is.faults.receive ≡ was.faults.receive) }
     ensures told { (gateway : GatewayState) (was is : Exchange ℕ) → IsTold was gateway is → is.faults ≡ was.faults }
+    ensures quiet { (gateway : GatewayState) (was is : Exchange ℕ) → gateway.outcomes ≡ [] → IsTold was gateway is
+        → counts_in is.journal.tally.value.texts ≡ counts_in was.journal.tally.value.texts }
     ensures gone { (was is : Exchange ℕ) → HandsAnywhere None was is → is.faults ≡ was.faults }
     ensures lost { (was is : Exchange ℕ) → HandsAnywhere (Some Lost) was is → is.faults ≡ was.faults }
-    ensures ticked { (was is : Desk ℕ ℕ) → OnlyTicks 5 was is → (is.exchange.now.clock ≡ 5) × (is.exchange.read ≡ was.exchange.read) }
+    ensures unsent { (was is : Exchange ℕ) → HandsAnywhere (Some Unsent) was is → is.faults.send ≡ counted was.faults.send 1 }
+    ensures handed { (mark : Option Mark) (was is : Exchange ℕ) → HandsAnywhere mark was is
+        → (is.journal.tally.value ≡ with_handed_out was.journal.tally.value) × (is.read ≡ was.read) × (is.now ≡ was.now) }
+    ensures marked { (mark : Option Mark) (was is : Exchange ℕ) → was.network ≡ None → is.network ≡ None → HandsNowhere mark was is
+        → mark ≡ Some Unsent }
+    ensures labelled { (message : SentMessage) (was is : Exchange ℕ) (board shown : Box BoardState) → was.journal.board ≡ Some board
+        → is.journal.board ≡ Some shown → HandsWith message was is
+        → HappenedWith was.now.clock OfSent one.0 [] (sent_label message ∷ []) board.value shown.value }
+    ensures ticked { (was is : Desk ℕ ℕ) → OnlyTicks 5 was is → is.exchange.now.clock ≡ 5 }
+{}
+
+/// Where an input was refused that is counted, and else the log alone changes.
+pub fn what_is_noted_has_examples()
+    ensures refused { (was is : Exchange ℕ) → Notes true was is
+        → (is.faults.refused ≡ counted was.faults.refused 1) × (is.journal.tally ≡ was.journal.tally) × (is.around ≡ was.around) }
+    ensures taken { (was is : Exchange ℕ) → Notes false was is → is.journal.log ≡ was.journal.log → is ≡ was }
+    ensures explained { (was is : Exchange ℕ) → Explains was is → is.journal.log ≡ was.journal.log → is ≡ was }
+    ensures answered { (was is : Exchange ℕ) → OnlyTells was is → is.around ≡ was.around → is.journal.board ≡ was.journal.board → is ≡ was }
 {}
 
 /// Visitors are held to what they said, and to their turns: where nobody can be served, nobody was; where nobody visits, none is ready.

@@ -1,3 +1,4 @@
+use Rattle.live_gateway.proofs.OverLemmas.{told_so}
 use Rattle.live_gateway.proofs.turn_parts.answer_act.Goals as goal
 
 pub returns-clause-answered : goal.returns-clause-answered
@@ -9,4 +10,8 @@ returns-clause-answered g c = (
     refused = c.act_answer-answer.ensures.refused;
   },
   c.answer.ensures.answered,
+  c.answered.ensures.shown,
 )
+
+pub returns-clause-rest : goal.returns-clause-rest
+returns-clause-rest g c = told_so c.args.exchange.now c.answered.new.self c.answer.new.around c.answered.ensures.rest

@@ -1,12 +1,22 @@
-use Rattle.std.proofs.Common.{ℕ, ap}
+use Rattle.std.proofs.Common.{ℕ, ◌∙◌, refl, ap}
+use Rattle.message_counts.specs.Counting.{counts_in, with_texts}
+use Rattle.message_counts.specs.declared.reporting.Faults.{Faults}
 use Rattle.live_gateway.specs.declared.exchange.Exchange.{Exchange}
+use Rattle.live_laws.proofs.TurnExampleLemmas.{nothing_is_sent, page_has_label}
 use Rattle.live_laws.proofs.turning_examples.what_goes_over_an_exchange_has_examples.Goals as goal
 
+pub returns-clause-count : goal.returns-clause-count
+returns-clause-count c = refl
+
 pub returns-clause-sent : goal.returns-clause-sent
-returns-clause-sent c = λ was is only. (only.read, only.receive)
+returns-clause-sent c = λ was is only. (only.send, only.read, only.receive)
 
 pub returns-clause-told : goal.returns-clause-told
 returns-clause-told c = λ gateway was is told. ap (λ (exchange : Exchange ℕ). exchange.faults) told.rest
+
+pub returns-clause-quiet : goal.returns-clause-quiet
+returns-clause-quiet c = λ gateway was is none told.
+    told.texts ∙ ap (λ outcomes. with_texts (counts_in was.journal.tally.value.texts) outcomes) none
 
 pub returns-clause-gone : goal.returns-clause-gone
 returns-clause-gone c = λ was is hands. hands.faults
@@ -14,5 +24,17 @@ returns-clause-gone c = λ was is hands. hands.faults
 pub returns-clause-lost : goal.returns-clause-lost
 returns-clause-lost c = λ was is hands. hands.faults
 
+pub returns-clause-unsent : goal.returns-clause-unsent
+returns-clause-unsent c = λ was is hands. ap (λ (faults : Faults). faults.send) hands.faults
+
+pub returns-clause-handed : goal.returns-clause-handed
+returns-clause-handed c = λ mark was is hands. (hands.counted, hands.rest.0, hands.rest.1.0)
+
+pub returns-clause-marked : goal.returns-clause-marked
+returns-clause-marked c = nothing_is_sent
+
+pub returns-clause-labelled : goal.returns-clause-labelled
+returns-clause-labelled c = page_has_label
+
 pub returns-clause-ticked : goal.returns-clause-ticked
-returns-clause-ticked c = λ was is only. (only.1, only.2.read)
+returns-clause-ticked c = λ was is only. only.1

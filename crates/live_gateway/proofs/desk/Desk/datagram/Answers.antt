@@ -4,7 +4,7 @@ use Rattle.live_play.specs.Coming.{Came}
 use Rattle.live_gateway.specs.Desk.{Standing, at_desk}
 use Rattle.live_gateway.proofs.DeskLemmas.{standing_of, counted_so, hears_nobody, hears}
 use Rattle.live_gateway.proofs.HearingLemmas.{heard_still}
-use Rattle.live_gateway.proofs.OverLemmas.{sends_tried, sends_noted}
+use Rattle.live_gateway.proofs.OverLemmas.{explained_then}
 use Rattle.live_gateway.proofs.TurningLemmas.{tries}
 use Rattle.live_gateway.proofs.desk.Desk.datagram.Goals as goal
 
@@ -45,9 +45,6 @@ returns-clause-looked g c =
     let noted = counted_so told traffic c.datagram-done.new.self c.datagram-done.new.out c.note_taken.new.exchange (not (is_ok c.datagram-done.result))
     (c.note_taken.ensures.network ∙ c.note_datagram.ensures.network) (ap traffic (c.note_taken.ensures.around ∙ c.note_datagram.ensures.around))
     (rw (c.is_ok-is_taken.ensures.value, c.note_datagram.ensures.faults) at c.note_taken.ensures.refused) in
-    let sent = sends_tried g.S.Surroundings.sends c.datagram-done.result _ _ c.receive.new.self c.datagram-done.new.out _ _ c.datagram-done.ensures.outlet
-    c.datagram-done.ensures.untouched in
-    let explained = sends_noted c.receive.new.self _ c.datagram-done.new.out c.note_datagram.new.exchange refl (refl, refl) refl sent c.note_datagram.ensures.notes in
     record {
       found = Some (c.in-Some.source, c.in-Some.len);
       room = c.receive.new.room;
@@ -57,11 +54,14 @@ returns-clause-looked g c =
       tried = (
         c.in-Some.ensures.admitted,
         ap (λ (s : Standing). s.came.received) noted ∙ ap (λ (x : Came). x.received) same,
-        sends_noted c.receive.new.self _ c.note_datagram.new.exchange c.note_taken.new.exchange refl (refl, refl) refl explained c.note_taken.ensures.notes,
-        tries _ _ c.datagram-done.result (at_desk told traffic c.args.self.now)
+        tries g.S.Surroundings.sends _ _ c.datagram-done.result (at_desk told traffic c.args.self.now)
             (standing_of told traffic c.datagram-done.new.self c.datagram-done.new.out) _
-            (rw (c.receive.ensures.handed) at c.datagram-done.ensures.taken)
+            c.receive.new.self c.datagram-done.new.out c.note_taken.new.exchange
+            (rw (c.receive.ensures.handed) at c.datagram-done.ensures.outlet)
+            c.datagram-done.ensures.untouched
             (rw (c.receive.ensures.handed) at c.datagram-done.ensures.refused)
+            (explained_then _ _ c.note_datagram.new.exchange _ c.note_datagram.ensures.notes
+            (rw (c.is_ok-is_taken.ensures.value) at c.note_taken.ensures.notes))
             (ap (λ (x : Came). x.refused) same ∙ c.receive.ensures.refused)
             noted,
       );

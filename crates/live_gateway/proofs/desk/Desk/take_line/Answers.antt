@@ -7,7 +7,7 @@ use Rattle.live_gateway.specs.Desk.{at_desk}
 use Rattle.live_gateway.specs.Exchanging.{handed_by}
 use Rattle.live_gateway.proofs.DeskLemmas.{standing_of, counted_so, acts, asks, line_is_quiet, line_is_still, line_is_line}
 use Rattle.live_gateway.proofs.LineLemmas.{taken_free}
-use Rattle.live_gateway.proofs.OverLemmas.{sends_tried, sends_noted}
+use Rattle.live_gateway.proofs.OverLemmas.{shown_so}
 use Rattle.live_gateway.proofs.AnsweringLemmas.{tries_act, asks_of}
 use Rattle.live_gateway.proofs.desk.Desk.take_line.Goals as goal
 
@@ -71,10 +71,6 @@ returns-in-Act-clause-line g c =
     let told = g.T.Teller.told in
     let traffic = g.S.Surroundings.traffic in
     let answered = c.answer_act.ensures.answered in
-    let was = c.args.self.now.exchange in
-    let sent = sends_tried g.S.Surroundings.sends c.act-done.result _ _ _ c.act-done.new.out _ _ c.act-done.ensures.outlet
-    c.act-done.ensures.untouched in
-    let noted = sends_noted was _ c.act-done.new.out c.note_taken.new.exchange refl (refl, refl) refl sent c.note_taken.ensures.notes in
     inr (
       c.in-Some.text.now,
       AsksAct c.in-Act.line c.in-Act.act,
@@ -86,25 +82,32 @@ returns-in-Act-clause-line g c =
         asked = c.in-Act.ensures.request;
         memory = c.in-Act.ensures.memory;
       },
-      (
-        c.note_taken.new.exchange.around,
-        answered.0,
-        record {
-          answered = answered.2;
-          left = c.answer_act.ensures.left;
-          sender = c.answer_act.ensures.sender;
-        },
-        c.answer_act.ensures.traffic,
-        tries_act _ _ _ c.act-done.result _ answered.0 (at_desk told traffic c.args.self.now)
+      record {
+        asked = record c.args.self.now.exchange { journal = c.act.new.self };
+        done = c.note_taken.new.exchange;
+        answer = answered.0;
+        before = shown_so c.args.self.now.exchange c.act.new.self c.act.ensures.rest;
+        shown = c.act.ensures.shown;
+        tries = tries_act g.S.Surroundings.sends _ _ _ c.act-done.result _ answered.0 (at_desk told traffic c.args.self.now)
             (standing_of told traffic c.act-done.new.self c.act-done.new.out) _
-            c.act-done.ensures.taken
+            (record c.args.self.now.exchange { journal = c.act.new.self }) c.act-done.new.out c.note_taken.new.exchange
+            c.act-done.ensures.outlet
+            c.act-done.ensures.untouched
             c.act-done.ensures.refused
+            (rw (c.is_ok.ensures.value) at c.note_taken.ensures.notes)
             (ap (λ (x : Came). x.refused) c.act-done.ensures.came)
             (counted_so told traffic c.act-done.new.self c.act-done.new.out c.answer_act.new.exchange _
             (c.answer_act.ensures.network ∙ c.note_taken.ensures.network) (c.answer_act.ensures.traffic ∙ ap traffic c.note_taken.ensures.around)
             (ap (λ (x : Faults). x.refused) c.answer_act.ensures.faults ∙ (rw (c.is_ok.ensures.value) at c.note_taken.ensures.refused)))
-            (rw (c.printed-printed.ensures) at answered.1),
-        sends_noted was was c.note_taken.new.exchange c.answer_act.new.exchange refl (refl, refl) refl noted c.answer_act.ensures.notes,
-        refl,
-      ),
+            (rw (c.printed-printed.ensures) at answered.1);
+        says = record {
+          answered = answered.2;
+          left = c.answer_act.ensures.left;
+          sender = c.answer_act.ensures.sender;
+        };
+        kept = c.answer_act.ensures.traffic;
+        told_so = answered.3;
+        behind = c.answer_act.ensures.rest;
+        rest = refl;
+      },
     )
