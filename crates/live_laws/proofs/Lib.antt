@@ -4,6 +4,7 @@ pub mod PieceLaws
 pub mod ReplayLaws
 pub mod HearingLaws
 pub mod LiveLaws
+pub mod HandedLaws
 pub mod Computing
 pub mod TurnExampleLemmas
 pub mod WayExampleLemmas

@@ -1,4 +1,5 @@
 pub mod Replay
 pub mod Example
+pub mod Handed
 pub mod TurnExample
 pub mod WayExample

@@ -11,6 +11,7 @@ ghost use Rattle.live_play.specs.Running.{Live, Ran, AreInPlace, sent_of};
 pub mod desks;
 pub mod lines;
 pub mod live;
+pub mod messages;
 pub mod replays;
 pub mod shown;
 pub mod ticks;
