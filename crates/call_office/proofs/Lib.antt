@@ -1,3 +1,4 @@
 pub mod Computing
+pub mod ShowingLemmas
 pub mod TurnLemmas
 pub mod WaitingLemmas

@@ -7,12 +7,13 @@ ghost use Rattle.call_routing.specs.declared.told.Told.TheVariants.{Flash};
 ghost use Rattle.call_routing.specs.declared.command.Outcome.TheVariants.{GivenUp};
 ghost use Rattle.call_routing.specs.Exchange.{opening, phase_of, flight_in, line_of, told, due, sent_to};
 ghost use Rattle.call_routing.specs.Numbers.{told_in};
+ghost use Rattle.agent_texts.specs.Standings.{with_change};
 ghost use Rattle.agent_texts.specs.Telling.{change_told, Tells};
 ghost use Rattle.call_office.specs.declared.care.Duty.TheVariants.{Clear, Audit};
 ghost use Rattle.call_office.specs.Duties.{new_care, landed, lost, announced, told_of, woken, changed_by};
 ghost use Rattle.call_office.specs.Hooks.{notified};
 ghost use Rattle.call_office.specs.Orders.{shown, duty_of, flight_of, was_found_off, is_outlived, has_told, again_of, is_put_off_in, cared, routed, ordered};
-ghost use Rattle.call_office.specs.Showing.{shown_in, Shows};
+ghost use Rattle.call_office.specs.Showing.{shown_in, Shows, ShowsLine};
 ghost use Rattle.call_office.specs.Turns.{forsaken, heard_by, announced_by, outcome_with, told_by_audit, kept_behind, cleared_by, Routes, TakesAudit, AnswersAudit, TakesResponse, TakesAnswer};
 ghost use Rattle.call_office.specs.Steps.{landed_if, Begins, Hears};
 ghost use Rattle.call_office.specs.Waiting.{waits, settling, settled_at, Settles};
@@ -453,8 +454,10 @@ fn tell_standing(
     was: Standing,
     is: Standing,
 )
-    ensures same { was ≡ is → journal.new.told ≡ journal.old.told }
+    ensures same { was ≡ is → journal.new ≡ journal.old }
     ensures changed { was ≢ is → Tells (change_told stations.now line was is) journal.old.told journal.new.told }
+    ensures counted { was ≢ is → journal.new.tally ≡ with_change was is journal.old.tally }
+    ensures rest { journal.new ≡ record journal.old { told = journal.new.told; tally = journal.new.tally } }
 {
     if stands_so(was, is) {
         return;
@@ -684,8 +687,7 @@ impl Office {
 
     /// Tells and counts how the line stands, and tells what it refuses for good, where that has changed.
     pub fn show(&mut self, alloc: Global, journal: &mut Journal, stations: &[Station], line: usize)
-        ensures told { IfSome (slice_get self.old.cares.items line) (λ care.
-            Shows stations.now line care.shown (shown_in self.old.exchange line) journal.old journal.new) }
+        ensures told { ShowsLine stations.now line self.old.exchange (slice_get self.old.cares.items line) journal.old journal.new }
         ensures cares { self.new.cares.items ≡ cared (told_of (shown_in self.old.exchange line)) self.old.cares.items line }
         ensures exchange { self.new.exchange ≡ self.old.exchange }
         ensures rest { self.new ≡ record self.old { cares = self.new.cares } }

@@ -6,13 +6,16 @@ ghost use Rattle.std.specs.Global.{Box};
 ghost use Rattle.call_routing.specs.Exchange.{opening, sent_to, told, answered};
 ghost use Rattle.agent_texts.specs.declared.journal.Journal.{Journal};
 ghost use Rattle.agent_texts.specs.declared.station.Station.{Station};
+ghost use Rattle.agent_texts.specs.Standings.{with_change};
 ghost use Rattle.call_office.specs.declared.care.Duty.TheVariants.{Audit};
+ghost use Rattle.call_office.specs.declared.care.Shown.{Shown};
 ghost use Rattle.call_office.specs.declared.office.Office.{Office};
 ghost use Rattle.call_office.specs.Duties.{begun, new_care, owed, told_care, told_of};
-ghost use Rattle.call_office.specs.Showing.{ShowsIn, shown_in};
+ghost use Rattle.call_office.specs.Showing.{Shows, ShowsIn, shown_in};
 ghost use Rattle.call_office.specs.Steps.{Begins, Forgets, Hears, ToldOf};
 ghost use Rattle.call_office.specs.Example.{audited, cleared, creating, found_off};
 
+use agent_texts::Standing;
 use call_routing::{Outcome, Told};
 
 /// What becomes of a line.
@@ -44,6 +47,14 @@ pub fn what_is_shown_has_examples()
     ensures none { (stations : List Station) (office : Option (Box Office)) (journal : Journal) →
         ShowsIn stations None office journal journal }
     ensures no_exchange { (stations : List Station) (journal : Journal) → ShowsIn stations (Some 0) None journal journal }
-    ensures no_line { (stations : List Station) (office : Box Office) (journal now : Journal) → office.value.cares.items ≡ [] →
-        ShowsIn stations (Some 0) (Some office) journal now }
+    ensures no_line { (stations : List Station) (office : Box Office) (journal : Journal) → office.value.cares.items ≡ [] →
+        ShowsIn stations (Some 0) (Some office) journal journal }
+    // It counts where it stands otherwise, and only there; nothing but what is told and counted has changed.
+    ensures same { (stations : List Station) (shown : Shown) (journal now : Journal) → Shows stations 0 shown shown journal now →
+        now.tally ≡ journal.tally }
+    ensures dials { (stations : List Station) (shown : Shown) (journal now : Journal) →
+        Shows stations 0 (record shown { standing = Standing.Rest }) (record shown { standing = Standing.Dialling }) journal now →
+        now.tally ≡ with_change Standing.Rest Standing.Dialling journal.tally }
+    ensures log { (stations : List Station) (was is : Shown) (journal now : Journal) → Shows stations 0 was is journal now →
+        now.log ≡ journal.log }
 {}

@@ -7,7 +7,6 @@ pub mod FlightLemmas
 pub mod GivingUpLemmas
 pub mod HearingLemmas
 pub mod IssueLemmas
-pub mod ShowingLemmas
 pub mod StepExampleLemmas
 pub mod TakingLemmas
 pub mod TypedCommandLemmas
