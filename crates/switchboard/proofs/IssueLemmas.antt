@@ -1,13 +1,16 @@
 -- What is issued to a line, by its station and its gateway.
-use Rattle.std.proofs.Common.{◌≡◌, ℕ, List, [], ◌∷◌, Option, Some, Ok, Result, sym, subst}
+use Rattle.std.proofs.Common.{◌≡◌, ℕ, List, [], ◌∷◌, Option, Some, None, Ok, Result, inl, inr, refl, sym, subst}
+use Rattle.std.proofs.lemmas.Option.{same_Some}
 use Rattle.std.specs.Prelude.{IfOk, slice_get}
 use Rattle.call_agent.specs.declared.issuing.Issued.{Issued}
 use Rattle.call_agent.specs.declared.issuing.IssueFault.{IssueFault}
-use Rattle.call_agent.specs.AgentStands.{AgentTook}
+use Rattle.call_agent.specs.declared.issuing.IssueFault.TheVariants.{OutOfMemory, NoMoreIds, BadCommand}
+use Rattle.call_agent.specs.AgentStands.{AgentTook, IssueEnds}
 use Rattle.call_agent.specs.Hearing.{issues}
+use Rattle.call_agent.specs.Issuing.{IssueRefusal, no_more_ids, bad_command}
 use Rattle.switchboard.specs.declared.gateway.Gateway.{Gateway}
 use Rattle.switchboard.specs.declared.switchboard.Switchboard.{Switchboard}
-use Rattle.switchboard.specs.Issuing.{Flies, IssuesOrder, IssuesTo, IssuesUnder, SendsAlone}
+use Rattle.switchboard.specs.Issuing.{Fails, FailsBy, Flies, IssuesOrder, IssuesTo, IssuesUnder, SendsAlone}
 use Rattle.call_office.specs.Orders.{Shown}
 
 -- a command was issued under a name with what stands behind its line, by these texts
@@ -46,3 +49,21 @@ pub sent_alone : (line : ℕ) (was ordering issuing is : Switchboard) → orderi
 sent_alone line was ordering issuing is rest alone same =
     subst (λ (are : List Gateway). SendsAlone (slice_get was.stations.items line) was.gateways.items are) (sym same)
     (subst (λ (board : Switchboard). SendsAlone (slice_get board.stations.items line) board.gateways.items issuing.gateways.items) rest alone)
+
+-- memory is refused for it
+pub for_memory : (refusal : Option IssueRefusal) → FailsBy refusal OutOfMemory
+for_memory None = refl
+for_memory (Some no_more_ids) = inr refl
+for_memory (Some bad_command) = inr refl
+
+-- its agent says why it doesn't issue it
+pub fails_so : (refusal : Option IssueRefusal) (fault : IssueFault) → IssueEnds refusal (Some fault) → FailsBy refusal fault
+fails_so None fault ends = ends
+fails_so (Some no_more_ids) fault ends = inl (same_Some fault NoMoreIds ends)
+fails_so (Some bad_command) fault (inl ends) = inl (same_Some fault BadCommand ends)
+fails_so (Some bad_command) fault (inr ends) = inr (same_Some fault OutOfMemory ends)
+
+-- under a name that was put together before
+pub fails_under : (verb given name rest : List ℕ) (fault : IssueFault) (gateway : Gateway) → given ≡ name → Fails verb given rest fault gateway
+    → Fails verb name rest fault gateway
+fails_under verb given name rest fault gateway name_is fails = subst (λ (text : List ℕ). Fails verb text rest fault gateway) name_is fails

@@ -6,8 +6,10 @@ use Rattle.outbound.specs.Flight.{sent_first}
 use Rattle.transmission.specs.Texts.{largest_datagram}
 use Rattle.call_agent.specs.declared.issuing.Issued.{Issued}
 use Rattle.call_agent.specs.declared.issuing.IssueFault.{IssueFault}
-use Rattle.call_agent.specs.AgentStands.{AgentTook}
-use Rattle.call_agent.specs.Hearing.{issues}
+use Rattle.call_agent.specs.declared.issuing.IssueFault.TheVariants.{OutOfMemory, NoMoreIds, BadCommand}
+use Rattle.call_agent.specs.AgentStands.{AgentStands, AgentTook}
+use Rattle.call_agent.specs.Hearing.{AgentEvent, issues, plain_agent}
+use Rattle.call_agent.specs.Issuing.{IssueRefusal, no_more_ids, bad_command, issue_refusal}
 use Rattle.agent_texts.specs.declared.station.Station.{Station}
 use Rattle.switchboard.specs.declared.flight.Flight.{Flight}
 use Rattle.switchboard.specs.declared.gateway.Gateway.{Gateway}
@@ -28,6 +30,18 @@ Flies line issued was is =
     (flight : Flight) × (flight.line ≡ line) × (flight.pending
     ≡ sent_first issued.id (One was.address) (take largest_datagram issued.datagram.bytes) was.ticked)
     × (is.flights.items ≡ was.flights.items ++ flight ∷ [])
+
+-- Why an agent doesn't issue a command: for its own reason, if it has one; or memory is refused, whatever reason it has.
+abbrev pub FailsBy : Option IssueRefusal → IssueFault → Type 0
+FailsBy None fault = fault ≡ OutOfMemory
+FailsBy (Some no_more_ids) fault = (fault ≡ NoMoreIds) ⊎ (fault ≡ OutOfMemory)
+FailsBy (Some bad_command) fault = (fault ≡ BadCommand) ⊎ (fault ≡ OutOfMemory)
+
+-- so that of a gateway doesn't, by each list of events that it stands for
+abbrev pub Fails : List ℕ → List ℕ → List ℕ → IssueFault → Gateway → Type 0
+Fails verb name rest fault gateway =
+    (events : List AgentEvent) → AgentStands gateway.agent.value events
+    → FailsBy (issue_refusal (plain_agent gateway.agent.value.setup events) verb name rest) fault
 
 -- the agent of a gateway issues a command under a name, with this verb and this behind its line; it is in flight to this line
 abbrev pub IssuesUnder : List ℕ → Shown → ℕ → Result Issued IssueFault → Gateway → Gateway → Type 0

@@ -1,20 +1,28 @@
 -- What a command is to a board that was typed: who issues it.
-use Rattle.std.specs.Prelude.{◌≡◌, ◌⊎◌, ℕ, List, [], ◌∷◌, ◌++◌, Option, Some, None, IsSomeAnd, Result, Ok, Err, slice_get}
+use Rattle.std.specs.Prelude.{◌≡◌, ℕ, List, [], ◌∷◌, ◌++◌, Option, Some, None, IsSomeAnd, Result, Ok, Err, slice_get}
 use Rattle.call_agent.specs.declared.issuing.Issued.{Issued}
+use Rattle.call_agent.specs.declared.issuing.IssueFault.{IssueFault}
+use Rattle.call_agent.specs.declared.issuing.IssueFault.TheVariants as faults
 use Rattle.call_agent.specs.AgentStands.{AgentStays, AgentTook}
 use Rattle.call_agent.specs.Hearing.{issues}
 use Rattle.switchboard.specs.declared.gateway.Gateway.{Gateway}
 use Rattle.switchboard.specs.declared.switchboard.Switchboard.{Switchboard}
 use Rattle.switchboard.specs.declared.typed.TypedFault.{TypedFault}
 use Rattle.switchboard.specs.declared.typed.TypedFault.TheVariants.{OutOfMemory, NoMoreIds, BadCommand, NoSuchGateway, Unknown}
-use Rattle.switchboard.specs.Issuing.{Flies}
+use Rattle.switchboard.specs.Issuing.{Fails, Flies}
 use Rattle.switchboard.specs.Meaning.{meant}
 use Rattle.switchboard.specs.Steps.{OthersStay, Sends}
 use Rattle.switchboard.specs.Typed.{Command, typed_in}
 
--- for these reasons the agent of a gateway issues none: memory is refused, all ids were used up, or it is no command
-abbrev pub IsOfAgent : TypedFault → Type 0
-IsOfAgent fault = (fault ≡ OutOfMemory) ⊎ ((fault ≡ NoMoreIds) ⊎ (fault ≡ BadCommand))
+-- what an agent's fault is to who typed
+abbrev pub typed_fault : IssueFault → TypedFault
+typed_fault faults.OutOfMemory = OutOfMemory
+typed_fault faults.NoMoreIds = NoMoreIds
+typed_fault faults.BadCommand = BadCommand
+
+-- The agent of a gateway issues no command under this name: all ids were used up, or it is none; or memory is refused, whatever it is.
+abbrev pub IsOfAgent : List ℕ → List ℕ → List ℕ → Gateway → TypedFault → Type 0
+IsOfAgent verb name rest gateway fault = (reason : IssueFault) × (fault ≡ typed_fault reason) × Fails verb name rest reason gateway
 
 -- It is issued by the agent of this gateway, under the name with the gateway's domain, and is in flight to no line; or it isn't, and
 -- nothing of it is in flight.
@@ -22,7 +30,8 @@ abbrev pub IssuesNamed : List ℕ → List ℕ → List ℕ → Result Issued Ty
 IssuesNamed verb local rest (Ok issued) was is =
     AgentTook was.agent.value (issues verb (local ++ 64 ∷ was.domain) rest) is.agent.value (issued.datagram ∷ []) × Flies None issued was is
 IssuesNamed verb local rest (Err fault) was is =
-    IsOfAgent fault × AgentStays was.agent.value is.agent.value × (is.flights.items ≡ was.flights.items)
+    IsOfAgent verb (local ++ 64 ∷ was.domain) rest was fault × AgentStays was.agent.value is.agent.value
+    × (is.flights.items ≡ was.flights.items)
 
 -- No other gateway has changed, nor anything else of the board. Where there is no such gateway it is refused for that.
 abbrev pub IssuesThere : ℕ → List ℕ → List ℕ → List ℕ → Option Gateway → Result Issued TypedFault → Switchboard → Switchboard → Type 0

@@ -1,5 +1,5 @@
 //! A gateway that a call agent works with.
-ghost use Rattle.std.specs.Prelude.{◌≡◌, ◌<◌, ◌≤◌, [], ◌∷◌, ◌++◌, None, IfOk, OnOk, OnErr, length, remove, slice_get, vec_len};
+ghost use Rattle.std.specs.Prelude.{◌≡◌, ◌<◌, ◌≤◌, [], ◌∷◌, ◌++◌, None, IfErr, IfOk, OnOk, OnErr, length, remove, slice_get, vec_len};
 ghost use Rattle.std.specs.Vec.{vec_capacity};
 ghost use Rattle.endpoint_names.specs.declared.route.Route.TheVariants as routes;
 ghost use Rattle.plain_machine.specs.Event.{tick};
@@ -10,7 +10,7 @@ ghost use Rattle.switchboard.specs.AgentClock.{first_id, tick_to};
 ghost use Rattle.switchboard.specs.Announcing.{is_new, last_new};
 ghost use Rattle.switchboard.specs.Dues.{FallsDueAt};
 ghost use Rattle.switchboard.specs.Ended.{asked_in, first_ended, is_ended_in, still_flying};
-ghost use Rattle.switchboard.specs.Issuing.{Flies};
+ghost use Rattle.switchboard.specs.Issuing.{Fails, Flies};
 ghost use Rattle.switchboard.specs.Wakes.{first_moment, first_woken, behind_woken};
 
 use crate::flight::Flight;
@@ -226,7 +226,8 @@ impl Gateway {
     }
 
     /// Issues a command; to the line at this place, where an exchange sends it. It is in flight from now on, and this is sent. After an
-    /// error nothing was issued, and nothing is to be sent: room for what is in flight is made before.
+    /// error nothing was issued, and nothing is to be sent: room for what is in flight is made before, so want of memory comes before any
+    /// other reason.
     pub(crate) fn issue(
         &mut self,
         alloc: Global,
@@ -239,6 +240,7 @@ impl Gateway {
             (issued.datagram ∷ [])) }
         ensures flight { IfOk result (λ issued. Flies line issued self.old self.new) }
         ensures err { OnErr result (AgentStays self.old.agent.value self.new.agent.value) }
+        ensures fails { IfErr result (λ fault. Fails verb.now name.now rest.now fault self.old) }
         ensures none_flies { OnErr result (self.new.flights.items ≡ self.old.flights.items) }
         ensures others { self.new ≡ record self.old { agent = self.new.agent; flights = self.new.flights } }
     {
@@ -246,7 +248,10 @@ impl Gateway {
             Ok(room) => room,
             Err(_) => return Err(IssueFault::OutOfMemory),
         };
-        let issued = self.agent.issue(verb, name, rest)?;
+        let issued = match self.agent.issue(verb, name, rest) {
+            Ok(issued) => issued,
+            Err(fault) => return Err(fault),
+        };
         let flight = Flight::begin(room, &issued, line);
         self.flights.push_reserved(flight);
         Ok(issued)

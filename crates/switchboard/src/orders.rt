@@ -4,7 +4,7 @@ ghost use Rattle.switchboard.specs.Boards.{Answers};
 ghost use Rattle.switchboard.specs.Issuing.{IssuesUnder};
 ghost use Rattle.call_office.specs.Orders.{shown};
 ghost use Rattle.switchboard.specs.Steps.{Sends};
-ghost use Rattle.switchboard.specs.TypedCommands.{IssuesNamed};
+ghost use Rattle.switchboard.specs.TypedCommands.{typed_fault, IssuesNamed};
 
 use crate::gateway::Gateway;
 use crate::naming::whole_name;
@@ -30,6 +30,17 @@ pub(crate) fn issue_by(
     gateway.issue(alloc, order.verb, name, rest, Some(line))
 }
 
+// What an agent's fault is to who typed.
+fn typed_fault(fault: IssueFault) -> TypedFault
+    ensures { result ≡ typed_fault fault }
+{
+    match fault {
+        IssueFault::OutOfMemory => TypedFault::OutOfMemory,
+        IssueFault::NoMoreIds => TypedFault::NoMoreIds,
+        IssueFault::BadCommand => TypedFault::BadCommand,
+    }
+}
+
 /// Issues a command that was typed for a gateway, under a name without its domain.
 pub(crate) fn issue_named(
     alloc: Global,
@@ -46,9 +57,7 @@ pub(crate) fn issue_named(
     };
     match gateway.issue(alloc, verb, name.as_slice(), rest, None) {
         Ok(issued) => Ok(issued),
-        Err(IssueFault::OutOfMemory) => Err(TypedFault::OutOfMemory),
-        Err(IssueFault::NoMoreIds) => Err(TypedFault::NoMoreIds),
-        Err(IssueFault::BadCommand) => Err(TypedFault::BadCommand),
+        Err(fault) => Err(typed_fault(fault)),
     }
 }
 

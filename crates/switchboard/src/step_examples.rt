@@ -15,19 +15,23 @@ ghost use Rattle.outbound.specs.Flight.{InFlight, sent_first};
 ghost use Rattle.transmission.specs.Texts.{largest_datagram};
 ghost use Rattle.call_agent.specs.declared.issuing.Issued.{Issued};
 ghost use Rattle.call_agent.specs.declared.issuing.IssueFault.{IssueFault};
+ghost use Rattle.call_agent.specs.declared.issuing.IssueFault.TheVariants as faults;
+ghost use Rattle.call_agent.specs.Issuing.{no_more_ids, bad_command};
 ghost use Rattle.call_agent.specs.AgentStands.{AgentStands};
 ghost use Rattle.call_agent.specs.Hearing.{AgentEvent, plain_agent};
 ghost use Rattle.agent_texts.specs.declared.station.Station.{Station};
 ghost use Rattle.switchboard.specs.Boards.{Answers};
 ghost use Rattle.switchboard.specs.Dues.{FallsDue, FallsDueAt};
 ghost use Rattle.call_office.specs.Duties.{announced, begun, fixed_order, lost, new_care, outlived, owed};
-ghost use Rattle.switchboard.specs.Issuing.{ordered_in, Flies, IssuesOrder, IssuesSettled, IssuesTo, SendsAlone, SendsAtMost};
+ghost use Rattle.switchboard.specs.Issuing.{ordered_in, FailsBy, Flies, IssuesOrder, IssuesSettled, IssuesTo, SendsAlone, SendsAtMost};
 ghost use Rattle.call_office.specs.Orders.{Shown, routed};
 ghost use Rattle.call_office.specs.Steps.{Forgets};
 ghost use Rattle.switchboard.specs.Steps.{Announces, AnnouncesTo, IssuesAt, OfOffice, OthersStay, Ticks, Wakens, settled_in};
+ghost use Rattle.switchboard.specs.TypedCommands.{typed_fault, IssuesCommand, IssuesMeant, IssuesThere};
 ghost use Rattle.call_office.specs.Example.{audited, creating, deleted_later, deleted_now};
 ghost use Rattle.switchboard.specs.Example.{wake_at};
 
+use crate::typed::TypedFault;
 use call_routing::Told;
 use endpoint_names::Pattern;
 
@@ -118,4 +122,25 @@ pub fn what_a_line_is_sent_has_examples()
     ensures none_issued { (station : Station) (gateways : List Gateway) → SendsAlone (Some station) gateways gateways }
     ensures others { (one two three other : Gateway) → OthersStay 1 (one ∷ two ∷ three ∷ []) (one ∷ other ∷ three ∷ []) }
     ensures none_there { (one : Gateway) → OthersStay 1 (one ∷ []) (one ∷ []) }
+{}
+
+/// Who issues a command that was typed, and why it isn't.
+pub fn what_a_typed_command_means_has_examples()
+    // What isn't a verb and a name is refused for that, and so is what means no gateway; then nothing of the board has changed.
+    ensures unknown { (board : Switchboard) → IssuesCommand None (Err TypedFault.Unknown) board board }
+    ensures no_gateway { (board : Switchboard) → IssuesMeant [] [] None (Err TypedFault.NoSuchGateway) board board }
+    ensures not_there { (board : Switchboard) → IssuesThere 3 [] [] [] None (Err TypedFault.NoSuchGateway) board board }
+    // Who typed is told the agent's own reason.
+    ensures memory { typed_fault faults.OutOfMemory ≡ TypedFault.OutOfMemory }
+    ensures ids { typed_fault faults.NoMoreIds ≡ TypedFault.NoMoreIds }
+    ensures bad { typed_fault faults.BadCommand ≡ TypedFault.BadCommand }
+    // Where that has none memory was refused; else it is that one, or memory was refused before.
+    ensures no_reason { FailsBy None faults.OutOfMemory }
+    ensures only_memory { FailsBy None faults.NoMoreIds → ⊥ }
+    ensures used_up { FailsBy (Some no_more_ids) faults.NoMoreIds }
+    ensures used_up_without_memory { FailsBy (Some no_more_ids) faults.OutOfMemory }
+    ensures not_bad { FailsBy (Some no_more_ids) faults.BadCommand → ⊥ }
+    ensures no_command { FailsBy (Some bad_command) faults.BadCommand }
+    ensures no_command_without_memory { FailsBy (Some bad_command) faults.OutOfMemory }
+    ensures ids_left { FailsBy (Some bad_command) faults.NoMoreIds → ⊥ }
 {}
