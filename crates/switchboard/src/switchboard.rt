@@ -1,8 +1,9 @@
 //! The gateways that a call agent works with, and their lines.
-ghost use Rattle.std.specs.Prelude.{◌≡◌, ◌∷◌, ◌++◌, true, false, IfOk, is_err, is_ok, is_some, length, option_map, position, slice_get};
+ghost use Rattle.std.specs.Prelude.{◌≡◌, ◌∷◌, ◌++◌, true, false, List, IfOk, OnErr, is_err, is_ok, is_some, length, option_map, position, slice_get};
+ghost use Rattle.std.specs.Result.{result_err};
 ghost use Rattle.plain_machine.specs.Event.{datagram, tick};
-ghost use Rattle.call_agent.specs.Hearing.{hears};
-ghost use Rattle.call_agent.specs.AgentStands.{AgentTook};
+ghost use Rattle.call_agent.specs.Hearing.{AgentEnds, AgentEvent, hears, plain_agent};
+ghost use Rattle.call_agent.specs.AgentStands.{AgentStands, AgentStays, AgentTook};
 ghost use Rattle.agent_texts.specs.Counts.{with_given_up, with_notification, with_strange_name};
 ghost use Rattle.switchboard.specs.AgentClock.{tick_to};
 ghost use Rattle.switchboard.specs.Boards.{is_at, settling_in, SettlesIn, taking_in, woken_at, WakesIn};
@@ -237,7 +238,7 @@ impl Switchboard {
         }
     }
 
-    /// The agent of the gateway at this place hears a datagram: what is sent.
+    /// The agent of the gateway at this place hears a datagram: what is sent. After an error it stands for what it did before.
     pub fn step(
         &mut self,
         place: usize,
@@ -247,6 +248,12 @@ impl Switchboard {
         ensures took { AtPlace place (λ was is. IfOk result (λ outputs.
             AgentTook was.agent.value (hears (datagram source bytes.now)) is.agent.value outputs))
             self.old.gateways.items self.new.gateways.items }
+        ensures err { AtPlace place (λ was is. OnErr result (AgentStays was.agent.value is.agent.value))
+            self.old.gateways.items self.new.gateways.items }
+        ensures ends { AtPlace place (λ was is. (events : List AgentEvent) → AgentStands was.agent.value events
+            → AgentEnds (plain_agent was.agent.value.setup events) (datagram source bytes.now) (result_err result))
+            self.old.gateways.items self.new.gateways.items }
+        ensures own { AtPlace place (λ was is. is ≡ record was { agent = is.agent }) self.old.gateways.items self.new.gateways.items }
         ensures office { self.new.office ≡ self.old.office }
         ensures others { OthersStay place self.old.gateways.items self.new.gateways.items }
         ensures rest { self.new ≡ record self.old { gateways = self.new.gateways } }
@@ -258,11 +265,16 @@ impl Switchboard {
     }
 
     /// The clock of the agent of the gateway at this place goes on to this moment (in ms), but by no more than a second: what is sent.
+    /// After an error it stands still, and the agent stands for what it did before.
     pub fn tick(&mut self, place: usize, moment: u64) -> Result<Outputs, Refusal>
         ensures took { AtPlace place (λ was is. IfOk result (λ outputs.
             AgentTook was.agent.value (hears (tick (tick_to was.ticked moment))) is.agent.value outputs))
             self.old.gateways.items self.new.gateways.items }
+        ensures err { AtPlace place (λ was is. OnErr result (AgentStays was.agent.value is.agent.value))
+            self.old.gateways.items self.new.gateways.items }
         ensures clock { AtPlace place (Ticks (is_ok result) moment) self.old.gateways.items self.new.gateways.items }
+        ensures own { AtPlace place (λ was is. is ≡ record was { agent = is.agent; ticked = is.ticked })
+            self.old.gateways.items self.new.gateways.items }
         ensures office { self.new.office ≡ self.old.office }
         ensures others { OthersStay place self.old.gateways.items self.new.gateways.items }
         ensures rest { self.new ≡ record self.old { gateways = self.new.gateways } }
@@ -500,6 +512,7 @@ impl Switchboard {
     fn woken(&mut self, place: usize) -> Option<Wake>
         ensures wake { result ≡ woken_at (slice_get self.old.gateways.items place) }
         ensures gateway { AtPlace place Wakens self.old.gateways.items self.new.gateways.items }
+        ensures own { AtPlace place (λ was is. is ≡ record was { wakes = is.wakes }) self.old.gateways.items self.new.gateways.items }
         ensures office { self.new.office ≡ self.old.office }
         ensures others { OthersStay place self.old.gateways.items self.new.gateways.items }
         ensures rest { self.new ≡ record self.old { gateways = self.new.gateways } }
@@ -513,6 +526,7 @@ impl Switchboard {
         ensures found { result ≡ is_some (woken_at (slice_get self.old.gateways.items place)) }
         ensures line { WakesIn (woken_at (slice_get self.old.gateways.items place)) self.old.office self.new.office }
         ensures gateway { AtPlace place Wakens self.old.gateways.items self.new.gateways.items }
+        ensures own { AtPlace place (λ was is. is ≡ record was { wakes = is.wakes }) self.old.gateways.items self.new.gateways.items }
         ensures others { OthersStay place self.old.gateways.items self.new.gateways.items }
         ensures rest { self.new ≡ record self.old { gateways = self.new.gateways; office = self.new.office } }
     {
