@@ -1,5 +1,5 @@
 -- What a step of a board does to the exchange, and to what is kept of its lines beside that; and to what its gateways send again.
-use Rattle.std.specs.Prelude.{◌≡◌, ℕ, zero, suc, ◌+◌, ◌-◌, ◌^◌, ◌==◌, min, Bool, true, false, if◌then◌else◌, List, Option, Some, None, IfSome, IsSomeAnd, Result, Ok, Err, slice_get, slice_set}
+use Rattle.std.specs.Prelude.{◌≡◌, ℕ, zero, suc, ◌+◌, ◌-◌, ◌^◌, ◌==◌, ◌&&◌, min, nat_le, Bool, true, false, if◌then◌else◌, List, Option, Some, None, IfSome, IsSomeAnd, Result, Ok, Err, slice_get, slice_set}
 use Rattle.std.specs.Global.{Box}
 use Rattle.endpoint_names.specs.declared.name.Pattern.{Pattern}
 use Rattle.endpoint_names.specs.declared.name.Pattern.TheVariants.{One, All, Any}
@@ -35,6 +35,10 @@ is_meant Any before = true
 -- the line that is so many behind the first, which has this place
 abbrev pub line_behind : ℕ → ℕ → ℕ
 line_behind first before = min (first + before) (2 ^ 64 - 1)
+
+-- a gateway with so many lines has this one
+abbrev pub has_line : ℕ → ℕ → Bool
+has_line line lines = nat_le 1 line && nat_le line lines
 
 -- a line is announced, if it is meant
 abbrev pub exchange_if : Bool → Bool → ℕ → ExchangeState → ExchangeState

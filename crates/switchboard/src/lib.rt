@@ -7,6 +7,7 @@
 //! `live_agent`.
 #![tactic(auto)]
 
+mod announcing;
 pub mod examples;
 mod flight;
 mod gateway;

@@ -26,7 +26,7 @@ ghost use Rattle.call_office.specs.Duties.{announced, begun, fixed_order, lost, 
 ghost use Rattle.switchboard.specs.Issuing.{ordered_in, FailsBy, Flies, IssuesOrder, IssuesSettled, IssuesTo, SendsAlone, SendsAtMost};
 ghost use Rattle.call_office.specs.Orders.{Shown, routed};
 ghost use Rattle.call_office.specs.Steps.{Forgets};
-ghost use Rattle.switchboard.specs.Steps.{Announces, AnnouncesTo, IssuesAt, OfOffice, OthersStay, Ticks, Wakens, settled_in};
+ghost use Rattle.switchboard.specs.Steps.{has_line, Announces, AnnouncesTo, IssuesAt, OfOffice, OthersStay, Ticks, Wakens, settled_in};
 ghost use Rattle.switchboard.specs.TypedCommands.{typed_fault, IssuesCommand, IssuesMeant, IssuesThere};
 ghost use Rattle.call_office.specs.Example.{audited, creating, deleted_later, deleted_now};
 ghost use Rattle.switchboard.specs.Example.{wake_at};
@@ -46,6 +46,11 @@ pub fn steps_at_a_gateway_have_examples()
     ensures of_another { Announces true (Pattern.One 1) 1 1 creating (audited ∷ audited ∷ []) (told creating 1 Told.Restarted)
         (audited ∷ announced true audited ∷ []) }
     ensures no_gateway { (office : Option (Box Office)) → AnnouncesTo true [] None office office }
+    ensures beyond { Announces true (Pattern.One 3) 0 2 creating (audited ∷ audited ∷ []) creating (audited ∷ audited ∷ []) }
+    ensures first_line { has_line 1 2 ≡ true }
+    ensures last_line { has_line 2 2 ≡ true }
+    ensures before_lines { has_line 0 2 ≡ false }
+    ensures behind_lines { has_line 3 2 ≡ false }
     ensures no_lines { Announces true Pattern.All 1 0 creating (audited ∷ audited ∷ []) creating (audited ∷ audited ∷ []) }
     // Its clock goes on by a second at most, or stands still.
     ensures goes_on { (gateway : Gateway) → Ticks true 5000 (record gateway { ticked = 500 }) (record gateway { ticked = 1500 }) }

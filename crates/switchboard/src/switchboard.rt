@@ -16,15 +16,16 @@ ghost use Rattle.switchboard.specs.Meaning.{has_domain, meant};
 ghost use Rattle.call_office.specs.Orders.{shown};
 ghost use Rattle.call_office.specs.Showing.{ShowsIn};
 ghost use Rattle.call_office.specs.Steps.{Begins, Forgets, HearsSome};
-ghost use Rattle.switchboard.specs.Steps.{exchange_if, cares_if, settled_in, Announces, AnnouncesTo, AtPlace, Issues, IssuesAt, OfOffice, OthersStay, Ticks, ToldAt, Wakens};
+ghost use Rattle.switchboard.specs.Steps.{settled_in, AnnouncesTo, AtPlace, Issues, IssuesAt, OfOffice, OthersStay, Ticks, ToldAt, Wakens};
 ghost use Rattle.switchboard.specs.Taking.{first_of, taken_place, TakesOf, TakesTold};
 ghost use Rattle.switchboard.specs.Tallying.{counted_if};
 ghost use Rattle.switchboard.specs.TypedCommands.{IssuesThere, IssuesTyped};
 ghost use Rattle.call_office.specs.Waiting.{Settles};
 
+use crate::announcing::announce_all;
 use crate::flight::Flight;
 use crate::gateway::{Gateway, Wake};
-use crate::naming::{has_domain, is_meant, is_unknown, line_behind, line_meant, method_of};
+use crate::naming::{has_domain, is_unknown, line_meant, method_of};
 use crate::orders::{answer_at, issue_by, issue_named};
 use crate::taking::take_from;
 use crate::typed::{TypedFault, typed_in};
@@ -102,31 +103,6 @@ fn is_at(gateway: &Gateway, address: SocketAddrV4) -> bool
     ensures { result ≡ is_at address gateway.now }
 {
     same_address(gateway.address, address)
-}
-
-// A line is there again, or lost its agent, if a name means it.
-fn announce_if(office: &mut Office, is_named: bool, line: usize, is_restart: bool)
-    ensures exchange { office.new.exchange ≡ exchange_if is_named is_restart line office.old.exchange }
-    ensures cares { office.new.cares.items ≡ cares_if is_named is_restart line office.old.cares.items }
-{
-    if is_named {
-        office.announced(line, is_restart);
-    }
-}
-
-// The lines of a gateway that a name means are there again, or lost their agent. The first of them has this place, and there are so many.
-fn announce_all(office: &mut Office, pattern: Pattern, first: usize, lines: u16, is_restart: bool)
-    ensures { Announces is_restart pattern first lines office.old.exchange office.old.cares.items
-        office.new.exchange office.new.cares.items }
-{
-    for before in 0..lines {
-        announce_if(
-            office,
-            is_meant(pattern, before),
-            line_behind(first, before),
-            is_restart,
-        );
-    }
 }
 
 impl Switchboard {

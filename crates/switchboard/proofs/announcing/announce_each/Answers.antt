@@ -1,5 +1,5 @@
 use Rattle.switchboard.proofs.AnnounceLemmas.{cares_more, cares_none, exchange_more, exchange_none}
-use Rattle.switchboard.proofs.switchboard.announce_all.Goals as goal
+use Rattle.switchboard.proofs.announcing.announce_each.Goals as goal
 
 pub loop-before-init : goal.loop-before-init
 loop-before-init c = record {

@@ -1,0 +1,67 @@
+//! The lines of a gateway that a name means are announced: they have started again, or lost their agent.
+ghost use Rattle.std.specs.Prelude.{◌≡◌};
+ghost use Rattle.endpoint_names.specs.declared.name.Pattern.TheVariants.{One};
+ghost use Rattle.switchboard.specs.Steps.{cares_if, exchange_if, has_line, Announces};
+
+use crate::naming::{is_meant, line_behind};
+use call_office::Office;
+use endpoint_names::Pattern;
+
+// Whether a gateway with so many lines has this one.
+fn has_line(line: u16, lines: u16) -> bool
+    ensures { result ≡ has_line line lines }
+{
+    1 <= line && line <= lines
+}
+
+// A line is there again, or lost its agent, if a name means it.
+fn announce_if(office: &mut Office, is_named: bool, line: usize, is_restart: bool)
+    ensures exchange { office.new.exchange ≡ exchange_if is_named is_restart line office.old.exchange }
+    ensures cares { office.new.cares.items ≡ cares_if is_named is_restart line office.old.cares.items }
+{
+    if is_named {
+        office.announced(line, is_restart);
+    }
+}
+
+// This line of a gateway is there again, or lost its agent, if the gateway has it. The others aren't looked at.
+fn announce_one(office: &mut Office, line: u16, first: usize, lines: u16, is_restart: bool)
+    ensures { Announces is_restart (One line) first lines office.old.exchange office.old.cares.items
+        office.new.exchange office.new.cares.items }
+{
+    let place = line_behind(first, line.saturating_sub(1));
+    announce_if(office, has_line(line, lines), place, is_restart);
+}
+
+// The same of each line that a name means.
+fn announce_each(office: &mut Office, pattern: Pattern, first: usize, lines: u16, is_restart: bool)
+    ensures { Announces is_restart pattern first lines office.old.exchange office.old.cares.items
+        office.new.exchange office.new.cares.items }
+{
+    for before in 0..lines {
+        announce_if(
+            office,
+            is_meant(pattern, before),
+            line_behind(first, before),
+            is_restart,
+        );
+    }
+}
+
+/// The lines of a gateway that a name means are there again, or lost their agent. The first of them has this place, and there are so many.
+/// Where the name means one line, nothing is done for the others.
+pub(crate) fn announce_all(
+    office: &mut Office,
+    pattern: Pattern,
+    first: usize,
+    lines: u16,
+    is_restart: bool,
+)
+    ensures { Announces is_restart pattern first lines office.old.exchange office.old.cares.items
+        office.new.exchange office.new.cares.items }
+{
+    match pattern {
+        Pattern::One(line) => announce_one(office, line, first, lines, is_restart),
+        Pattern::All | Pattern::Any => announce_each(office, pattern, first, lines, is_restart),
+    }
+}
