@@ -5,6 +5,7 @@ use Rattle.std.specs.Global.{Box}
 use Rattle.message_counts.specs.declared.reporting.Faults.{Faults}
 use Rattle.page_board.specs.Showing.{BoardState}
 use Rattle.surroundings.specs.Sending.{Traffic}
+use Rattle.surroundings.specs.declared.surroundings.Told.{Told}
 use Rattle.turns.specs.declared.schedule.Schedule.{Schedule}
 use Rattle.turns.specs.declared.turn.Turn.{Turn}
 use Rattle.turns.specs.declared.turn.Turn.TheVariants.{End, Look, Wait, Tick, Command, Datagram, Visit, Note}
@@ -98,33 +99,35 @@ begins_same told traffic was begun clock before counts =
     (ap (λ (x : Faults). x.refused) counts ∙ still_refused clock was.exchange.faults)
 
 -- nor does anything where the page is asked
-pub page_same : {S T : Type 0} (told : T → Option (List ℕ)) (traffic : S → Traffic) (is_of_page : Bool) (was is : Desk S T)
-    → TakesFromPage is_of_page was is
+pub page_same : {S T : Type 0} (told : T → Option (List ℕ)) (traffic : S → Traffic) (tells : S → Told → Type 0)
+    (is_its_turn is_of_page : Bool) (was is : Desk S T) → TakesFromPage tells is_its_turn is_of_page was is
     → (at_desk told traffic is ≡ at_desk told traffic was) × (is.admission ≡ was.admission)
-page_same {S} {T} told traffic is_of_page was is page = (
+page_same {S} {T} told traffic tells is_its_turn is_of_page was is page = (
   ap (at_desk told traffic) page.rest ∙ ap (λ (x : Exchange S). at_desk told traffic (record was { exchange = x })) page.shown,
   ap (λ (x : Desk S T). x.admission) page.rest,
 )
 
 -- nor to others where a visitor is served
-pub visit_same : {S T V : Type 0} (told : T → Option (List ℕ)) (traffic : S → Traffic) (serves : V → S → BoardState → ℕ → V → S → BoardState → Type 0)
-    (moment : ℕ) (visitors left : Option (Box V)) (was is : Desk S T) → DoesVisit traffic serves moment visitors left was is
+pub visit_same : {S T V : Type 0} (told : T → Option (List ℕ)) (traffic : S → Traffic) (tells : S → Told → Type 0)
+    (serves : V → S → BoardState → ℕ → V → S → BoardState → Type 0)
+    (moment : ℕ) (visitors left : Option (Box V)) (was is : Desk S T) → DoesVisit traffic tells serves moment visitors left was is
     → (at_desk told traffic is ≡ at_desk told traffic was) × (is.admission ≡ was.admission)
-visit_same {S} {T} told traffic serves moment visitors left was is visit =
-    let page = page_same told traffic was.is_of_page visit.served is visit.page in (
+visit_same {S} {T} told traffic tells serves moment visitors left was is visit =
+    let page = page_same told traffic tells false was.is_of_page visit.served is visit.page in (
       page.0 ∙ ap (at_desk told traffic) visit.before ∙ ap (λ (x : Traffic). at_desk told (λ (s : S). x) was) visit.kept,
       page.1 ∙ ap (λ (x : Desk S T). x.admission) visit.before,
     )
 
 -- a turn leaves the schedule
-pub leaves_schedule : {S T V : Type 0} (traffic : S → Traffic) (serves : V → S → BoardState → ℕ → V → S → BoardState → Type 0) (now : ℕ) (turn : Turn)
-    (visitors left : Option (Box V)) (was is : Desk S T) → Leaves traffic serves now turn visitors left was is → is.schedule ≡ was.schedule
-leaves_schedule {S} {T} traffic serves now End visitors left was is leaves = ap (λ (x : Desk S T). x.schedule) leaves.0
-leaves_schedule {S} {T} traffic serves now Look visitors left was is leaves = ap (λ (x : Desk S T). x.schedule) leaves.0.rest
-leaves_schedule {S} {T} traffic serves now (Wait until) visitors left was is leaves = ap (λ (x : Desk S T). x.schedule) leaves.0.rest
-leaves_schedule {S} {T} traffic serves now (Tick moment) visitors left was is leaves = ap (λ (x : Desk S T). x.schedule) leaves.0.0
-leaves_schedule traffic serves now Command visitors left was is leaves = leaves.1
-leaves_schedule {S} {T} traffic serves now Datagram visitors left was is leaves = ap (λ (x : Desk S T). x.schedule) leaves.0
-leaves_schedule {S} {T} traffic serves now Visit visitors left was is leaves =
+pub leaves_schedule : {S T V : Type 0} (traffic : S → Traffic) (tells : S → Told → Type 0)
+    (serves : V → S → BoardState → ℕ → V → S → BoardState → Type 0) (now : ℕ) (turn : Turn)
+    (visitors left : Option (Box V)) (was is : Desk S T) → Leaves traffic tells serves now turn visitors left was is → is.schedule ≡ was.schedule
+leaves_schedule {S} {T} traffic tells serves now End visitors left was is leaves = ap (λ (x : Desk S T). x.schedule) leaves.0
+leaves_schedule {S} {T} traffic tells serves now Look visitors left was is leaves = ap (λ (x : Desk S T). x.schedule) leaves.0.rest
+leaves_schedule {S} {T} traffic tells serves now (Wait until) visitors left was is leaves = ap (λ (x : Desk S T). x.schedule) leaves.0.rest
+leaves_schedule {S} {T} traffic tells serves now (Tick moment) visitors left was is leaves = ap (λ (x : Desk S T). x.schedule) leaves.0.0
+leaves_schedule traffic tells serves now Command visitors left was is leaves = leaves.1
+leaves_schedule {S} {T} traffic tells serves now Datagram visitors left was is leaves = ap (λ (x : Desk S T). x.schedule) leaves.0
+leaves_schedule {S} {T} traffic tells serves now Visit visitors left was is leaves =
     ap (λ (x : Desk S T). x.schedule) leaves.page.rest ∙ ap (λ (x : Desk S T). x.schedule) leaves.before
-leaves_schedule {S} {T} traffic serves now (Note pause) visitors left was is leaves = ap (λ (x : Desk S T). x.schedule) leaves.0
+leaves_schedule {S} {T} traffic tells serves now (Note pause) visitors left was is leaves = ap (λ (x : Desk S T). x.schedule) leaves.0

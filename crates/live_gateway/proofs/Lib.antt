@@ -8,6 +8,7 @@ pub mod DeskLemmas
 pub mod AnsweringLemmas
 pub mod TurningLemmas
 pub mod LineLemmas
+pub mod PageLemmas
 mod ArrivingLemmas
 pub mod ArrivalLemmas
 pub mod OverLemmas

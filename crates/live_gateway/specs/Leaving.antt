@@ -1,5 +1,5 @@
 -- What a turn leaves of a desk as it was, by its kind, and what is so as a run begins.
-use Rattle.std.specs.Prelude.{◌≡◌, ◌⊎◌, ℕ, ◌-◌, Bool, true, List, Option, Result}
+use Rattle.std.specs.Prelude.{◌≡◌, ◌⊎◌, ℕ, ◌-◌, Bool, true, false, not, ◌&&◌, List, Option, Result}
 use Rattle.std.specs.Global.{Box}
 use Rattle.mg_bytes.specs.Lists.{is_empty}
 use Rattle.gateway_core.specs.Stands.{Stands}
@@ -10,6 +10,7 @@ use Rattle.surroundings.specs.Sending.{Traffic}
 use Rattle.surroundings.specs.Typing.{left_of}
 use Rattle.surroundings.specs.declared.lines.Lines.{Lines}
 use Rattle.surroundings.specs.declared.surroundings.Fault.{Fault}
+use Rattle.surroundings.specs.declared.surroundings.Told.{Told}
 use Rattle.turns.specs.declared.turn.Turn.{Turn}
 use Rattle.turns.specs.declared.turn.Turn.TheVariants.{End, Look, Wait, Tick, Command, Datagram, Visit, Note}
 use Rattle.turns.specs.Schedule.{opening}
@@ -57,22 +58,30 @@ pub record OnlyWaits {S T : Type 0} (was is : Desk S T) : Type 0 where
   pub rest : is ≡ record was { exchange = record was.exchange { around = is.exchange.around; faults = is.exchange.faults } }
   pub faults : (is.exchange.faults ≡ was.exchange.faults) ⊎ (is.exchange.faults ≡ with_unreceived was.exchange.faults)
 
--- The page isn't asked, and whose line is left stays so. Or no line is left, and the next act of the page's is one, where it has one.
-abbrev pub MayTake : Journal → Lines → Bool → Journal → Lines → Bool → Type 0
-MayTake was lines is_of_page is left is_then =
-    ((is ≡ was) × (left ≡ lines) × (is_then ≡ is_of_page))
-    ⊎ ((is_empty (left_of lines) ≡ true) × TakesAct was lines is_then is left)
+-- whether the page is asked for its next act: where it is its turn, or nobody may have typed, as far as was told
+abbrev pub IsAsked : {S : Type 0} → (S → Told → Type 0) → S → Bool → Bool → Type 0
+IsAsked tells around true asked = asked ≡ true
+IsAsked tells around false asked = (told : Told) × tells around told × (asked ≡ not told.lines)
 
--- so it is at a desk, where the line that was left was the page's, or wasn't; and nothing else of it changes
-pub record TakesFromPage {S T : Type 0} (is_of_page : Bool) (was is : Desk S T) : Type 0 where
+-- the page's next act is the line that is left, where it has one; or nothing changes, and whose line is left stays so
+abbrev pub TakesIf : Bool → Journal → Lines → Bool → Journal → Lines → Bool → Type 0
+TakesIf true was lines is_of_page is left is_then = TakesAct was lines is_then is left
+TakesIf false was lines is_of_page is left is_then = (is ≡ was) × (left ≡ lines) × (is_then ≡ is_of_page)
+
+-- So it is at a desk, where the page is asked, and no line is left that was the page's, or wasn't. Nothing else of it changes.
+pub record TakesFromPage {S T : Type 0} (tells : S → Told → Type 0) (is_its_turn is_of_page : Bool) (was is : Desk S T) : Type 0 where
+  pub asked : Bool
+  pub asks : IsAsked tells was.exchange.around is_its_turn asked
   pub rest : is ≡ record was { exchange = is.exchange; lines = is.lines; is_of_page = is.is_of_page }
   pub shown : OnlyShows was.exchange is.exchange
-  pub took : MayTake was.exchange.journal was.lines is_of_page is.exchange.journal is.lines is.is_of_page
+  pub took : TakesIf (asked && is_empty (left_of was.lines)) was.exchange.journal was.lines is_of_page
+      is.exchange.journal is.lines is.is_of_page
 
 -- The page is shown the gateway as it is, whose clock is so far behind this moment, and what was counted; or, for want of memory, what it
 -- was shown before. Then its visitors have a turn by that board, once: only what is around the desk changes, though not what went over
--- that, and what the page is shown. Then the page may be asked for the next line.
-pub record DoesVisit {S T V : Type 0} (traffic : S → Traffic) (serves : V → S → BoardState → ℕ → V → S → BoardState → Type 0) (moment : ℕ)
+-- that, and what the page is shown. Then the page is asked for the next line, where nobody may have typed.
+pub record DoesVisit {S T V : Type 0}
+    (traffic : S → Traffic) (tells : S → Told → Type 0) (serves : V → S → BoardState → ℕ → V → S → BoardState → Type 0) (moment : ℕ)
     (visitors left : Option (Box V)) (was is : Desk S T) : Type 0 where
   pub served : Desk S T
   pub lag : ℕ
@@ -89,7 +98,7 @@ pub record DoesVisit {S T V : Type 0} (traffic : S → Traffic) (serves : V → 
   pub turn : ServesOnce serves moment visitors was.exchange.around shown.board
       left served.exchange.around served.exchange.journal.board
   pub kept : traffic served.exchange.around ≡ traffic was.exchange.around
-  pub page : TakesFromPage was.is_of_page served is
+  pub page : TakesFromPage tells false was.is_of_page served is
 
 -- it begins now: its schedule starts at the moment that the clock told, or, where that failed, to which ticks have come; and that it failed
 -- is counted
@@ -107,14 +116,14 @@ pub record Starts {S T : Type 0} (passes : S → Result ℕ Fault → Type 0) (w
 
 -- what a turn of this kind leaves, at this moment; of ticks, datagrams and lines `Does` says more. Visitors have a turn where it is theirs.
 abbrev pub Leaves :
-    {S T V : Type 0} → (S → Traffic) → (V → S → BoardState → ℕ → V → S → BoardState → Type 0) → ℕ → Turn
+    {S T V : Type 0} → (S → Traffic) → (S → Told → Type 0) → (V → S → BoardState → ℕ → V → S → BoardState → Type 0) → ℕ → Turn
     → Option (Box V) → Option (Box V) → Desk S T → Desk S T → Type 0
-Leaves traffic serves now End visitors left was is = (is ≡ was) × (left ≡ visitors)
-Leaves traffic serves now Look visitors left was is = OnlyWaits was is × (left ≡ visitors)
-Leaves traffic serves now (Wait until) visitors left was is = OnlyWaits was is × (left ≡ visitors)
-Leaves traffic serves now (Tick moment) visitors left was is = OnlyTicks moment was is × (left ≡ visitors)
-Leaves traffic serves now Command visitors left was is =
+Leaves traffic tells serves now End visitors left was is = (is ≡ was) × (left ≡ visitors)
+Leaves traffic tells serves now Look visitors left was is = OnlyWaits was is × (left ≡ visitors)
+Leaves traffic tells serves now (Wait until) visitors left was is = OnlyWaits was is × (left ≡ visitors)
+Leaves traffic tells serves now (Tick moment) visitors left was is = OnlyTicks moment was is × (left ≡ visitors)
+Leaves traffic tells serves now Command visitors left was is =
     (is.admission ≡ was.admission) × (is.schedule ≡ was.schedule) × (left ≡ visitors)
-Leaves traffic serves now Datagram visitors left was is = OnlyPlays was is × (left ≡ visitors)
-Leaves traffic serves now Visit visitors left was is = DoesVisit traffic serves now visitors left was is
-Leaves traffic serves now (Note pause) visitors left was is = OnlyLogs was is × (left ≡ visitors)
+Leaves traffic tells serves now Datagram visitors left was is = OnlyPlays was is × (left ≡ visitors)
+Leaves traffic tells serves now Visit visitors left was is = DoesVisit traffic tells serves now visitors left was is
+Leaves traffic tells serves now (Note pause) visitors left was is = OnlyLogs was is × (left ≡ visitors)

@@ -67,10 +67,10 @@ pub record LooksForOne {S T : Type 0}
   pub came : FoundSince traffic was.admission was.exchange found room looked
   pub tried : TriesFound told traffic sends looked found room was is
 
--- Lines are heard where none is left; the first that is left is done, and no other one. Where none is left then, the next act of the page
--- may be.
+-- Lines are heard where none is left; the first that is left is done, and no other one. Where none is left then, the page is asked for its
+-- next act, unless it was the page's line that was left, and somebody may have typed.
 pub record DoesLines {S T : Type 0}
-    (told : T → Option (List ℕ)) (traffic : S → Traffic) (sockets : S → List SocketAddrV4)
+    (told : T → Option (List ℕ)) (traffic : S → Traffic) (sockets : S → List SocketAddrV4) (tells : S → Told → Type 0)
     (sends : S → SocketAddrV4 → List ℕ → Result ⊤ Fault → S → Type 0)
     (hears : S → Option (SocketAddr × ℕ) → List ℕ → S → Type 0) (answers : S → SocketAddr → List ℕ → S → Type 0) (was is : Desk S T)
     : Type 0 where
@@ -81,25 +81,25 @@ pub record DoesLines {S T : Type 0}
   pub before : OnlyHears taken was heard
   pub kept : traffic heard.exchange.around ≡ traffic was.exchange.around
   pub line : DoesLine told traffic sends answers heard done
-  pub behind : TakesFromPage false done is
+  pub behind : TakesFromPage tells (not was.is_of_page) false done is
 
 -- what a turn of this kind does
 abbrev pub Does :
-    {S T : Type 0} → (T → Option (List ℕ)) → (S → Traffic) → (S → List SocketAddrV4)
+    {S T : Type 0} → (T → Option (List ℕ)) → (S → Traffic) → (S → List SocketAddrV4) → (S → Told → Type 0)
     → (S → Result (Option (SocketAddrV4 × ℕ)) Fault → List ℕ → S → Type 0)
     → (S → SocketAddrV4 → List ℕ → Result ⊤ Fault → S → Type 0)
     → (S → Option (SocketAddr × ℕ) → List ℕ → S → Type 0) → (S → SocketAddr → List ℕ → S → Type 0)
     → Turn → Desk S T → Desk S T → Type 0
-Does told traffic sockets receives sends hears answers End was is = at_desk told traffic is ≡ at_desk told traffic was
-Does told traffic sockets receives sends hears answers Look was is = at_desk told traffic is ≡ at_desk told traffic was
-Does told traffic sockets receives sends hears answers (Wait until) was is = at_desk told traffic is ≡ at_desk told traffic was
-Does told traffic sockets receives sends hears answers (Tick moment) was is =
+Does told traffic sockets tells receives sends hears answers End was is = at_desk told traffic is ≡ at_desk told traffic was
+Does told traffic sockets tells receives sends hears answers Look was is = at_desk told traffic is ≡ at_desk told traffic was
+Does told traffic sockets tells receives sends hears answers (Wait until) was is = at_desk told traffic is ≡ at_desk told traffic was
+Does told traffic sockets tells receives sends hears answers (Tick moment) was is =
     Tries sends (passed moment) (tick moment) (at_desk told traffic was) (record was.exchange { now = is.exchange.now })
     (at_desk told traffic is) is.exchange
-Does told traffic sockets receives sends hears answers Command was is = DoesLines told traffic sockets sends hears answers was is
-Does told traffic sockets receives sends hears answers Datagram was is = LooksForOne told traffic receives sends was is
-Does told traffic sockets receives sends hears answers Visit was is = at_desk told traffic is ≡ at_desk told traffic was
-Does told traffic sockets receives sends hears answers (Note pause) was is = at_desk told traffic is ≡ at_desk told traffic was
+Does told traffic sockets tells receives sends hears answers Command was is = DoesLines told traffic sockets tells sends hears answers was is
+Does told traffic sockets tells receives sends hears answers Datagram was is = LooksForOne told traffic receives sends was is
+Does told traffic sockets tells receives sends hears answers Visit was is = at_desk told traffic is ≡ at_desk told traffic was
+Does told traffic sockets tells receives sends hears answers (Note pause) was is = at_desk told traffic is ≡ at_desk told traffic was
 
 -- What may have something: who types, where a line is left, or as was told of their socket; the network, where that which spoils it hands
 -- something out by now, or as was told of its socket; visitors, as they say.
@@ -155,8 +155,8 @@ pub record DoesNext {S T V : Type 0}
   }
   pub clock : begun.exchange.now.clock ≡ at.ticked
   pub faults : begun.exchange.faults ≡ faults_by situation.clock was.exchange.faults
-  pub does : Does told traffic sockets receives sends hears answers turn begun done
-  pub leaves : Leaves traffic serves at.moment turn visitors left begun done
+  pub does : Does told traffic sockets tells receives sends hears answers turn begun done
+  pub leaves : Leaves traffic tells serves at.moment turn visitors left begun done
   pub behind : is ≡ record done { exchange = record done.exchange { around = is.exchange.around }; watch = is.watch }
   pub kept : traffic is.exchange.around ≡ traffic done.exchange.around
   pub watch : (events : List GatewayEvent) → Stands done.play.gateway.value events

@@ -1,7 +1,7 @@
 //! The loop: it asks what comes next, and does that.
 #![tactic(auto, using(crate::proofs::DeskLemmas::stays_so))]
 
-ghost use Rattle.std.specs.Prelude.{◌≡◌, ◌↔◌, ◌<◌, ◌≤◌, ◌⊎◌, ◌-◌, ◌^◌, ℕ, true, false, not, codes, List, [], Option, IsTrue, IfOk};
+ghost use Rattle.std.specs.Prelude.{◌≡◌, ◌↔◌, ◌<◌, ◌⊎◌, ◌-◌, ◌^◌, ℕ, true, false, not, codes, List, Option, IsTrue, IfOk};
 ghost use Rattle.turns.specs.Runs.{is_end};
 ghost use Rattle.turns.specs.Schedule.{opening};
 ghost use Rattle.plain_machine.specs.Event.{GatewayEvent, tick};
@@ -273,7 +273,7 @@ impl<S: Surroundings + Drop, T: Teller + Drop> Desk<S, T> {
     // A line is taken, if one is there. Who types and the page take turns: behind what was typed comes one act of the page's.
     fn command(&mut self)
         ensures play { GoesOn T.told S.traffic self.old self.new }
-        ensures lines { DoesLines T.told S.traffic S.sockets S.sends S.hears S.answers self.old self.new }
+        ensures lines { DoesLines T.told S.traffic S.sockets S.tells S.sends S.hears S.answers self.old self.new }
         ensures schedule { self.new.schedule ≡ self.old.schedule }
     {
         let was_page = self.is_of_page;
@@ -290,7 +290,7 @@ impl<S: Surroundings + Drop, T: Teller + Drop> Desk<S, T> {
 
     // A visitor is served, if one is there.
     fn visit<V: Visitors<S>>(&mut self, visitors: &mut Option<Box<V>>, moment: u64)
-        ensures { DoesVisit S.traffic V.serves moment visitors.old visitors.new self.old self.new }
+        ensures { DoesVisit S.traffic S.tells V.serves moment visitors.old visitors.new self.old self.new }
     {
         let faults = self.exchange.faults;
         let behind = moment.saturating_sub(self.play.gateway.now());
@@ -317,8 +317,8 @@ impl<S: Surroundings + Drop, T: Teller + Drop> Desk<S, T> {
             → (to < first_unread) × ((events : List GatewayEvent) → Stands self.old.play.gateway.value events
             → (plain self.old.play.gateway.value.setup events).now < to) }
         ensures play { GoesOn T.told S.traffic self.old self.new }
-        ensures does { Does T.told S.traffic S.sockets S.receives S.sends S.hears S.answers turn self.old self.new }
-        ensures leaves { Leaves S.traffic V.serves moment turn visitors.old visitors.new self.old self.new }
+        ensures does { Does T.told S.traffic S.sockets S.tells S.receives S.sends S.hears S.answers turn self.old self.new }
+        ensures leaves { Leaves S.traffic S.tells V.serves moment turn visitors.old visitors.new self.old self.new }
         ensures over { is_end turn ≡ true → (self.new.play ≡ self.old.play) × (self.new.end ≡ self.old.end) }
     {
         match turn {

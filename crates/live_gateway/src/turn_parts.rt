@@ -1,5 +1,6 @@
 //! What a turn does that needs no gateway, but what that tells: who has one pays for the layout of all that it holds.
-ghost use Rattle.std.specs.Prelude.{◌≡◌, ◌<◌, ◌⊎◌, ℕ, Bool, List, Option, Result, not};
+ghost use Rattle.std.specs.Prelude.{◌≡◌, ◌<◌, ◌⊎◌, ◌&&◌, ℕ, Bool, List, Option, Result, not};
+ghost use Rattle.mg_bytes.specs.Lists.{is_empty};
 ghost use Rattle.surroundings.specs.Hearing.{AnswersTo};
 ghost use Rattle.surroundings.specs.Requests.{requests_from};
 ghost use Rattle.surroundings.specs.Typing.{left_of, behind};
@@ -10,7 +11,7 @@ ghost use Rattle.page_board.specs.declared.ring.Kind.TheVariants.{Told as OfTold
 ghost use Rattle.turns.specs.Clock.{earlier, has_come};
 ghost use Rattle.live_gateway.specs.Answering.{IsTypist, IsActAnswer};
 ghost use Rattle.live_gateway.specs.Exchanging.{Explains, Notes, refusals, next_due, moment_at, faults_by};
-ghost use Rattle.live_gateway.specs.Leaving.{OnlyShows, OnlyTells, MayTake};
+ghost use Rattle.live_gateway.specs.Leaving.{OnlyShows, OnlyTells, IsAsked, TakesIf};
 ghost use Rattle.live_gateway.specs.Turning.{ready_at};
 ghost use Rattle.live_gateway.specs.Visiting.{AreReady, ClosesAt};
 ghost use Rattle.live_play.specs.Readable.{first_unread};
@@ -46,7 +47,8 @@ pub(crate) fn situation<S: Surroundings + Drop, V: Visitors<S>>(
     ensures end { result.end ≡ end }
     ensures ticked { result.ticked ≡ ticked }
     ensures short { (result.moment < first_unread) ⊎ (result.moment ≡ ticked) }
-    ensures due { (deadline : Option ℕ) × ClosesAt V.closes visitors.now deadline × (result.due ≡ earlier (earlier due (next_due exchange.old.network)) deadline) }
+    ensures due { (deadline : Option ℕ) × ClosesAt V.closes visitors.now deadline
+        × (result.due ≡ earlier (earlier due (next_due exchange.old.network)) deadline) }
     ensures read { result.read ≡ exchange.old.read }
     ensures clock { (clock : Result ℕ Fault) × S.passes exchange.old.around clock × (result.moment ≡ moment_at clock ticked)
         × (exchange.new.faults ≡ faults_by clock exchange.old.faults) }
@@ -146,6 +148,16 @@ pub(crate) fn answer_act<S: Surroundings + Drop>(
     lines.answer(&mut exchange.around, answer);
 }
 
+// Whether the page is asked for its next act: where it is its turn, or nobody may have typed.
+fn is_page_asked<S: Surroundings + Drop>(around: &S, is_its_turn: bool) -> bool
+    ensures { IsAsked S.tells around.now is_its_turn result }
+{
+    if is_its_turn {
+        return true;
+    }
+    !around.told().lines
+}
+
 /// What the page asks for is the next line, where none is left and it is its turn, or nobody typed: whether the line that is left is the
 /// page's, as one that was left may be.
 pub(crate) fn take_from_page<S: Surroundings + Drop>(
@@ -156,11 +168,14 @@ pub(crate) fn take_from_page<S: Surroundings + Drop>(
     is_of_page: bool,
 ) -> bool
     ensures shown { OnlyShows exchange.old exchange.new }
-    ensures took { MayTake exchange.old.journal lines.old is_of_page exchange.new.journal lines.new result }
+    ensures took { (asked : Bool) × IsAsked S.tells exchange.old.around is_its_turn asked
+        × TakesIf (asked && is_empty (left_of lines.old)) exchange.old.journal lines.old is_of_page exchange.new.journal lines.new result }
 {
-    let is_taken = is_its_turn || !exchange.around.told().lines;
-    if is_taken && lines.is_empty() {
-        return take_act(alloc, &mut exchange.journal, lines);
+    if !is_page_asked(&exchange.around, is_its_turn) {
+        return is_of_page;
     }
-    is_of_page
+    if !lines.is_empty() {
+        return is_of_page;
+    }
+    take_act(alloc, &mut exchange.journal, lines)
 }

@@ -1,5 +1,5 @@
 -- What the worked examples of networks, looks and outlets want shown.
-use Rattle.std.proofs.Common.{◌≡◌, ◌⊎◌, inl, inr, ℕ, zero, suc, ◌+◌, Bool, cond, List, [], ◌∷◌, ◌++◌, length, take, Option, None, Some, refl, sym, ◌∙◌, ap, subst}
+use Rattle.std.proofs.Common.{◌≡◌, ◌⊎◌, inl, inr, ℕ, zero, suc, ◌+◌, Bool, true, false, ◌&&◌, cond, List, [], ◌∷◌, ◌++◌, length, take, Option, None, Some, refl, sym, ◌∙◌, ap, subst}
 use Rattle.std.specs.Prelude.{Result, Err}
 use Rattle.std.specs.Global.{Box}
 use Rattle.std.specs.declared.net.socket_addr.SocketAddrV4.{SocketAddrV4}
@@ -16,6 +16,7 @@ use Rattle.plain_machine.specs.declared.label.SentMessage.{SentMessage}
 use Rattle.gateway_core.specs.GatewayState.{GatewayState}
 use Rattle.surroundings.specs.Sending.{Received, Grows, found_by}
 use Rattle.surroundings.specs.declared.surroundings.Fault.{Fault}
+use Rattle.surroundings.specs.declared.lines.Lines.{Lines}
 use Rattle.traces.specs.declared.telling.Mark.{Mark}
 use Rattle.traces.specs.declared.telling.Mark.TheVariants.{Lost}
 use Rattle.traces.specs.Writing.{Entry, became}
@@ -30,6 +31,7 @@ use Rattle.live_gateway.specs.declared.exchange.Exchange.{Exchange}
 use Rattle.live_gateway.specs.declared.spoilt_way.SpoiltWay.{SpoiltWay}
 use Rattle.live_gateway.specs.Admitting.{is_heard, heard_of}
 use Rattle.live_gateway.specs.Exchanging.{received_by, read_at, faults_at, FoundSince}
+use Rattle.live_gateway.specs.Leaving.{TakesIf}
 use Rattle.live_gateway.specs.Offering.{next_fate}
 use Rattle.live_laws.specs.Example.{at_port}
 use Rattle.live_laws.specs.WayExample.{OffersOne, copy_behind, LooksSeeing, arrival, arrivals}
@@ -140,6 +142,14 @@ kept_of a x one messages (mark ∷ []) told to none has first each =
     ∙ ap (λ (l : List SentMessage). take (length (parts_of a.bytes)) l ∷ []) has
     ∙ ap (λ (l : List (List ℕ)). take (length l) (one ∷ []) ∷ []) first
 kept_of a x one messages (mark ∷ other ∷ said) told to none has first each = absurd each.2
+
+-- ---- the page's acts
+
+pub line_left : (asked is_empty is_of_page is_then : Bool) (was is : Journal) (lines left : Lines) → is_empty ≡ false
+    → TakesIf (asked && is_empty) was lines is_of_page is left is_then → left ≡ lines
+line_left true true is_of_page is_then was is lines left some takes = absurd cc
+line_left true false is_of_page is_then was is lines left some takes = takes.1
+line_left false is_empty is_of_page is_then was is lines left some takes = takes.1
 
 -- ---- what a page is shown
 

@@ -1,7 +1,7 @@
 //! Worked examples of what a turn does, as theorems.
 #![tactic(auto)]
 
-ghost use Rattle.std.specs.Prelude.{◌≡◌, ◌⊎◌, ◌∷◌, ⊤, codes, true, false, ℕ, List, [], Bool, Option, Some, None, is_some, Result, Ok, Err};
+ghost use Rattle.std.specs.Prelude.{◌≡◌, ◌⊎◌, ◌∷◌, ⊤, codes, true, false, ℕ, List, [], Bool, Option, Some, None, is_some, Ok, Err};
 ghost use Rattle.gateway_core.specs.GatewayState.{GatewayState};
 ghost use Rattle.gateway_rules.specs.declared.refusal.Refusal.{Refusal as Why};
 ghost use Rattle.live_ends.specs.declared.ending.CommonEnding.{CommonEnding};
@@ -24,7 +24,7 @@ ghost use Rattle.told_messages.specs.Labelling.{sent_label};
 ghost use Rattle.told_messages.specs.Showing.{HappenedWith};
 ghost use Rattle.traces.specs.declared.telling.Mark.{Mark};
 ghost use Rattle.traces.specs.declared.telling.Mark.TheVariants.{Unsent, Lost};
-ghost use Rattle.live_gateway.specs.Leaving.{OnlyShows, OnlyTells, OnlyPlays, OnlyTicks, OnlyLogs, OnlyHears, OnlyReplies, OnlyWaits, MayTake, DoesVisit};
+ghost use Rattle.live_gateway.specs.Leaving.{OnlyShows, OnlyTells, OnlyPlays, OnlyTicks, OnlyLogs, OnlyHears, OnlyReplies, OnlyWaits, TakesIf, DoesVisit};
 ghost use Rattle.live_gateway.specs.Turning.{ready_at, RunsTurns};
 ghost use Rattle.surroundings.specs.Sending.{untold};
 ghost use Rattle.std.specs.Global.{Box};
@@ -41,9 +41,11 @@ pub fn what_stays_has_examples()
     ensures said { (was is : Desk ℕ ℕ) → OnlyReplies was is → is.exchange.around ≡ was.exchange.around → is.lines ≡ was.lines → is ≡ was }
     ensures waited { (was is : Desk ℕ ℕ) → OnlyWaits was is → (is.exchange.read ≡ was.exchange.read) × (is.end ≡ was.end) }
     ensures visited { (visitors left : Option (Box ℕ)) (was is : Desk ℕ ℕ)
-        → DoesVisit {V = ℕ} (λ around. untold) (λ v s b at w t c. ⊤) 5 visitors left was is → is.exchange.read ≡ was.exchange.read }
-    ensures unasked { (desk : Desk ℕ ℕ) → MayTake desk.exchange.journal desk.lines true desk.exchange.journal desk.lines true }
-    ensures unrun { (was is : Desk ℕ ℕ) → RunsTurns {V = ℕ} {W = ℕ} (λ s told. ⊤) (λ a v b w. ⊤) (λ a b. ⊤) 0 was 3 7 is 3 7 → is.end ≡ was.end }
+        → DoesVisit {V = ℕ} (λ around. untold) (λ around told. ⊤) (λ v s b at w t c. ⊤) 5 visitors left was is
+        → is.exchange.read ≡ was.exchange.read }
+    ensures unasked { (desk : Desk ℕ ℕ) → TakesIf false desk.exchange.journal desk.lines true desk.exchange.journal desk.lines true }
+    ensures unrun { (was is : Desk ℕ ℕ) → RunsTurns {V = ℕ} {W = ℕ} (λ s told. ⊤) (λ a v b w. ⊤) (λ a b. ⊤) 0 was 3 7 is 3 7
+        → is.end ≡ was.end }
 {}
 
 /// Who types may have something where a line is left, or as was told of their socket; the network where one that spoils it hands something

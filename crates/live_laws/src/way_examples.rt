@@ -1,7 +1,7 @@
 //! Worked examples of what goes over an exchange, of what an outlet is told and handed, and of what a page is shown, as theorems.
 #![tactic(auto)]
 
-ghost use Rattle.std.specs.Prelude.{◌≡◌, ◌⊎◌, ⊤, [], ◌∷◌, true, false, ℕ, List, Option, Some, None, Result, Ok, Err};
+ghost use Rattle.std.specs.Prelude.{◌≡◌, ◌⊎◌, ⊤, [], ◌∷◌, true, false, not, ℕ, Bool, List, Option, Some, None, Result, Ok, Err};
 ghost use Rattle.std.specs.Global.{Box};
 ghost use Rattle.std.specs.declared.net.socket_addr.SocketAddrV4.{SocketAddrV4};
 ghost use Rattle.bad_network.specs.declared.fate.Fate.{Fate};
@@ -19,6 +19,9 @@ ghost use Rattle.plain_machine.specs.declared.label.SentMessage.{SentMessage};
 ghost use Rattle.plain_machine.specs.Event.{GatewayEvent};
 ghost use Rattle.plain_machine.specs.Lists.{plain};
 ghost use Rattle.surroundings.specs.Sending.{Sent, untold, found_by};
+ghost use Rattle.mg_bytes.specs.Lists.{is_empty};
+ghost use Rattle.surroundings.specs.Typing.{left_of};
+ghost use Rattle.surroundings.specs.declared.lines.Lines.{Lines};
 ghost use Rattle.surroundings.specs.declared.surroundings.Fault.{Fault};
 ghost use Rattle.traces.specs.declared.telling.Mark.TheVariants.{Lost};
 ghost use Rattle.traces.specs.Writing.{Input, became};
@@ -26,7 +29,8 @@ ghost use Rattle.turns.specs.Schedule.{opening};
 ghost use Rattle.transmission.specs.declared.output.OutDatagram.{OutDatagram};
 ghost use Rattle.live_play.specs.Example.{says, loses_the_second, keeps};
 ghost use Rattle.live_play.specs.Running.{Live, sent_of, HandsBy, HandsFrom, TakesBy};
-ghost use Rattle.live_telephones.specs.Paging.{IsOf};
+ghost use Rattle.live_journal.specs.declared.journal.Journal.{Journal};
+ghost use Rattle.live_telephones.specs.Paging.{IsOf, TakesAct};
 ghost use Rattle.live_gateway.specs.declared.admission.Admission.{Admission};
 ghost use Rattle.live_gateway.specs.declared.desk.Desk.{Desk};
 ghost use Rattle.live_gateway.specs.declared.exchange.Exchange.{Exchange};
@@ -34,7 +38,7 @@ ghost use Rattle.live_gateway.specs.declared.spoilt_way.SpoiltWay.{SpoiltWay};
 ghost use Rattle.live_gateway.specs.Admitting.{is_heard};
 ghost use Rattle.live_gateway.specs.Ending.{OnlyEnds};
 ghost use Rattle.live_gateway.specs.Exchanging.{with_refused, with_unreceived, OnlyWrites, OnlyNotes, LooksBetween, FoundSince};
-ghost use Rattle.live_gateway.specs.Leaving.{Starts, DoesVisit};
+ghost use Rattle.live_gateway.specs.Leaving.{IsAsked, TakesIf, TakesFromPage, Starts, DoesVisit};
 ghost use Rattle.live_gateway.specs.Offering.{next_fate, TakesFirst, TakesDue};
 ghost use Rattle.live_laws.specs.Example.{at_port};
 ghost use Rattle.live_laws.specs.WayExample.{due_at, OffersOne, copy_behind, LooksSeeing, arrival, arrivals, counts_turns, is_told_by, stays_where_told};
@@ -129,21 +133,34 @@ pub fn what_an_outlet_is_told_and_handed()
         → by.takes.outputs ≡ a ∷ [] → parts_of a.bytes ≡ x ∷ [] → is.gateway.account.sent ≡ one ∷ [] → kept ≡ (one ∷ []) ∷ [] }
 {}
 
+/// The page is asked for its next act where it is its turn, or nobody may have typed; behind a line that was typed it is its turn. Where it
+/// is asked, and no line is left, its next act is the next line.
+pub fn the_page_is_asked_by_turns()
+    ensures turn { (asked : Bool) → IsAsked (λ around told. ⊥) 5 true asked → asked ≡ true }
+    ensures typed { (asked : Bool) → IsAsked (λ around told. told.lines ≡ true) 5 false asked → asked ≡ false }
+    ensures untyped { (asked : Bool) → IsAsked (λ around told. told.lines ≡ false) 5 false asked → asked ≡ true }
+    ensures takes { (was is : Journal) (lines left : Lines) (is_then : Bool) → TakesIf true was lines false is left is_then
+        → TakesAct was lines is_then is left }
+    ensures behind { (was is : Desk ℕ ℕ) (page : TakesFromPage (λ around told. ⊥) (not false) false was is) → page.asked ≡ true }
+    ensures left { (was is : Desk ℕ ℕ) (page : TakesFromPage (λ around told. ⊥) true false was is) → is_empty (left_of was.lines) ≡ false
+        → is.lines ≡ was.lines }
+{}
+
 /// A visitor is answered by a board that shows the gateway as it was when their turn came, and how far its clock is behind; or, for want of
 /// memory, by what the page was shown before. Where the clock fails at the start, turns begin at the moment to which ticks have come.
 pub fn what_a_visitor_sees_is_the_gateway()
     ensures lag { (visitors left : Option (Box ℕ)) (was is : Desk ℕ ℕ) (events : List GatewayEvent)
-        (visit : DoesVisit {V = ℕ} (λ around. untold) (λ v s b at w t c. ⊤) 5 visitors left was is)
+        (visit : DoesVisit {V = ℕ} (λ around. untold) (λ around told. ⊤) (λ v s b at w t c. ⊤) 5 visitors left was is)
         → Stands was.play.gateway.value events → (plain was.play.gateway.value.setup events).now ≡ 3 → visit.lag ≡ 2 }
     ensures nobody { (visitors left : Option (Box ℕ)) (was is : Desk ℕ ℕ)
-        (visit : DoesVisit {V = ℕ} (λ around. untold) (λ v s b at w t c. ⊤) 5 visitors left was is)
+        (visit : DoesVisit {V = ℕ} (λ around. untold) (λ around told. ⊤) (λ v s b at w t c. ⊤) 5 visitors left was is)
         → was.exchange.journal.board ≡ None → visit.shown.board ≡ None }
     ensures shown { (visitors left : Option (Box ℕ)) (was is : Desk ℕ ℕ) (board shown : Box BoardState)
-        (visit : DoesVisit {V = ℕ} (λ around. untold) (λ v s b at w t c. ⊤) 5 visitors left was is)
+        (visit : DoesVisit {V = ℕ} (λ around. untold) (λ around told. ⊤) (λ v s b at w t c. ⊤) 5 visitors left was is)
         → was.exchange.journal.board ≡ Some board → visit.shown.board ≡ Some shown → (visit.shown ≡ was.exchange.journal)
         ⊎ IsOf was.play.gateway.value was.exchange.journal was.exchange.faults visit.lag shown.value.picture }
     ensures begun { (fault : Fault) (was is : Desk ℕ ℕ) (events : List GatewayEvent) → Starts (λ around clock. clock ≡ Err fault) was is
         → Stands was.play.gateway.value events → (plain was.play.gateway.value.setup events).now ≡ 7 → is.schedule ≡ opening 7 }
-    ensures nothing { (was is : Desk ℕ ℕ) → DoesVisit {V = ℕ} (λ around. untold) (λ v s b at w t c. ⊥) 5 None None was is
+    ensures nothing { (was is : Desk ℕ ℕ) → DoesVisit {V = ℕ} (λ around. untold) (λ around told. ⊤) (λ v s b at w t c. ⊥) 5 None None was is
         → is.exchange.around ≡ was.exchange.around }
 {}

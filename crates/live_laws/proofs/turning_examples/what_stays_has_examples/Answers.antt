@@ -1,4 +1,4 @@
-use Rattle.std.proofs.Common.{inl, ℕ, refl, ◌∙◌, ap}
+use Rattle.std.proofs.Common.{ℕ, refl, ◌∙◌, ap}
 use Rattle.live_gateway.specs.declared.desk.Desk.{Desk}
 use Rattle.live_gateway.specs.declared.exchange.Exchange.{Exchange}
 use Rattle.live_laws.proofs.turning_examples.what_stays_has_examples.Goals as goal
@@ -34,7 +34,7 @@ returns-clause-visited c = λ visitors left was is visit.
     ap (λ (exchange : Exchange ℕ). exchange.read) visit.page.shown ∙ ap (λ (desk : Desk ℕ ℕ). desk.exchange.read) visit.before
 
 pub returns-clause-unasked : goal.returns-clause-unasked
-returns-clause-unasked c = λ desk. inl (refl, refl, refl)
+returns-clause-unasked c = λ desk. (refl, refl, refl)
 
 pub returns-clause-unrun : goal.returns-clause-unrun
 returns-clause-unrun c = λ was is runs.

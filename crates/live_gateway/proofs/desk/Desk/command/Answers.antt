@@ -1,4 +1,5 @@
 use Rattle.std.proofs.Common.{false, refl}
+use Rattle.std.specs.Prelude.{not}
 use Rattle.live_gateway.proofs.DeskLemmas.{between}
 use Rattle.live_gateway.proofs.FrameLemmas.{made_of, with_exchange, page_same}
 use Rattle.live_gateway.proofs.desk.Desk.command.Goals as goal
@@ -9,13 +10,19 @@ returns-clause-play g c =
     c.take_line.ensures.play
     (rw (c.hear.ensures.network, c.hear.ensures.traffic, c.hear.ensures.faults) refl)
     refl
-    (page_same g.T.Teller.told g.S.Surroundings.traffic false c.take_line.new.self
+    (page_same g.T.Teller.told g.S.Surroundings.traffic g.S.Surroundings.tells (not c.args.self.now.is_of_page) false c.take_line.new.self
     (record c.take_line.new.self {
       exchange = c.take_from_page-self.new.exchange;
       lines = c.take_from_page-self.new.lines;
       is_of_page = c.take_from_page-self.result;
     })
-    (record { rest = refl; shown = c.take_from_page-self.ensures.shown; took = c.take_from_page-self.ensures.took })).0
+    (record {
+      asked = c.take_from_page-self.ensures.took.0;
+      asks = c.take_from_page-self.ensures.took.1;
+      rest = refl;
+      shown = c.take_from_page-self.ensures.shown;
+      took = c.take_from_page-self.ensures.took.2;
+    })).0
     refl
 
 pub returns-clause-lines : goal.returns-clause-lines
@@ -30,8 +37,10 @@ returns-clause-lines g c = record {
   kept = c.hear.ensures.traffic;
   line = c.take_line.ensures.line;
   behind = record {
+    asked = c.take_from_page-self.ensures.took.0;
+    asks = c.take_from_page-self.ensures.took.1;
     rest = refl;
     shown = c.take_from_page-self.ensures.shown;
-    took = c.take_from_page-self.ensures.took;
+    took = c.take_from_page-self.ensures.took.2;
   };
 }

@@ -26,11 +26,11 @@ returns-in-Datagram-clause-does g c = rw (c.in-Datagram.is) c.datagram.ensures.l
 
 pub returns-in-Visit-clause-play : goal.returns-in-Visit-clause-play
 returns-in-Visit-clause-play g c =
-    let same = visit_same g.T.Teller.told g.S.Surroundings.traffic _ _ _ _ _ _ c.visit.ensures in
+    let same = visit_same g.T.Teller.told g.S.Surroundings.traffic g.S.Surroundings.tells _ _ _ _ _ _ c.visit.ensures in
     stays_so g.T.Teller.told g.S.Surroundings.traffic _ _ same.0 same.1
 
 pub returns-in-Visit-clause-does : goal.returns-in-Visit-clause-does
-returns-in-Visit-clause-does g c = rw (c.in-Visit.is) (visit_same g.T.Teller.told g.S.Surroundings.traffic _ _ _ _ _ _ c.visit.ensures).0
+returns-in-Visit-clause-does g c = rw (c.in-Visit.is) (visit_same g.T.Teller.told g.S.Surroundings.traffic g.S.Surroundings.tells _ _ _ _ _ _ c.visit.ensures).0
 
 -- what stays as it was
 

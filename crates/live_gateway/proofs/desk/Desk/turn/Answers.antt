@@ -80,7 +80,7 @@ returns-clause-does g c =
         read = c.situation-at.ensures.read;
         ready = rw (sym c.is_empty-is_line_left.ensures, c.situation-at.ensures.ticked) c.situation-at.ensures.ready.4;
       };
-      next = rw (leaves_schedule g.S.Surroundings.traffic g.V.Visitors.serves at.moment c.next-turn.result c.args.visitors.now c.do_turn.new.visitors
+      next = rw (leaves_schedule g.S.Surroundings.traffic g.S.Surroundings.tells g.V.Visitors.serves at.moment c.next-turn.result c.args.visitors.now c.do_turn.new.visitors
           (record c.args.self.now { exchange = c.begin.new.self; schedule = c.next-turn.new.self }) c.do_turn.new.self c.do_turn.ensures.leaves)
           c.next-turn.ensures;
       before = with_exchange (record c.args.self.now { schedule = c.next-turn.new.self }) _ _

@@ -29,8 +29,10 @@ returns g c =
       turn = c.serve_visitor.ensures.served;
       kept = c.serve_visitor.ensures.traffic;
       page = record {
+        asked = c.take_from_page-self.ensures.took.0;
+        asks = c.take_from_page-self.ensures.took.1;
         rest = refl;
         shown = c.take_from_page-self.ensures.shown;
-        took = c.take_from_page-self.ensures.took;
+        took = c.take_from_page-self.ensures.took.2;
       };
     }
