@@ -34,8 +34,6 @@ use std::alloc::{AllocError, Global};
 /// An exchange, and what is kept of its lines beside that.
 pub struct Office {
     exchange: Exchange,
-    plan: NumberPlan,
-    map: Text,
     cares: Vec<Care>,
     // The lines to which something has happened: what they are sent, and how they stand, may be another.
     worklist: Worklist,
@@ -46,14 +44,10 @@ impl Drop for Office {
     fn drop(self) {
         let Office {
             exchange,
-            plan,
-            map,
             cares,
             worklist,
         } = self;
         drop(exchange);
-        drop(plan);
-        drop(map);
         drop(cares);
         drop(worklist);
     }
@@ -481,16 +475,9 @@ fn tell_shown(
 }
 
 impl Office {
-    /// An exchange for so many lines, none of which is known yet. Digits are collected by this map, and mean the line that has that
-    /// number in this plan. An error is for want of memory only.
-    pub fn new(
-        alloc: Global,
-        count: usize,
-        plan: NumberPlan,
-        map: Text,
-    ) -> Result<Box<Office>, OutOfMemory>
+    /// An exchange for so many lines, none of which is known yet. An error is for want of memory only.
+    pub fn new(alloc: Global, count: usize) -> Result<Box<Office>, OutOfMemory>
         ensures exchange { IfOk result (λ office. office.value.exchange ≡ opening count 0) }
-        ensures dialled { IfOk result (λ office. (office.value.plan ≡ plan) × (office.value.map ≡ map)) }
         ensures cares { IfOk result (λ office. office.value.cares.items ≡ replicate count new_care) }
         ensures all_wait { IfOk result (λ office. office.value.worklist.is_all ≡ true) }
     {
@@ -498,8 +485,6 @@ impl Office {
         let cares = new_cares(alloc, count)?;
         let office = Office {
             exchange,
-            plan,
-            map,
             cares,
             worklist: Worklist::new(alloc, true),
         };
@@ -532,11 +517,16 @@ impl Office {
         self.worklist.at(0, index)
     }
 
-    /// The command that is to be issued to the line now, if one is; it is in flight from then on. After an error, which is for want of
-    /// memory, it was given up.
-    pub fn order(&mut self, alloc: Global, line: usize) -> Result<Option<Order>, OutOfMemory>
+    /// The command that is to be issued to the line now, if one is; it is in flight from then on. Its digits are collected by this map.
+    /// After an error, which is for want of memory, it was given up.
+    pub fn order(
+        &mut self,
+        alloc: Global,
+        line: usize,
+        map: &[u8],
+    ) -> Result<Option<Order>, OutOfMemory>
         ensures order { IfOk result (λ order. option_map shown order
-            ≡ ordered (slice_get self.old.cares.items line) self.old.exchange line self.old.map) }
+            ≡ ordered (slice_get self.old.cares.items line) self.old.exchange line map.now) }
         ensures begins { Begins line self.old.exchange self.old.cares.items self.new.exchange self.new.cares.items }
         ensures rest { self.new ≡ record self.old { exchange = self.new.exchange; cares = self.new.cares } }
     {
@@ -548,19 +538,24 @@ impl Office {
                 verb,
                 rest: copied(alloc, rest)?,
             })),
-            None => self.route(alloc, line),
+            None => self.route(alloc, line, map),
         }
     }
 
     // The command of the exchange to the line, where that sends one; else none is in flight.
-    fn route(&mut self, alloc: Global, line: usize) -> Result<Option<Order>, OutOfMemory>
-        ensures order { IfOk result (λ order. option_map shown order ≡ routed self.old.exchange line self.old.map) }
+    fn route(
+        &mut self,
+        alloc: Global,
+        line: usize,
+        map: &[u8],
+    ) -> Result<Option<Order>, OutOfMemory>
+        ensures order { IfOk result (λ order. option_map shown order ≡ routed self.old.exchange line map.now) }
         ensures sent { self.new.exchange ≡ sent_to self.old.exchange line }
         ensures cares { self.new.cares.items
             ≡ landed_if (is_none (due self.old.exchange line)) self.old.cares.items line }
         ensures rest { self.new ≡ record self.old { exchange = self.new.exchange; cares = self.new.cares } }
     {
-        let order = match routed(alloc, &mut self.exchange, line, self.map.as_bytes()) {
+        let order = match routed(alloc, &mut self.exchange, line, map) {
             Ok(order) => order,
             Err(refused) => return Err(refused),
         };
@@ -651,9 +646,10 @@ impl Office {
         touch(&mut self.worklist, &self.exchange, line);
     }
 
-    /// A notification of the line told this. Where memory is refused the line's hook is asked for.
-    pub fn told(&mut self, alloc: Global, line: usize, observed: &[Observed])
-        ensures hears { Hears (told_in self.old.plan observed.now) line self.old.exchange self.old.cares.items
+    /// A notification of the line told this, by which it may have dialled the number of a line of this plan. Where memory is refused the
+    /// line's hook is asked for.
+    pub fn told(&mut self, alloc: Global, plan: &NumberPlan, line: usize, observed: &[Observed])
+        ensures hears { Hears (told_in plan.now observed.now) line self.old.exchange self.old.cares.items
             self.new.exchange self.new.cares.items }
         ensures waits { waits self.new.worklist.waiting.items self.new.worklist.is_all line ≡ true }
         ensures rest { self.new ≡ record self.old { exchange = self.new.exchange; cares = self.new.cares; worklist = self.new.worklist } }
@@ -663,7 +659,7 @@ impl Office {
             alloc,
             &mut self.exchange,
             &mut self.cares,
-            &self.plan,
+            plan,
             line,
             observed,
         );

@@ -16,7 +16,8 @@ found_so observed told taken is_none found told_is none_is found_is =
     found_is ∙ ap (λ (none : Bool). not none) none_is ∙ ap (λ (list : List Observed). not (length list == 0)) told_is
 
 -- so the line told something
-pub hears_some : (line : ℕ) (told : List Observed) (was is : Option (Box Office)) → HearsTold line told was is → OfOffice (HearsSome line) was is
-hears_some line told None is hears = hears
-hears_some line told (Some was) None hears = hears
-hears_some line told (Some was) (Some is) hears = (told_in was.value.plan told, hears)
+pub hears_some : (plan : List (List ℕ)) (line : ℕ) (told : List Observed) (was is : Option (Box Office)) → HearsTold plan line told was is
+    → OfOffice (HearsSome line) was is
+hears_some plan line told None is hears = hears
+hears_some plan line told (Some was) None hears = hears
+hears_some plan line told (Some was) (Some is) hears = (told_in plan told, hears)

@@ -18,10 +18,10 @@ use Rattle.switchboard.specs.declared.switchboard.Switchboard.{Switchboard}
 use Rattle.call_office.specs.Orders.{Shown, ordered}
 use Rattle.switchboard.specs.Steps.{AtPlace, OthersStay, Sends}
 
--- the command that a line is sent now, by its duty and the exchange of a board; none where there is no exchange
-abbrev pub ordered_in : ℕ → Option (Box Office) → Option Shown
-ordered_in line None = None
-ordered_in line (Some office) = ordered (slice_get office.value.cares.items line) office.value.exchange line office.value.map
+-- the command that a line is sent now, by its duty and the exchange of a board, with this digit map; none where there is no exchange
+abbrev pub ordered_in : ℕ → List ℕ → Option (Box Office) → Option Shown
+ordered_in line map None = None
+ordered_in line map (Some office) = ordered (slice_get office.value.cares.items line) office.value.exchange line map
 
 -- A command that was issued is in flight at a gateway from the moment of its clock on, behind the others: to a line, or to none where it
 -- was typed. Its text is kept as far as a datagram may be long.
@@ -71,7 +71,7 @@ IssuesOrder line (Some order) (Some issued) station were are = IssuesTo line ord
 abbrev pub IssuesSettled : Option ℕ → Option Issued → Switchboard → Switchboard → Type 0
 IssuesSettled None issued was is = (issued ≡ None) × (is.gateways.items ≡ was.gateways.items)
 IssuesSettled (Some line) issued was is =
-    IssuesOrder line (ordered_in line was.office) issued (slice_get was.stations.items line) was.gateways.items is.gateways.items
+    IssuesOrder line (ordered_in line was.dialling.value.map was.office) issued (slice_get was.stations.items line) was.gateways.items is.gateways.items
 
 -- Of the gateways that of a line alone may have issued something; all others are as they were.
 abbrev pub SendsAlone : Option Station → List Gateway → List Gateway → Type 0

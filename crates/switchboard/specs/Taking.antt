@@ -20,16 +20,16 @@ IsObserved line gateway observed =
     (events : List AgentEvent) → AgentStands gateway.agent.value events
     → observed ≡ observed_on line (plain_agent gateway.agent.value.setup events)
 
--- the exchange, if there is one, is told this of a line
-abbrev pub HearsTold : ℕ → List Observed → Option (Box Office) → Option (Box Office) → Type 0
-HearsTold line told None is = is ≡ None
-HearsTold line told (Some was) is =
-    IsSomeAnd is (λ office. Hears (told_in was.value.plan told) line was.value.exchange was.value.cares.items
+-- the exchange, if there is one, is told this of a line, by the numbers of its lines
+abbrev pub HearsTold : List (List ℕ) → ℕ → List Observed → Option (Box Office) → Option (Box Office) → Type 0
+HearsTold plan line told None is = is ≡ None
+HearsTold plan line told (Some was) is =
+    IsSomeAnd is (λ office. Hears (told_in plan told) line was.value.exchange was.value.cares.items
     office.value.exchange office.value.cares.items)
 
-abbrev pub HearsIf : Bool → ℕ → List Observed → Option (Box Office) → Option (Box Office) → Type 0
-HearsIf false line told was is = is ≡ was
-HearsIf true line told was is = HearsTold line told was is
+abbrev pub HearsIf : Bool → List (List ℕ) → ℕ → List Observed → Option (Box Office) → Option (Box Office) → Type 0
+HearsIf false plan line told was is = is ≡ was
+HearsIf true plan line told was is = HearsTold plan line told was is
 
 -- so much of it is taken from then on
 abbrev pub with_taken : Bool → List Observed → Station → Station
@@ -37,11 +37,11 @@ with_taken false observed station = station
 with_taken true observed station = record station { taken = length observed }
 
 -- what a line of a gateway told and wasn't taken yet is, if there is any: whether there is
-abbrev pub TakesFrom : ℕ → Gateway → Station → Bool → Option (Box Office) → Option (Box Office) → Station → Type 0
-TakesFrom line gateway station found was is after =
+abbrev pub TakesFrom : List (List ℕ) → ℕ → Gateway → Station → Bool → Option (Box Office) → Option (Box Office) → Station → Type 0
+TakesFrom plan line gateway station found was is after =
     (observed : List Observed) × IsObserved station.line gateway observed
     × (found ≡ not (length (drop station.taken observed) == 0))
-    × HearsIf found line (drop station.taken observed) was is
+    × HearsIf found plan line (drop station.taken observed) was is
     × (after ≡ with_taken found observed station)
 
 -- each line but the one at this place is as it was
@@ -61,7 +61,7 @@ abbrev pub TakesTold : ℕ → Option Gateway → Option Station → Bool → Sw
 TakesTold line None station found was is = TakesNone found was is
 TakesTold line (Some gateway) None found was is = TakesNone found was is
 TakesTold line (Some gateway) (Some station) found was is =
-    IsSomeAnd (slice_get is.stations.items line) (λ after. TakesFrom line gateway station found was.office is.office after)
+    IsSomeAnd (slice_get is.stations.items line) (λ after. TakesFrom was.dialling.value.plan line gateway station found was.office is.office after)
     × OtherLinesStay line was.stations.items is.stations.items
 
 abbrev pub TakesOf : ℕ → Option ℕ → Bool → Switchboard → Switchboard → Type 0

@@ -88,8 +88,8 @@ pub fn what_is_heard_has_examples()
 /// What is taken of a line.
 pub fn what_is_taken_has_examples()
     // What was taken of a line is kept; where it told nothing more nothing is taken, nor where there is no line or no gateway.
-    ensures nothing_told { (office : Option (Box Office)) → HearsIf false 0 [] office office }
-    ensures no_exchange { (told : List Observed) → HearsIf true 0 told None None }
+    ensures nothing_told { (office : Option (Box Office)) → HearsIf false [] 0 [] office office }
+    ensures no_exchange { (told : List Observed) → HearsIf true [] 0 told None None }
     ensures nothing_taken { (observed : List Observed) (station : Station) → with_taken false observed station ≡ station }
     ensures taken { (event : Observed) (station : Station) →
         with_taken true (event ∷ event ∷ []) station ≡ record station { taken = 2 } }

@@ -8,6 +8,7 @@
 #![tactic(auto)]
 
 mod announcing;
+mod dialling;
 pub mod examples;
 mod flight;
 mod gateway;

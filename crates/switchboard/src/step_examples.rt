@@ -1,7 +1,7 @@
 //! Worked examples of what a step of a board does, as theorems.
 #![tactic(auto, unfolding(crate::proofs::Computing::on_examples))]
 
-ghost use Rattle.std.specs.Prelude.{◌≡◌, [], ◌∷◌, Bool, true, false, List, Option, Some, None, Err, take};
+ghost use Rattle.std.specs.Prelude.{◌≡◌, [], ◌∷◌, ℕ, Bool, true, false, List, Option, Some, None, Err, take};
 ghost use Rattle.std.specs.Global.{Box};
 ghost use Rattle.call_routing.specs.Exchange.{told};
 ghost use Rattle.switchboard.specs.declared.gateway.Gateway.{Gateway};
@@ -101,12 +101,12 @@ pub fn what_falls_due_next_has_examples()
 /// What a line of a board is sent, and who issues it.
 pub fn what_a_line_is_sent_has_examples()
     // What its duty says, or else the exchange; nothing where there is no exchange, or no such line.
-    ensures no_exchange { ordered_in 0 None ≡ None }
-    ensures no_line { (office : Box Office) → office.value.cares.items ≡ [] → ordered_in 0 (Some office) ≡ None }
+    ensures no_exchange { ordered_in 0 [] None ≡ None }
+    ensures no_line { (office : Box Office) → office.value.cares.items ≡ [] → ordered_in 0 [] (Some office) ≡ None }
     ensures duty { (office : Box Office) → office.value.cares.items ≡ audited ∷ new_care ∷ [] →
-        ordered_in 1 (Some office) ≡ fixed_order duties.Clear }
-    ensures exchange { (office : Box Office) → office.value.cares.items ≡ audited ∷ [] →
-        ordered_in 0 (Some office) ≡ routed office.value.exchange 0 office.value.map }
+        ordered_in 1 [] (Some office) ≡ fixed_order duties.Clear }
+    ensures exchange { (office : Box Office) (map : List ℕ) → office.value.cares.items ≡ audited ∷ [] →
+        ordered_in 0 map (Some office) ≡ routed office.value.exchange 0 map }
     // It is issued where it is sent, and nothing else is; to a line that there isn't, or whose gateway there isn't, nothing can be.
     ensures nothing { (station : Option Station) (gateways : List Gateway) → IssuesOrder 0 None None station gateways gateways }
     ensures unsent { (station : Option Station) (order : Shown) (gateways : List Gateway) →

@@ -23,6 +23,7 @@ ghost use Rattle.switchboard.specs.TypedCommands.{IssuesThere, IssuesTyped};
 ghost use Rattle.call_office.specs.Waiting.{Settles};
 
 use crate::announcing::announce_all;
+use crate::dialling::Dialling;
 use crate::flight::Flight;
 use crate::gateway::{Gateway, Wake};
 use crate::naming::{has_domain, is_unknown, line_meant, method_of};
@@ -50,6 +51,7 @@ pub struct Switchboard {
     stations: Vec<Station>,
     // In a box: a check pays for all that a value holds inline at each step of a function that is lent it.
     office: Option<Box<Office>>,
+    dialling: Box<Dialling>,
     // The lines of the gateway that was heard last whose notifications came.
     notifying: Worklist,
 }
@@ -62,11 +64,13 @@ impl Drop for Switchboard {
             gateways,
             stations,
             office,
+            dialling,
             notifying,
         } = self;
         drop(gateways);
         drop(stations);
         drop(office);
+        drop(dialling);
         drop(notifying);
     }
 }
@@ -107,14 +111,17 @@ fn is_at(gateway: &Gateway, address: SocketAddrV4) -> bool
 
 impl Switchboard {
     // No gateways, and no exchange.
-    fn new(alloc: Global) -> Switchboard {
-        Switchboard {
+    fn new(alloc: Global) -> Result<Switchboard, OutOfMemory> {
+        let plan = NumberPlan::of(Vec::new(alloc));
+        let dialling = Dialling::of(alloc, plan, Text::of(Vec::new(alloc)))?;
+        Ok(Switchboard {
             alloc,
             gateways: Vec::new(alloc),
             stations: Vec::new(alloc),
             office: None,
+            dialling,
             notifying: Worklist::new(alloc, false),
-        }
+        })
     }
 
     // Adds a gateway behind the others, with a line for each number. The agent has this address of its own; it is this time of day, in
@@ -145,7 +152,8 @@ impl Switchboard {
     fn open(&mut self, map: &[u8]) -> Result<(), OutOfMemory> {
         let plan = plan_of(self.alloc, &self.stations)?;
         let map = copied(self.alloc, map)?;
-        let office = Office::new(self.alloc, self.stations.len(), plan, map)?;
+        let office = Office::new(self.alloc, self.stations.len())?;
+        self.dialling = Dialling::of(self.alloc, plan, map)?;
         self.office = Some(office);
         Ok(())
     }
@@ -176,7 +184,7 @@ impl Switchboard {
         is_routed: bool,
         time: u64,
     ) -> Result<Switchboard, OutOfMemory> {
-        let mut board = Switchboard::new(alloc);
+        let mut board = Switchboard::new(alloc)?;
         match board.fill(config, is_routed, time) {
             Ok(()) => Ok(board),
             Err(refused) => Err(refused),
@@ -379,12 +387,12 @@ impl Switchboard {
     // The command that is to be issued to a line now, if one is; it is in flight from then on. After an error, which is for want of
     // memory, it was given up.
     fn order(&mut self, line: usize) -> Result<Option<Order>, OutOfMemory>
-        ensures order { IfOk result (λ order. option_map shown order ≡ ordered_in line self.old.office) }
+        ensures order { IfOk result (λ order. option_map shown order ≡ ordered_in line self.old.dialling.value.map self.old.office) }
         ensures office { OfOffice (Begins line) self.old.office self.new.office }
         ensures rest { self.new ≡ record self.old { office = self.new.office } }
     {
         match &mut self.office {
-            Some(office) => office.order(self.alloc, line),
+            Some(office) => office.order(self.alloc, line, self.dialling.map.as_bytes()),
             None => Ok(None),
         }
     }
@@ -392,7 +400,7 @@ impl Switchboard {
     // Issues what a line is to be sent now: what is to be sent, if anything is. Where it can't be issued it counts as given up.
     fn issue_to(&mut self, line: usize) -> Result<Option<Issued>, IssueFault>
         ensures office { Issues (is_err result) line self.old.office self.new.office }
-        ensures issued { IfOk result (λ issued. IssuesOrder line (ordered_in line self.old.office) issued
+        ensures issued { IfOk result (λ issued. IssuesOrder line (ordered_in line self.old.dialling.value.map self.old.office) issued
             (slice_get self.old.stations.items line) self.old.gateways.items self.new.gateways.items) }
         ensures alone { SendsAlone (slice_get self.old.stations.items line) self.old.gateways.items self.new.gateways.items }
         ensures rest { self.new ≡ record self.old { gateways = self.new.gateways; office = self.new.office } }
@@ -761,6 +769,7 @@ impl Switchboard {
         };
         take_from(
             self.alloc,
+            &self.dialling.plan,
             gateway,
             station,
             &mut self.office,

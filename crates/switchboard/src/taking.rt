@@ -9,6 +9,7 @@ ghost use Rattle.switchboard.specs.Tallying.{counted_if};
 use crate::gateway::Gateway;
 use agent_texts::{Journal, Station};
 use call_office::Office;
+use call_routing::NumberPlan;
 use event_values::Observed;
 use std::alloc::Global;
 
@@ -23,24 +24,32 @@ fn behind(observed: &[Observed], taken: usize) -> &[Observed]
 }
 
 // The exchange, if there is one, is told this of a line.
-fn tell_office(alloc: Global, office: &mut Option<Box<Office>>, line: usize, told: &[Observed])
-    ensures { HearsTold line told.now office.old office.new }
+fn tell_office(
+    alloc: Global,
+    plan: &NumberPlan,
+    office: &mut Option<Box<Office>>,
+    line: usize,
+    told: &[Observed],
+)
+    ensures { HearsTold plan.now line told.now office.old office.new }
 {
     if let Some(office) = office {
-        office.told(alloc, line, told);
+        office.told(alloc, plan, line, told);
     }
 }
 
-/// Takes what a line of a gateway, which has this place in the exchange, has told and wasn't taken yet: whether there was anything.
+/// Takes what a line of a gateway, which has this place in the exchange, has told and wasn't taken yet: whether there was anything. Digits
+/// mean a line by this plan.
 pub(crate) fn take_from(
     alloc: Global,
+    plan: &NumberPlan,
     gateway: &Gateway,
     station: &mut Station,
     office: &mut Option<Box<Office>>,
     journal: &mut Journal,
     line: usize,
 ) -> bool
-    ensures takes { TakesFrom line gateway.now station.old result office.old office.new station.new }
+    ensures takes { TakesFrom plan.now line gateway.now station.old result office.old office.new station.new }
     ensures told { result ≡ true → OfOffice (HearsSome line) office.old office.new }
     ensures nothing { result ≡ false → office.new ≡ office.old }
     ensures tally { journal.new.tally ≡ counted_if result with_notification journal.old.tally }
@@ -53,6 +62,6 @@ pub(crate) fn take_from(
     }
     station.taken = observed.len();
     journal.tell_notification(station.name.as_bytes(), told);
-    tell_office(alloc, office, line, told);
+    tell_office(alloc, plan, office, line, told);
     true
 }

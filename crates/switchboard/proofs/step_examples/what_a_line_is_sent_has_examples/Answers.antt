@@ -8,18 +8,15 @@ use Rattle.switchboard.proofs.step_examples.what_a_line_is_sent_has_examples.Goa
 
 pub returns-clause-no_line : goal.returns-clause-no_line
 unfolding on_examples
-returns-clause-no_line c = λ office cares.
-    ap (λ (list : List Care). ordered (slice_get list 0) office.value.exchange 0 office.value.map) cares
+returns-clause-no_line c = λ office cares. ap (λ (list : List Care). ordered (slice_get list 0) office.value.exchange 0 []) cares
 
 pub returns-clause-duty : goal.returns-clause-duty
 unfolding on_examples
-returns-clause-duty c = λ office cares.
-    ap (λ (list : List Care). ordered (slice_get list 1) office.value.exchange 1 office.value.map) cares
+returns-clause-duty c = λ office cares. ap (λ (list : List Care). ordered (slice_get list 1) office.value.exchange 1 []) cares
 
 pub returns-clause-exchange : goal.returns-clause-exchange
 unfolding on_examples
-returns-clause-exchange c = λ office cares.
-    ap (λ (list : List Care). ordered (slice_get list 0) office.value.exchange 0 office.value.map) cares
+returns-clause-exchange c = λ office map cares. ap (λ (list : List Care). ordered (slice_get list 0) office.value.exchange 0 map) cares
 
 pub returns-clause-unsent : goal.returns-clause-unsent
 returns-clause-unsent c = λ station order gateways impossible. impossible

@@ -6,7 +6,7 @@ use Rattle.switchboard.proofs.switchboard.Switchboard.issue_to.Goals as goal
 
 pub returns-in-Ok-clause-issued : goal.returns-in-Ok-clause-issued
 returns-in-Ok-clause-issued c =
-    issued_order c.args.line (shown c.in-Ok-Some.order) (ordered_in c.args.line c.args.self.now.office) c.in-Ok.issued c.args.self.now
+    issued_order c.args.line (shown c.in-Ok-Some.order) (ordered_in c.args.line c.args.self.now.dialling.value.map c.args.self.now.office) c.in-Ok.issued c.args.self.now
     c.order.new.self c.issue.new.self (rw (c.in-Ok-Some.field-0-is) at c.in-Ok-Some.ensures.order) c.order.ensures.rest
     c.in-Ok.ensures.issued
 
