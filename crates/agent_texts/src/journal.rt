@@ -186,7 +186,14 @@ impl Journal {
     }
 
     /// Keeps what was recorded since this was called last, at this moment, in microseconds since 1970, and writes what is taken at once.
-    pub fn write<F: Write + Drop>(&mut self, outlets: &mut Outlets<F>, time: u64) {
+    pub fn write<F: Write + Drop>(&mut self, outlets: &mut Outlets<F>, time: u64)
+        ensures rest { self.new ≡ record self.old {
+          told = self.new.told;
+          log = self.new.log;
+          capture = self.new.capture;
+          written = self.new.written;
+        } }
+    {
         let output = &mut *outlets.output;
         output.keep_log(&mut self.told, time);
         output.end_refused(&self.told, b"");
