@@ -9,8 +9,9 @@ use std::io::Write;
 /// Where what was recorded is written.
 pub trait Recorder {
     /// Keeps what was recorded at a turn, at this moment, in microseconds since 1970, and writes as much of what is kept as is taken
-    /// at once.
-    fn write(&mut self, journal: &mut Journal, time: u64);
+    /// at once. That counts nothing, and what was counted stays.
+    fn write(&mut self, journal: &mut Journal, time: u64)
+        ensures kept { journal.new.tally ≡ journal.old.tally };
 
     /// Whether something waits to be taken: so it is offered again soon, whether anything comes or not.
     fn is_offering(&self) -> bool;

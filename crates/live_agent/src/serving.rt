@@ -147,7 +147,8 @@ fn finish<R: Clock, W: Recorder + Finisher>(
     time: u64,
     has_failed: bool,
 ) -> CommonEnding
-    ensures { EndsWith W.ends has_failed journal.new recorder.new result }
+    ensures ends { EndsWith W.ends has_failed journal.new recorder.new result }
+    ensures tally { journal.new.tally ≡ journal.old.tally }
 {
     recorder.write(journal, time);
     let Ok(counts) = journal.counts() else {

@@ -1,4 +1,6 @@
 //! What a program records, kept as the program keeps it, and read late, or never.
+ghost use Rattle.std.specs.Prelude.{◌≡◌};
+
 use crate::stories::clocks::Clocks;
 use crate::stories::transcript::Transcript;
 use live_journal::{Journal, Trace};
@@ -156,12 +158,16 @@ impl LateLog {
     }
 
     /// Keeps what was recorded, at this time, as the program does.
-    pub fn write(&mut self, journal: &mut Journal, trace: &mut Trace, time: u64) {
+    pub fn write(&mut self, journal: &mut Journal, trace: &mut Trace, time: u64)
+        ensures { (journal.new.tally ≡ journal.old.tally) × (journal.new.board ≡ journal.old.board) }
+    {
         journal.write(trace, &mut self.outlets, time);
     }
 
     /// Keeps what a call agent recorded, at this time, as that does.
-    pub fn write_agent(&mut self, journal: &mut agent_texts::Journal, time: u64) {
+    pub fn write_agent(&mut self, journal: &mut agent_texts::Journal, time: u64)
+        ensures { journal.new.tally ≡ journal.old.tally }
+    {
         journal.write(&mut self.outlets, time);
     }
 

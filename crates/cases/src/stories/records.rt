@@ -1,4 +1,6 @@
 //! What a program records, kept as it is written.
+ghost use Rattle.std.specs.Prelude.{◌≡◌};
+
 use crate::stories::Transcript;
 use crate::stories::clocks::Clocks;
 use crate::stories::late_log::{LateLog, LateRecord};
@@ -104,7 +106,9 @@ impl Records {
     }
 
     /// Keeps what was recorded at this time as the program does, where that is read late: whether it is.
-    pub fn keep_late(&mut self, journal: &mut Journal, trace: &mut Trace, time: u64) -> bool {
+    pub fn keep_late(&mut self, journal: &mut Journal, trace: &mut Trace, time: u64) -> bool
+        ensures { (journal.new.tally ≡ journal.old.tally) × (journal.new.board ≡ journal.old.board) }
+    {
         let Some(late_log) = &mut self.late_log else {
             return false;
         };
@@ -113,7 +117,9 @@ impl Records {
     }
 
     /// Keeps what a call agent recorded at this time as that does, where that is read late: whether it is.
-    pub fn keep_agent_late(&mut self, journal: &mut agent_texts::Journal, time: u64) -> bool {
+    pub fn keep_agent_late(&mut self, journal: &mut agent_texts::Journal, time: u64) -> bool
+        ensures { journal.new.tally ≡ journal.old.tally }
+    {
         let Some(late_log) = &mut self.late_log else {
             return false;
         };
