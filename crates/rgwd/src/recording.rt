@@ -34,7 +34,9 @@ fn begin_next<R: Files>(
     files: &mut CaptureFiles,
     outlets: &mut Outlets<R::File>,
     journal: &mut Journal,
-) {
+)
+    ensures { journal.new ≡ record journal.old { capture = journal.new.capture } }
+{
     match files.next(rt) {
         Ok(outlet) => {
             outlets.capture = Some(outlet);
@@ -65,7 +67,9 @@ fn turn_over<R: Files>(
     files: &mut CaptureFiles,
     outlets: &mut Outlets<R::File>,
     journal: &mut Journal,
-) {
+)
+    ensures { journal.new ≡ record journal.old { capture = journal.new.capture } }
+{
     let more = journal.capture.record.out.len();
     if more > 0 && files.is_full(more) && is_taken(outlets) {
         begin_next(rt, files, outlets, journal);
