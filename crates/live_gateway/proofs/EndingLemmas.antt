@@ -79,8 +79,10 @@ pub only_ends : {S T : Type 0} (old mid new : Desk S T) (play : LivePlay T) → 
     → new ≡ record mid { exchange = new.exchange; lines = new.lines } → OnlyEnds old new
 only_ends {S} {T} old mid new play ended gateway written rest kept last = record {
   gateway = ap (λ (d : Desk S T). d.play.gateway) last ∙ gateway ∙ ended;
+  counted = ap (λ (e : Exchange S). e.journal.tally) kept ∙ written.counted;
+  shown = ap (λ (e : Exchange S). e.journal.board) kept ∙ written.shown;
   exchange = kept
-      ∙ ap (λ (e : Exchange S). let x : Exchange S = record e { around = new.exchange.around } in x) written
+      ∙ ap (λ (e : Exchange S). let x : Exchange S = record e { around = new.exchange.around } in x) written.rest
       ∙ ap (λ (j : Journal). let x : Exchange S = record old.exchange { around = new.exchange.around; journal = j; is_offering = mid.exchange.is_offering } in x)
       (sym (ap (λ (e : Exchange S). e.journal) kept))
       ∙ ap (λ (b : Bool). let x : Exchange S = record old.exchange { around = new.exchange.around; journal = new.exchange.journal; is_offering = b } in x)

@@ -59,10 +59,12 @@ EndsWith ends desk was is ending =
     ⊎ ((last : List ℕ) × (written : Written) × IsCounted desk last × ends last was written is
     × (ending ≡ served_ending (is_record_refused desk.play.teller desk.exchange.journal) (faults_in written)))
 
--- What is around a desk that ends changes, its lines, and what is recorded and told of that. Nothing else does, but in its play; and the
--- gateway of that stays.
+-- What is around a desk that ends changes, its lines, and what is recorded and told of that: what was counted stays, and what the page is
+-- shown. Nothing else changes, but in its play; and the gateway of that stays.
 pub record OnlyEnds {S T : Type 0} (was is : Desk S T) : Type 0 where
   pub gateway : is.play.gateway ≡ was.play.gateway
+  pub counted : is.exchange.journal.tally ≡ was.exchange.journal.tally
+  pub shown : is.exchange.journal.board ≡ was.exchange.journal.board
   pub exchange : is.exchange ≡ record was.exchange {
     around = is.exchange.around;
     journal = is.exchange.journal;

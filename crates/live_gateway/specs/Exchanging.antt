@@ -143,9 +143,12 @@ with_read false read = read
 abbrev pub IsSameTurn : {S : Type 0} → Exchange S → Exchange S → Type 0
 IsSameTurn was is = (is.now ≡ was.now) × (is.is_offering ≡ was.is_offering)
 
--- of an exchange, only what is recorded changes, and whether some of that waits to be taken
-abbrev pub OnlyWrites : {S : Type 0} → Exchange S → Exchange S → Type 0
-OnlyWrites was is = is ≡ record was { journal = is.journal; is_offering = is.is_offering }
+-- of an exchange, only what is recorded changes, and whether some of that waits to be taken: what was counted stays, and what the page is
+-- shown
+pub record OnlyWrites {S : Type 0} (was is : Exchange S) : Type 0 where
+  pub counted : is.journal.tally ≡ was.journal.tally
+  pub shown : is.journal.board ≡ was.journal.board
+  pub rest : is ≡ record was { journal = is.journal; is_offering = is.is_offering }
 
 -- so many datagrams were read, where a look for one gave this: a datagram counts, whatever becomes of it
 abbrev pub read_at : Result (Option (SocketAddrV4 × ℕ)) Fault → ℕ → ℕ

@@ -12,9 +12,9 @@ ghost use Rattle.live_gateway.specs.declared.desk.Desk.{Desk};
 ghost use Rattle.live_gateway.specs.declared.exchange.Exchange.{Exchange};
 ghost use Rattle.live_gateway.specs.Admitting.{is_heard};
 ghost use Rattle.live_gateway.specs.Answering.{IsActAnswer};
-ghost use Rattle.live_gateway.specs.Ending.{is_record_refused, IsCounted};
+ghost use Rattle.live_gateway.specs.Ending.{is_record_refused, IsCounted, OnlyEnds};
 ghost use Rattle.live_laws.specs.TurnExample.{one, lost_one, once, failed, LooksNowhere, FindsNothing, SendsNowhere, HandsAnywhere, HandsNowhere, HandsWith, EndsSaying, CountsStranger};
-ghost use Rattle.live_gateway.specs.Exchanging.{heard_in, mark_of, is_lost, faults_by, faultless, with_unreceived, unsent_in, IsTold, OnlySends, Explains, Notes, LosesOver};
+ghost use Rattle.live_gateway.specs.Exchanging.{heard_in, mark_of, is_lost, faults_by, faultless, with_unreceived, unsent_in, IsTold, OnlySends, OnlyWrites, Explains, Notes, LosesOver};
 ghost use Rattle.gateway_core.specs.Wire.{counted};
 ghost use Rattle.message_counts.specs.Counting.{counts_in};
 ghost use Rattle.message_counts.specs.Tallying.{with_handed_out};
@@ -134,4 +134,15 @@ pub fn what_visitors_have_has_examples()
     ensures never { (deadline : Option ℕ) → ClosesAt {V = ℕ} (λ v at. ⊤) None deadline → deadline ≡ None }
     ensures unserved { (one : Box ℕ) (board : Box BoardState) (left : Option (Box ℕ)) (shown : Option (Box BoardState))
         → ServesOnce {S = ℕ} (λ v s b at w t c. ⊥) 5 (Some one) 0 (Some board) left 0 shown → ⊥ }
+{}
+
+/// Where what was recorded is written, and where a desk ends, what was counted stays, and what the page is shown; of a desk that ends
+/// its gateway does too, and when it ends.
+pub fn what_writing_leaves_has_examples()
+    ensures wrote { (was is : Exchange ℕ) → OnlyWrites was is
+        → (is.journal.tally ≡ was.journal.tally) × (is.journal.board ≡ was.journal.board) × (is.faults ≡ was.faults) }
+    ensures ended { (was is : Desk ℕ ℕ) → OnlyEnds was is
+        → (is.exchange.journal.tally ≡ was.exchange.journal.tally) × (is.exchange.journal.board ≡ was.exchange.journal.board) }
+    ensures rested { (was is : Desk ℕ ℕ) → OnlyEnds was is
+        → (is.play.gateway ≡ was.play.gateway) × (is.exchange.faults ≡ was.exchange.faults) × (is.end ≡ was.end) }
 {}

@@ -13,11 +13,11 @@ returns-clause-ended g c = (
 
 pub returns-clause-stopped : goal.returns-clause-stopped
 returns-clause-stopped g c =
-    stopped_so g.S.Surroundings.answers _ _ _ _ _ _ c.write.ensures.lines (ap (λ e. e.around) c.write.ensures.exchange) c.answer_stop.ensures.stopped
+    stopped_so g.S.Surroundings.answers _ _ _ _ _ _ c.write.ensures.lines (ap (λ e. e.around) c.write.ensures.exchange.rest) c.answer_stop.ensures.stopped
 
 pub returns-clause-other : goal.returns-clause-other
 returns-clause-other g c =
-    unasked_so _ _ _ _ _ c.write.ensures.lines (ap (λ e. e.around) c.write.ensures.exchange)
+    unasked_so _ _ _ _ _ c.write.ensures.lines (ap (λ e. e.around) c.write.ensures.exchange.rest)
     (λ unasked. ap (λ e. e.around) (c.answer_stop.ensures.other unasked))
 
 pub returns-clause-rest : goal.returns-clause-rest

@@ -11,3 +11,6 @@ returns-clause-play g c =
     c.write.ensures.told
     refl
     refl
+
+pub returns-clause-exchange : goal.returns-clause-exchange
+returns-clause-exchange g c = record { counted = c.write.ensures.kept.0; shown = c.write.ensures.kept.1; rest = refl }
