@@ -13,7 +13,7 @@ use Rattle.traces.specs.Writing.{Input, typed}
 use Rattle.surroundings.specs.declared.surroundings.Fault.{Fault}
 use Rattle.live_play.specs.Running.{Live, RanOf, TakesBy, Refuses, Asked}
 use Rattle.live_telephones.specs.Asking.{usage}
-use Rattle.live_telephones.specs.Watching.{AnswersWatch, BeginsToSee}
+use Rattle.live_telephones.specs.Watching.{AnswersWatch, BeginsToSee, IsUnasked}
 use Rattle.live_telephones.specs.declared.watch.Watch.{Watch}
 use Rattle.live_gateway.specs.declared.exchange.Exchange.{Exchange}
 use Rattle.live_gateway.specs.Desk.{Standing, with_input}
@@ -69,7 +69,7 @@ pub watch_so : {V E : Type 0} (items : V → List ℕ) (put : Result V E) (sende
     → IfOk put (λ v. AnswersWatch was.watchers.places address (plain gateway.setup events).now seconds was.told.number (items v) is.watchers.places))
     → ((events : List GatewayEvent) (address : SocketAddrV4) → Stands gateway events → sender ≡ Some address
     → IfOk put (λ v. BeginsToSee gateway.setup (plain gateway.setup events) was is))
-    → IfErr put (λ e. is.watchers ≡ was.watchers) → IfOk put (λ v. tells (items v)) → IfErr put (λ e. tells no_memory)
+    → IfErr put (λ e. IsUnasked gateway was is) → IfOk put (λ v. tells (items v)) → IfErr put (λ e. tells no_memory)
     → (answer : List ℕ) × AsksToWatch sender gateway seconds answer was is × tells answer
 watch_so items (Ok v) None gateway seconds was is tells nobody some seen kept told memory = (items v, inr (nobody refl), told)
 watch_so items (Ok v) (Some address) gateway seconds was is tells nobody some seen kept told memory =

@@ -28,7 +28,7 @@ use Rattle.live_play.specs.Running.{Live, RanOf, Refuses, Asked, lines_shown}
 use Rattle.live_telephones.specs.Admitting.{typist_of}
 use Rattle.live_telephones.specs.Asking.{AsksFor, request_in, short_text, usage, wants_memory}
 use Rattle.live_telephones.specs.Losses.{counts_text}
-use Rattle.live_telephones.specs.Watching.{AnswersWatch, BeginsToSee}
+use Rattle.live_telephones.specs.Watching.{AnswersWatch, BeginsToSee, IsUnasked}
 use Rattle.live_telephones.specs.declared.telephones.Typist.{Typist}
 use Rattle.live_telephones.specs.declared.telephones.TelephoneRequest.{TelephoneRequest}
 use Rattle.live_telephones.specs.declared.telephones.TelephoneRequest.TheVariants.{Act as AsksAct, Show, ShowAll, Watch as AsksWatch, Counts, Stop, StopFromAfar, Refused, Unknown, OutOfMemory}
@@ -119,10 +119,10 @@ WatchesFor (Some address) gateway seconds answer was is = (events : List Gateway
     AnswersWatch was.watchers.places address (plain gateway.setup events).now seconds was.told.number answer is.watchers.places
     × BeginsToSee gateway.setup (plain gateway.setup events) was is
 
--- so it is, or memory is refused, and nobody's watch changes
+-- so it is, or memory is refused, and nobody's watch changes, nor what they have seen
 abbrev pub AsksToWatch : Option SocketAddrV4 → GatewayState → ℕ → List ℕ → Watch → Watch → Type 0
 AsksToWatch sender gateway seconds answer was is =
-    ((answer ≡ no_memory) × (is.watchers ≡ was.watchers)) ⊎ WatchesFor sender gateway seconds answer was is
+    ((answer ≡ no_memory) × IsUnasked gateway was is) ⊎ WatchesFor sender gateway seconds answer was is
 
 -- what is answered to what asks neither for an act nor for what a line is; who asks for the end is answered when that has come
 abbrev pub AnswersRequest : {S T : Type 0} → (S → SocketAddr → List ℕ → S → Type 0) → TelephoneRequest → Desk S T → Desk S T → Type 0

@@ -1,13 +1,19 @@
 -- How those who watch are told something one behind the other.
-use Rattle.std.proofs.Common.{◌≡◌, ℕ, zero, suc, ◌+◌, ◌<◌, length, take, get_or, List, [], ◌∷◌, ◌++◌, Option, refl, ap, ◌∙◌, subst, Result, Ok, Err, IfErr, arith}
+use Rattle.std.proofs.Common.{◌≡◌, ℕ, true, zero, suc, ◌+◌, ◌<◌, length, take, get_or, List, [], ◌∷◌, ◌++◌, Option, refl, ap, ◌∙◌, subst, Result, Ok, Err, IfErr, arith}
 use Rattle.std.proofs.lemmas.List.{take_more}
 use Rattle.std.specs.declared.net.socket_addr.SocketAddr.{SocketAddr}
 use Rattle.line_changes.specs.declared.watchers.Watcher.{Watcher}
+use Rattle.line_changes.specs.declared.watchers.Watchers.{Watchers}
+use Rattle.line_changes.specs.Watching.{is_watched}
 use Rattle.surroundings.specs.Hearing.{AnswersTo}
+use Rattle.gateway_core.specs.GatewayState.{GatewayState}
+use Rattle.gateway_core.specs.Stands.{Stands}
 use Rattle.plain_machine.specs.declared.setup.Setup.{Setup}
+use Rattle.plain_machine.specs.Event.{GatewayEvent}
+use Rattle.plain_machine.specs.Lists.{plain}
 use Rattle.plain_machine.specs.Machine.{Machine}
 use Rattle.live_telephones.specs.declared.watch.Watch.{Watch}
-use Rattle.live_telephones.specs.Watching.{sender_at, TellsEach, TellsLine, TellsLines}
+use Rattle.live_telephones.specs.Watching.{sender_at, TellsEach, TellsLine, TellsLines, IsUnasked}
 
 tells_behind : {S : Type 0} (answers : S → SocketAddr → List ℕ → S → Type 0) (now : ℕ) (places : List (Option Watcher)) (held : Option Watcher)
     (text : List ℕ) (was mid is : S) → TellsEach answers now places was text mid → AnswersTo answers (sender_at now held) mid text is
@@ -56,3 +62,17 @@ unfolding TellsLines
 still_watch answers setup m zero before was after is (around, same) = ap (λ (w : Watch). w.watchers) same
 still_watch answers setup m (suc line) before was after is (between, mid, some, one) =
     one.watchers ∙ still_watch answers setup m line before was between mid some
+
+-- ---- memory is refused for a watch
+
+pub unasked : (gateway : GatewayState) (was : Watch) → IsUnasked gateway was was
+unasked gateway was = record { rest = refl; kept = λ events stands watched. refl }
+
+-- behind a look at the lines, which who watches doesn't have
+pub unasked_behind : (gateway : GatewayState) (was is : Watch) → is ≡ record was { watchers = is.watchers; seen = is.seen } → is.watchers ≡ was.watchers
+    → ((events : List GatewayEvent) → Stands gateway events → is_watched (plain gateway.setup events).now was.watchers.places ≡ true → is.seen ≡ was.seen)
+    → IsUnasked gateway was is
+unasked_behind gateway was is rest watchers kept = record {
+  rest = rest ∙ ap (λ (w : Watchers). let x : Watch = record was { watchers = w; seen = is.seen } in x) watchers;
+  kept = kept;
+}

@@ -9,7 +9,11 @@ use Rattle.line_changes.specs.Seen.{SeenLine}
 use Rattle.line_changes.specs.Changes.{changes_of}
 use Rattle.line_changes.specs.Telling.{with_changes, watching_line}
 use Rattle.line_changes.specs.Watching.{most_watchers, nobody, is_watched, told_at, with_watcher}
+use Rattle.gateway_core.specs.GatewayState.{GatewayState}
+use Rattle.gateway_core.specs.Stands.{Stands}
 use Rattle.plain_machine.specs.declared.setup.Setup.{Setup}
+use Rattle.plain_machine.specs.Event.{GatewayEvent}
+use Rattle.plain_machine.specs.Lists.{plain}
 use Rattle.plain_machine.specs.Machine.{Machine}
 use Rattle.surroundings.specs.Hearing.{AnswersTo}
 use Rattle.live_telephones.specs.declared.watch.Watch.{Watch}
@@ -80,6 +84,11 @@ WatchesOn {S} answers setup m before was after is =
     ⊎ ((is_watched m.now was.watchers.places ≡ true) × (is.watchers.places ≡ nobody) × (between : S)
     × TellsSome answers setup m before was between × TellsEach answers m.now was.watchers.places between (codes "! 1 OutOfMemory\n") after)
 
+-- nobody watches, and nothing was seen or told yet: the first change has the number 1
+abbrev pub IsUnwatched : Watch → Type 0
+IsUnwatched watch =
+    (watch.watchers.places ≡ nobody) × (watch.seen.items ≡ []) × (watch.told ≡ record { number = 1; text = [] })
+
 -- Who asks
 
 -- who asks to watch is answered from which number on, at which moment, and does so; or that as many watch as may, and nothing changes
@@ -99,3 +108,10 @@ pub record BeginsToSee (setup : Setup) (m : Machine) (was is : Watch) : Type 0 w
   pub anew : is_watched m.now was.watchers.places ≡ false → map Some is.seen.items ≡ lines_seen setup m setup.names.lines
   pub kept : is_watched m.now was.watchers.places ≡ true → is.seen ≡ was.seen
   pub rest : is ≡ record was { watchers = is.watchers; seen = is.seen }
+
+-- It was asked to watch, and memory was refused for that: nobody's watch changes, nor the number that the next change has, nor what was
+-- seen, where somebody watches.
+pub record IsUnasked (gateway : GatewayState) (was is : Watch) : Type 0 where
+  pub rest : is ≡ record was { seen = is.seen }
+  pub kept : (events : List GatewayEvent) → Stands gateway events
+      → is_watched (plain gateway.setup events).now was.watchers.places ≡ true → is.seen ≡ was.seen

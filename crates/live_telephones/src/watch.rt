@@ -7,7 +7,7 @@ ghost use Rattle.line_changes.specs.Telling.{with_changes, watching_line};
 ghost use Rattle.line_changes.specs.Watching.{longest_watch, nobody, is_watched, with_watcher};
 ghost use Rattle.surroundings.specs.Hearing.{AnswersTo};
 ghost use Rattle.live_telephones.specs.Asking.{usage};
-ghost use Rattle.live_telephones.specs.Watching.{changes_behind, sender_at, with_seen, lines_seen, BeginsToSee, TellsEach, TellsLine, TellsLines, TellsSome, WatchesOn, AnswersWatch};
+ghost use Rattle.live_telephones.specs.Watching.{changes_behind, sender_at, with_seen, lines_seen, BeginsToSee, IsUnasked, IsUnwatched, TellsEach, TellsLine, TellsLines, TellsSome, WatchesOn, AnswersWatch};
 
 use crate::answering::{UNKNOWN, full_answer};
 use crate::seeing::seen_line;
@@ -81,7 +81,7 @@ fn tell_all<S: Surroundings>(around: &mut S, places: &[Option<Watcher>], now: u6
 impl Watch {
     /// Nobody watches.
     pub fn new(alloc: Global) -> Watch
-        ensures { result.watchers.places ≡ nobody }
+        ensures { IsUnwatched result }
     {
         Watch {
             watchers: Watchers::none(),
@@ -149,6 +149,7 @@ impl Watch {
         ensures seen { (events : List GatewayEvent) (address : SocketAddrV4) → Stands gateway.now events → sender ≡ Some address
             → IfOk result (λ _. BeginsToSee gateway.now.setup (plain gateway.now.setup events) self.old self.new) }
         ensures refused { IfErr result (λ _. self.new.watchers ≡ self.old.watchers) }
+        ensures unasked { IfErr result (λ _. IsUnasked gateway.now self.old self.new) }
     {
         let Some(address) = sender else {
             return Ok(Vec::from_slice(alloc, UNKNOWN)?);

@@ -16,7 +16,7 @@ ghost use Rattle.live_telephones.specs.declared.watch.Watch.{Watch};
 ghost use Rattle.live_telephones.specs.Paging.{IsOf};
 ghost use Rattle.live_telephones.specs.Picturing.{by_name};
 ghost use Rattle.live_telephones.specs.Viewing.{lines_in, viewed};
-ghost use Rattle.live_telephones.specs.Watching.{with_seen, TellsText, TellsLine, TellsLines, WatchesOn, BeginsToSee};
+ghost use Rattle.live_telephones.specs.Watching.{with_seen, TellsText, TellsLine, TellsLines, WatchesOn, BeginsToSee, IsUnasked, IsUnwatched};
 ghost use Rattle.live_telephones.specs.WatchExample.{Heard, hears, somebody, heard_once};
 
 /// Who watches is told what there is to tell, up to the moment before their time ends. A line is seen so at its place, where it has one.
@@ -51,12 +51,19 @@ pub fn who_watches_has_examples()
         → (between : Heard) × (after ≡ between ++ heard_once (codes "! 1 OutOfMemory\n")) }
 {}
 
-/// Who asks to watch where nobody does begins with the lines as they are; else what was seen stays. The next number stays each time.
+/// Who asks to watch where nobody does begins with the lines as they are; else what was seen stays, also where memory is refused. The next
+/// number stays each time; the first is 1.
 pub fn who_begins_to_watch_has_examples()
+    ensures first { (watch : Watch) → IsUnwatched watch
+        → (watch.told.number ≡ 1) × (watch.told.text ≡ []) × (watch.seen.items ≡ []) × (watch.watchers.places ≡ nobody) }
     ensures begun { (was is : Watch) → was.watchers.places ≡ nobody → BeginsToSee two_lines (plain two_lines []) was is
         → map (λ line. Some line) is.seen.items ≡ Some resting ∷ Some resting ∷ [] }
     ensures goes_on { (was is : Watch) → was.watchers.places ≡ somebody → BeginsToSee two_lines (plain two_lines []) was is
         → (is.seen ≡ was.seen) × (is.told ≡ was.told) }
+    ensures unasked { (gateway : GatewayState) (was is : Watch) → IsUnasked gateway was is
+        → (is.told ≡ was.told) × (is.watchers ≡ was.watchers) }
+    ensures goes_on_unasked { (gateway : GatewayState) (was is : Watch) → gateway.setup ≡ two_lines → Stands gateway []
+        → was.watchers.places ≡ somebody → IsUnasked gateway was is → is.seen ≡ was.seen }
 {}
 
 /// A gateway's picture shows its own lines, all of them, and what couldn't be written.

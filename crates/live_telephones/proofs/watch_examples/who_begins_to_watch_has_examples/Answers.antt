@@ -1,4 +1,5 @@
-use Rattle.std.proofs.Common.{refl, ap}
+use Rattle.std.proofs.Common.{refl, ap, []}
+use Rattle.line_changes.specs.Telling.{Told}
 use Rattle.live_telephones.specs.declared.watch.Watch.{Watch}
 use Rattle.live_telephones.proofs.Computing.{on_examples}
 use Rattle.live_telephones.proofs.watch_examples.who_begins_to_watch_has_examples.Goals as goal
@@ -10,3 +11,16 @@ returns-clause-begun c = λ was is none begins. begins.anew (rw none refl)
 pub returns-clause-goes_on : goal.returns-clause-goes_on
 unfolding on_examples
 returns-clause-goes_on c = λ was is places begins. (begins.kept (rw places refl), ap (λ (w : Watch). w.told) begins.rest)
+
+pub returns-clause-first : goal.returns-clause-first
+unfolding on_examples
+returns-clause-first c = λ watch first.
+    (ap (λ (t : Told). t.number) first.2, ap (λ (t : Told). t.text) first.2, first.1, first.0)
+
+pub returns-clause-unasked : goal.returns-clause-unasked
+unfolding on_examples
+returns-clause-unasked c = λ gateway was is only. (ap (λ (w : Watch). w.told) only.rest, ap (λ (w : Watch). w.watchers) only.rest)
+
+pub returns-clause-goes_on_unasked : goal.returns-clause-goes_on_unasked
+unfolding on_examples
+returns-clause-goes_on_unasked c = λ gateway was is setup stands places only. only.kept [] stands (rw (setup, places) refl)

@@ -36,7 +36,7 @@ returns-in-Watch-clause-answered g c =
     (rw (c.sender-sender.ensures) at c.ask-answer.ensures.nobody)
     (rw (c.deref-in-Watch.ensures, c.sender-sender.ensures) at c.ask-answer.ensures.answered)
     (rw (c.deref-in-Watch.ensures, c.sender-sender.ensures) at c.ask-answer.ensures.seen)
-    c.ask-answer.ensures.refused c.answer_put-in-Watch.ensures.answered c.answer_put-in-Watch.ensures.refused in
+    (rw (c.deref-in-Watch.ensures) at c.ask-answer.ensures.unasked) c.answer_put-in-Watch.ensures.answered c.answer_put-in-Watch.ensures.refused in
     rw (c.in-Watch.is) (
       put.0,
       record {
