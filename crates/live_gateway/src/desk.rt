@@ -9,6 +9,7 @@ ghost use Rattle.plain_machine.specs.Lists.{plain};
 ghost use Rattle.gateway_core.specs.Stands.{Stands};
 ghost use Rattle.live_telephones.specs.Losses.{counts_text};
 ghost use Rattle.live_telephones.specs.Asking.{AsksFor};
+ghost use Rattle.live_telephones.specs.Watching.{IsUnwatched};
 ghost use Rattle.rgw_scripts.specs.declared.step.ScriptLine.{ScriptLine};
 ghost use Rattle.surroundings.specs.Hearing.{AnswersTo};
 ghost use Rattle.live_gateway.specs.Desk.{at_desk, GoesOn};
@@ -117,7 +118,7 @@ impl<S: Surroundings + Drop, T: Teller + Drop> Desk<S, T> {
         ensures lines { result.lines ≡ lines }
         ensures admission { result.admission ≡ admission }
         ensures end { result.end ≡ end }
-        ensures begins { (result.is_of_page ≡ false) × (result.schedule ≡ opening 0) }
+        ensures begins { (result.is_of_page ≡ false) × (result.schedule ≡ opening 0) × IsUnwatched result.watch }
     {
         Desk {
             alloc,

@@ -1,8 +1,10 @@
 //! Opens a gateway that runs, over surroundings that it is given: its journal, the way between it and others, its play and its desk, as
 //! is asked for. Each part is made by a function of its own, since a check pays for all that a value holds inline at each step of a
 //! function that has it.
-ghost use Rattle.std.specs.Prelude.{◌≡◌, is_some, IfOk};
+ghost use Rattle.std.specs.Prelude.{◌≡◌, false, is_some, IfOk};
+ghost use Rattle.turns.specs.Schedule.{opening};
 ghost use Rattle.live_journal.specs.Recording.{trace_head, Begins};
+ghost use Rattle.live_telephones.specs.Watching.{IsUnwatched};
 ghost use Rattle.live_gateway.specs.Opening.{CountsNothing};
 
 use crate::admission::Admission;
@@ -154,6 +156,8 @@ pub fn open_desk<S: Surroundings + Drop>(
     ensures spoilt { IfOk result (λ desk. is_some desk.value.exchange.network ≡ is_some settings.now.network) }
     ensures page { IfOk result (λ desk. is_some desk.value.exchange.journal.board ≡ settings.now.has_page) }
     ensures counted { IfOk result (λ desk. CountsNothing desk.value.exchange.journal.tally.value) }
+    ensures begins { IfOk result (λ desk. (desk.value.is_of_page ≡ false) × (desk.value.schedule ≡ opening 0)
+        × IsUnwatched desk.value.watch) }
 {
     let lines = Lines::new(alloc)?;
     let domain = gateway.setup().names.domain.as_bytes();
