@@ -1,7 +1,9 @@
 //! Opens what the words ask for: sockets, and the page's site; and says what is asked of the desk of a gateway over these.
-ghost use Rattle.std.specs.Prelude.{◌≡◌};
+ghost use Rattle.std.specs.Prelude.{◌≡◌, Some, is_some, IfOk, IfNone, IfSome};
 ghost use Rattle.std.specs.Net.Addr.{IsUnspecifiedV4};
 ghost use Rattle.std.specs.Net.Socket.{v4_ip, v4_port};
+ghost use Rattle.surroundings.specs.Speaking.{admitted_by, admitted_in};
+ghost use Rattle.live_gateway.specs.Admitting.{known_to};
 
 use crate::reception::PageReception;
 use gateway_core::Gateway;
@@ -64,7 +66,14 @@ pub fn admission_of(
     settings: &Settings<'_>,
     gateway: &Gateway,
     own: [SocketAddrV4; 2],
-) -> Result<Admission, ListFault> {
+) -> Result<Admission, ListFault>
+    ensures own { IfOk result (λ admission. admission.own ≡ own) }
+    ensures open { IfOk result (λ admission. admission.are_phones_open ≡ settings.now.sockets.phones_open) }
+    ensures known { IfNone settings.now.sockets.agents
+        (IfOk result (λ admission. admitted_by admission.speakers ≡ known_to gateway.now.setup)) }
+    ensures said { IfSome settings.now.sockets.agents (λ agents.
+        IfOk result (λ admission. admitted_in agents.now ≡ Some (admitted_by admission.speakers))) }
+{
     let speakers = match settings.sockets.agents {
         Some(text) => speakers_in(alloc, text)?,
         None => speakers_of(alloc, gateway.setup())?,
@@ -95,7 +104,13 @@ pub fn desk_settings<'w>(
     settings: &Settings<'w>,
     own: [SocketAddrV4; 2],
     media: Ipv4Addr,
-) -> DeskSettings<'w> {
+) -> DeskSettings<'w>
+    ensures told { (result.has_trace ≡ settings.now.trace) × (result.has_log ≡ settings.now.log)
+        × (result.has_page ≡ is_some settings.now.sockets.http) }
+    ensures captured { result.capture ≡ settings.now.capture }
+    ensures spoilt { result.network ≡ settings.now.network }
+    ensures ends { result.end ≡ settings.now.stop_after }
+{
     // Where its socket doesn't tell where it is, that is where it was to be.
     let socket = if own[0].port() == 0 {
         settings.sockets.listen
