@@ -23,8 +23,14 @@ use Rattle.live_gateway.specs.declared.desk.Desk.{Desk}
 use Rattle.live_gateway.specs.declared.exchange.Exchange.{Exchange}
 use Rattle.live_gateway.specs.declared.spoilt_way.SpoiltWay.{SpoiltWay}
 use Rattle.live_gateway.specs.Ending.{is_record_refused, IsCounted, EndsWith}
-use Rattle.live_gateway.specs.Exchanging.{mark_of, IsSentSo, SendsOver, Becomes, CountsReceived}
+use Rattle.live_gateway.specs.Exchanging.{mark_of, TakesOver, IsSentSo, SendsOver, Becomes, CountsReceived}
 use Rattle.live_gateway.specs.Visiting.{ServesOnce}
+use Rattle.live_gateway.specs.Desk.{Standing}
+use Rattle.live_gateway.specs.Turning.{Tries}
+use Rattle.live_play.specs.Running.{Live}
+use Rattle.gateway_core.specs.Wire.{counted}
+use Rattle.plain_machine.specs.Event.{GatewayEvent}
+use Rattle.traces.specs.Writing.{Input}
 use Rattle.live_laws.specs.TurnExample.{one, HandsNowhere, HandsWith}
 
 -- ---- the end
@@ -108,3 +114,19 @@ pub page_has_label : (message : SentMessage) (was is : Exchange ℕ) (board show
 page_has_label message was is board shown before after hands =
     subst (λ (o : Option (Box BoardState)). GoesOn (HappenedWith was.now.clock OfSent one.0 [] (sent_label message ∷ [])) (Some board) o) after
     (subst (λ (o : Option (Box BoardState)). GoesOn (HappenedWith was.now.clock OfSent one.0 [] (sent_label message ∷ [])) o is.journal.board) before hands.shown)
+
+-- an event was taken, or refused
+pub taken_keeps : (was is : Live) (input : Input) (event : GatewayEvent) (from to : Exchange ℕ)
+    → TakesOver (λ (before : ℕ) (at : SocketAddrV4) (bytes : List ℕ) (sent : Result ⊤ Fault) (after : ℕ). ⊤) was from input event is to
+    → (to.faults.refused ≡ from.faults.refused) × (to.read ≡ from.read) × (to.now ≡ from.now)
+taken_keeps was is input event from to takes = (
+  ap (λ (x : Exchange ℕ). x.faults.refused) takes.noted.rest ∙ takes.only.refused,
+  ap (λ (x : Exchange ℕ). x.read) takes.noted.rest ∙ takes.only.read,
+  ap (λ (x : Exchange ℕ). x.now) takes.noted.rest ∙ takes.only.turn.0,
+)
+
+pub tried_counts : (was is : Standing) (input : Input) (event : GatewayEvent) (from to : Exchange ℕ)
+    → Tries (λ (before : ℕ) (at : SocketAddrV4) (bytes : List ℕ) (sent : Result ⊤ Fault) (after : ℕ). ⊤) input event was from is to
+    → (is.came.refused ≡ was.came.refused) ⊎ (to.faults.refused ≡ counted from.faults.refused 1)
+tried_counts was is input event from to (inl takes) = inl takes.1
+tried_counts was is input event from to (inr misses) = inr (ap (λ (x : Exchange ℕ). x.faults.refused) misses.1.rest)

@@ -1,5 +1,5 @@
 -- What the worked examples speak of: a desk over surroundings that tell nothing, whose trace tells nothing either.
-use Rattle.std.specs.Prelude.{◌≡◌, ⊤, ℕ, false, List, [], ◌∷◌, Option, None, Some, Result, Ok, Err, IsErr}
+use Rattle.std.specs.Prelude.{◌≡◌, ⊤, ℕ, codes, false, List, [], ◌∷◌, Option, None, Some, Result, Ok, Err, IsErr}
 use Rattle.std.specs.declared.net.socket_addr.SocketAddrV4.{SocketAddrV4}
 use Rattle.bad_network.specs.declared.fate.Fate.{Fate}
 use Rattle.bad_network.specs.declared.fate.Fate.TheVariants.{Lost, Once}
@@ -14,7 +14,9 @@ use Rattle.message_counts.specs.declared.message_tally.MessageTally.{MessageTall
 use Rattle.live_gateway.specs.declared.admission.Admission.{Admission}
 use Rattle.live_gateway.specs.declared.desk.Desk.{Desk}
 use Rattle.live_gateway.specs.declared.exchange.Exchange.{Exchange}
+use Rattle.mg_line.specs.declared.phone.Act.TheVariants.{OffHook}
 use Rattle.live_gateway.specs.Admitting.{is_heard}
+use Rattle.live_gateway.specs.Answering.{DoesAct}
 use Rattle.live_gateway.specs.Ending.{EndsWith}
 use Rattle.live_gateway.specs.Exchanging.{Becomes, HandsOver}
 use Rattle.live_gateway.specs.Noting.{with_looked}
@@ -31,7 +33,8 @@ CountsStranger admission =
 
 -- a desk looked for a datagram, where nobody looks for one
 abbrev pub LooksNowhere : Desk ℕ ℕ → Desk ℕ ℕ → Type 0
-LooksNowhere was is = LooksForOne (λ told. None) (λ around. untold) (λ before outcome room after. ⊥) (λ before to bytes sent after. ⊤) was is
+LooksNowhere was is =
+    LooksForOne (λ told. None) (λ around. untold) (λ before outcome room after. ⊥) (λ before to bytes sent after. ⊤) was is
 
 -- nothing was found by an exchange that looked so
 abbrev pub FindsNothing : Exchange ℕ → Desk ℕ ℕ → Desk ℕ ℕ → Type 0
@@ -66,3 +69,9 @@ HandsNowhere mark was is = HandsOver (λ before to bytes sent after. IsErr sent)
 -- one that has this message, and went out
 abbrev pub HandsWith : SentMessage → Exchange ℕ → Exchange ℕ → Type 0
 HandsWith message was is = HandsOver (λ before to bytes sent after. ⊤) was one.0 [] (message ∷ []) None is
+
+-- an act was asked for at the first line, whoever is sent something or answered
+abbrev pub ActsAnywhere : Desk ℕ ℕ → Desk ℕ ℕ → Type 0
+ActsAnywhere was is =
+    DoesAct (λ told. None) (λ around. untold) (λ before to bytes sent after. ⊤) (λ before to text after. ⊤) (codes "off-hook") 1 OffHook
+    was is

@@ -13,8 +13,12 @@ ghost use Rattle.live_gateway.specs.declared.exchange.Exchange.{Exchange};
 ghost use Rattle.live_gateway.specs.Admitting.{is_heard};
 ghost use Rattle.live_gateway.specs.Answering.{IsActAnswer};
 ghost use Rattle.live_gateway.specs.Ending.{is_record_refused, IsCounted, OnlyEnds};
-ghost use Rattle.live_laws.specs.TurnExample.{one, lost_one, once, failed, LooksNowhere, FindsNothing, SendsNowhere, HandsAnywhere, HandsNowhere, HandsWith, EndsSaying, CountsStranger};
-ghost use Rattle.live_gateway.specs.Exchanging.{heard_in, mark_of, is_lost, faults_by, faultless, with_unreceived, unsent_in, IsTold, OnlySends, OnlyWrites, Explains, Notes, LosesOver};
+ghost use Rattle.live_laws.specs.TurnExample.{one, lost_one, once, failed, LooksNowhere, FindsNothing, SendsNowhere, HandsAnywhere, HandsNowhere, HandsWith, EndsSaying, CountsStranger, ActsAnywhere};
+ghost use Rattle.live_gateway.specs.Exchanging.{heard_in, mark_of, is_lost, faults_by, faultless, with_unreceived, unsent_in, IsTold, OnlySends, OnlyWrites, Explains, Notes, LosesOver, TakesOver};
+ghost use Rattle.live_gateway.specs.Desk.{Standing};
+ghost use Rattle.live_play.specs.Running.{Live};
+ghost use Rattle.plain_machine.specs.Event.{GatewayEvent};
+ghost use Rattle.traces.specs.Writing.{Input};
 ghost use Rattle.gateway_core.specs.Wire.{counted};
 ghost use Rattle.message_counts.specs.Counting.{counts_in};
 ghost use Rattle.message_counts.specs.Tallying.{with_handed_out};
@@ -25,7 +29,7 @@ ghost use Rattle.told_messages.specs.Showing.{HappenedWith};
 ghost use Rattle.traces.specs.declared.telling.Mark.{Mark};
 ghost use Rattle.traces.specs.declared.telling.Mark.TheVariants.{Unsent, Lost};
 ghost use Rattle.live_gateway.specs.Leaving.{OnlyShows, OnlyTells, OnlyPlays, OnlyTicks, OnlyLogs, OnlyHears, OnlyReplies, OnlyWaits, TakesIf, DoesVisit};
-ghost use Rattle.live_gateway.specs.Turning.{ready_at, RunsTurns};
+ghost use Rattle.live_gateway.specs.Turning.{ready_at, RunsTurns, Tries};
 ghost use Rattle.surroundings.specs.Sending.{untold};
 ghost use Rattle.std.specs.Global.{Box};
 ghost use Rattle.page_board.specs.Showing.{BoardState};
@@ -116,6 +120,17 @@ pub fn what_goes_over_an_exchange_has_examples()
         → is.journal.board ≡ Some shown → HandsWith message was is
         → HappenedWith was.now.clock OfSent one.0 [] (sent_label message ∷ []) board.value shown.value }
     ensures ticked { (was is : Desk ℕ ℕ) → OnlyTicks 5 was is → is.exchange.now.clock ≡ 5 }
+{}
+
+/// Where a gateway takes an event nothing is read, nor counted as refused; and of a desk at which an act was asked for the end stays.
+pub fn what_is_tried_has_examples()
+    ensures taken { (was is : Live) (input : Input) (event : GatewayEvent) (from to : Exchange ℕ)
+        → TakesOver (λ before to bytes sent after. ⊤) was from input event is to
+        → (to.faults.refused ≡ from.faults.refused) × (to.read ≡ from.read) × (to.now ≡ from.now) }
+    ensures tried { (was is : Standing) (input : Input) (event : GatewayEvent) (from to : Exchange ℕ)
+        → Tries (λ before to bytes sent after. ⊤) input event was from is to
+        → (is.came.refused ≡ was.came.refused) ⊎ (to.faults.refused ≡ counted from.faults.refused 1) }
+    ensures acted { (was is : Desk ℕ ℕ) → ActsAnywhere was is → (is.end ≡ was.end) × (is.admission ≡ was.admission) }
 {}
 
 /// Where an input was refused that is counted, and else the log alone changes.
