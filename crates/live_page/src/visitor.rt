@@ -93,7 +93,7 @@ impl Visitor {
 
     // Reads once, where there is something. Gives whether the visitor stays.
     fn read(&mut self, now: u64) -> bool
-        ensures calls { calls_of self.new ≡ calls_of self.old }
+        ensures { calls_of self.new ≡ calls_of self.old }
     {
         if !self.may_read || !self.connection.wants_read() {
             return true;
@@ -112,7 +112,7 @@ impl Visitor {
 
     // Writes once, where something waits. Gives whether the visitor stays.
     fn write(&mut self, now: u64) -> bool
-        ensures calls { calls_of self.new ≡ calls_of self.old }
+        ensures { calls_of self.new ≡ calls_of self.old }
     {
         if !self.may_write || !self.connection.wants_write() {
             return true;
