@@ -1,5 +1,5 @@
 -- What is answered to visitors, from what a connection says of its calls.
-use Rattle.std.proofs.Common.{◌≡◌, ℕ, List, [], ◌∷◌, ◌++◌, Bor, refl, sym, ◌∙◌, ap, subst, append_assoc, append-nil}
+use Rattle.std.proofs.Common.{◌≡◌, ℕ, List, [], ◌∷◌, ◌++◌, Option, Some, Bor, refl, sym, ◌∙◌, ap, subst, append_assoc, append-nil}
 use Rattle.std.specs.declared.net.socket_addr.SocketAddrV4.{SocketAddrV4}
 use Rattle.http.specs.declared.request.Request.{Request}
 use Rattle.http_server.specs.declared.response.Response.{Response}
@@ -7,10 +7,11 @@ use Rattle.http_server.specs.Exchange.{Call, Chain}
 use Rattle.page_board.specs.Showing.{BoardState}
 use Rattle.live_page.specs.declared.desk.Desk.{Desk}
 use Rattle.page_access.specs.declared.host_names.HostNames.{HostNames}
+use Rattle.live_page.specs.declared.site.Site.{Site}
 use Rattle.live_page.specs.declared.visitor.Visitor.{Visitor}
 use Rattle.live_page.specs.Answering.{Answers}
 use Rattle.page_access.specs.Naming.{names_of}
-use Rattle.live_page.specs.Visiting.{calls_of, AnsweredAt, AnswersVisitor}
+use Rattle.live_page.specs.Visiting.{calls_of, AnsweredAt, AnswersVisitor, ServesAt, ServesNext}
 
 -- calls behind others are calls of both
 chain_on : {S : Type 0} (answers : S → Request (List ℕ) → Response → S → Type 0) (first second : List Call) (a b c : S)
@@ -68,3 +69,10 @@ answered_both site there names others was mid is board between shown first same 
       second.1 ∙ ap (λ (calls : List Call). calls ++ second.0) first.1 ∙ append_assoc (calls_of was) first.0 second.0,
       chain_on (AnsweredAt site names) first.0 second.0 board between shown first.2 next,
     )
+
+-- whose turn it is has it
+pub serves_here : (site : SocketAddrV4) (place : ℕ) (address : Option SocketAddrV4) (next : Option ℕ) (was is : Site) (board shown : BoardState)
+    → address ≡ Some site → next ≡ Some place → ServesAt site place was board is shown → ServesNext address next was board is shown
+serves_here site place address next was is board shown known turn serves =
+    subst (λ (a : Option SocketAddrV4). ServesNext a next was board is shown) (sym known)
+    (subst (λ (n : Option ℕ). ServesNext (Some site) n was board is shown) (sym turn) serves)

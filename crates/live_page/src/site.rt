@@ -1,8 +1,8 @@
 //! The site: the socket at which browsers ask for the page, and whose turn it is.
-ghost use Rattle.std.specs.Prelude.{◌≡◌, ◌||◌, None, false, is_some, map, replicate};
+ghost use Rattle.std.specs.Prelude.{◌≡◌, ◌||◌, None, IfSome, IsSomeAnd, false, is_some, map, replicate, slice_get};
 ghost use Rattle.live_ends.specs.Looking.{no_visit};
 ghost use Rattle.page_access.specs.Naming.{names_of};
-ghost use Rattle.live_page.specs.Visiting.{ServesPlace, ServesNext};
+ghost use Rattle.live_page.specs.Visiting.{ServesPlace, with_place, ServesNext};
 ghost use Rattle.live_page.specs.Waiting.{deadline_of, sooner, soonest_from, is_late, stays_at, has_more, is_behind, turn_from, next_turn};
 
 use crate::desk::Desk;
@@ -297,6 +297,21 @@ impl Site {
         }
     }
 
+    // Whoever has this place has a turn.
+    fn serve_at(&mut self, address: SocketAddrV4, place: usize, board: &mut Board, now: u64)
+        ensures served { IfSome (slice_get self.old.places.items place) (λ held.
+            IsSomeAnd (slice_get self.new.places.items place) (λ left.
+            ServesPlace address (names_of self.old.names) held board.old left board.new)) }
+        ensures others { self.new.places.items ≡ with_place place (slice_get self.new.places.items place) self.old.places.items }
+        ensures rest { self.new ≡ record self.old { places = self.new.places; last = place } }
+    {
+        self.last = place;
+        let mut desk = Desk::new(self.alloc, address, &self.names, board);
+        if let Some(held) = self.places.get_mut(place) {
+            serve_place(held, &mut desk, now);
+        }
+    }
+
     /// A turn of one visitor who has more to do, each in their turn: it is answered by this board.
     pub fn turn(&mut self, board: &mut Board, now: u64)
         ensures { ServesNext self.old.address (next_turn self.old.last self.old.places.items) self.old board.old self.new board.new }
@@ -307,11 +322,7 @@ impl Site {
         let Some(place) = self.next_place() else {
             return;
         };
-        self.last = place;
-        let mut desk = Desk::new(self.alloc, address, &self.names, board);
-        if let Some(held) = self.places.get_mut(place) {
-            serve_place(held, &mut desk, now);
-        }
+        self.serve_at(address, place, board, now);
     }
 }
 
