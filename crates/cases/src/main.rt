@@ -10,6 +10,7 @@
 #![tactic(auto)]
 
 mod calls;
+mod checks;
 mod desk;
 mod live;
 mod loads;
