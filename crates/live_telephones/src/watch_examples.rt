@@ -1,7 +1,7 @@
 //! What who watches is told, and what the page is shown of a gateway, at worked examples, as theorems.
 #![tactic(auto, unfolding(crate::proofs::Computing::on_examples))]
 
-ghost use Rattle.std.specs.Prelude.{◌≡◌, ◌++◌, ℕ, None, Some, codes, List, [], ◌∷◌, map};
+ghost use Rattle.std.specs.Prelude.{◌≡◌, ◌<◌, ◌++◌, ℕ, None, Some, codes, List, [], ◌∷◌, map};
 ghost use Rattle.plain_machine.specs.Example.{two_lines};
 ghost use Rattle.plain_machine.specs.Lists.{plain};
 ghost use Rattle.plain_machine.specs.Machine.{Machine};
@@ -16,7 +16,7 @@ ghost use Rattle.live_telephones.specs.declared.watch.Watch.{Watch};
 ghost use Rattle.live_telephones.specs.Paging.{IsOf};
 ghost use Rattle.live_telephones.specs.Picturing.{by_name};
 ghost use Rattle.live_telephones.specs.Viewing.{lines_in, viewed};
-ghost use Rattle.live_telephones.specs.Watching.{with_seen, TellsText, TellsLine, TellsLines, WatchesOn, BeginsToSee, IsUnasked, IsUnwatched};
+ghost use Rattle.live_telephones.specs.Watching.{with_seen, TellsText, TellsLine, TellsLines, TellsSome, WatchesOn, BeginsToSee, IsUnasked, IsUnwatched};
 ghost use Rattle.live_telephones.specs.WatchExample.{Heard, hears, somebody, heard_once};
 
 /// Who watches is told what there is to tell, up to the moment before their time ends. A line is seen so at its place, where it has one.
@@ -29,7 +29,7 @@ pub fn what_is_told_has_examples()
 {}
 
 /// What changed at a line is told under the next number, at the gateway's moment, and the line was seen so then; nothing is told where
-/// nothing changed. Of no line nothing is told.
+/// nothing changed. Of no line nothing is told; of the first one, what changed there.
 pub fn what_changes_at_a_line_is_told()
     ensures changed { (was is : Watch) (after : Heard) → was.seen.items ≡ lifted ∷ []
         → was.told ≡ record { number = 7; text = codes "old" } → was.watchers.places ≡ somebody
@@ -40,15 +40,19 @@ pub fn what_changes_at_a_line_is_told()
         → TellsLine hears two_lines (plain two_lines []) 1 [] was after is → (after ≡ []) × (is.told.number ≡ 7) }
     ensures none { (was is : Watch) (after : Heard) → TellsLines hears two_lines (plain two_lines []) 0 [] was after is
         → (after ≡ []) × (is ≡ was) }
+    ensures one { (was is : Watch) (after : Heard) → TellsLine hears two_lines (plain two_lines []) 1 [] was after is
+        → TellsLines hears two_lines (plain two_lines []) 1 [] was after is }
 {}
 
-/// Where nobody watches nobody is told, and nothing changes. Who watches does so still, or was told last that memory is refused.
+/// Where nobody watches nobody is told, and nothing changes. Who watches does so still, or was told last that memory is refused, behind
+/// fewer lines than there are.
 pub fn who_watches_has_examples()
     ensures unwatched { (m : Machine) (was is : Watch) (after : Heard) → was.watchers.places ≡ nobody
         → WatchesOn hears two_lines m [] was after is → (after ≡ []) × (is ≡ was) }
     ensures refused { (was is : Watch) (after : Heard) → was.watchers.places ≡ somebody
         → WatchesOn hears two_lines (plain two_lines []) [] was after is → is.watchers.places ≡ nobody
         → (between : Heard) × (after ≡ between ++ heard_once (codes "! 1 OutOfMemory\n")) }
+    ensures fewer { (was : Watch) (after : Heard) (some : TellsSome hears two_lines (plain two_lines []) [] was after) → some.0 < 2 }
 {}
 
 /// Who asks to watch where nobody does begins with the lines as they are; else what was seen stays, also where memory is refused. The next

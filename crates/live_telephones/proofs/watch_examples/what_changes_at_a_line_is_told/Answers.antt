@@ -1,4 +1,4 @@
-use Rattle.std.proofs.Common.{◌≡◌, [], codes, sym, ap}
+use Rattle.std.proofs.Common.{◌≡◌, [], codes, refl, sym, ap}
 use Rattle.std.specs.Option.{unwrap_or}
 use Rattle.line_changes.specs.Example.{resting}
 use Rattle.line_changes.specs.Telling.{Told}
@@ -27,3 +27,7 @@ returns-clause-same c = λ was is after items told places line.
 pub returns-clause-none : goal.returns-clause-none
 unfolding on_examples
 returns-clause-none c = λ was is after lines. lines
+
+pub returns-clause-one : goal.returns-clause-one
+unfolding on_examples
+returns-clause-one c = λ was is after tells. ([], was, (refl, refl), tells)

@@ -41,3 +41,7 @@ refused m was is after now places (inr (inr (watched, gone, between, some, tells
 pub returns-clause-refused : goal.returns-clause-refused
 unfolding on_examples
 returns-clause-refused c = λ was is after places on over. refused (plain two_lines []) was is after refl places on over
+
+pub returns-clause-fewer : goal.returns-clause-fewer
+unfolding on_examples
+returns-clause-fewer c = λ was after some. some.2
