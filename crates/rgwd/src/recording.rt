@@ -3,7 +3,7 @@ ghost use Rattle.std.specs.Prelude.{◌≡◌, ◌&&◌, not};
 ghost use Rattle.mg_bytes.specs.Lists.{is_empty};
 
 use live_ends::CaptureFiles;
-use live_journal::{Journal, Recorder, Trace};
+use live_journal::{Capture, Journal, Recorder, Trace};
 use live_outlets::{Finisher, Outlets, Written};
 use std::io::Write;
 use std::rt::{Clock, Files};
@@ -33,14 +33,12 @@ fn begin_next<R: Files>(
     rt: &R,
     files: &mut CaptureFiles,
     outlets: &mut Outlets<R::File>,
-    journal: &mut Journal,
-)
-    ensures { journal.new ≡ record journal.old { capture = journal.new.capture } }
-{
+    captured: &mut Capture,
+) {
     match files.next(rt) {
         Ok(outlet) => {
             outlets.capture = Some(outlet);
-            journal.capture.begin_file();
+            captured.begin_file();
         }
         Err(kind) => {
             if let Some(capture) = &mut outlets.capture {
@@ -66,15 +64,13 @@ fn turn_over<R: Files>(
     rt: &R,
     files: &mut CaptureFiles,
     outlets: &mut Outlets<R::File>,
-    journal: &mut Journal,
-)
-    ensures { journal.new ≡ record journal.old { capture = journal.new.capture } }
-{
-    let more = journal.capture.record.out.len();
+    captured: &mut Capture,
+) {
+    let more = captured.record.out.len();
     if more > 0 && files.is_full(more) && is_taken(outlets) {
-        begin_next(rt, files, outlets, journal);
+        begin_next(rt, files, outlets, captured);
     }
-    files.put(journal.capture.record.out.len());
+    files.put(captured.record.out.len());
 }
 
 impl<R: Files> Recorder<Trace> for Recording<R> {
@@ -84,7 +80,7 @@ impl<R: Files> Recorder<Trace> for Recording<R> {
 
     fn write(&mut self, journal: &mut Journal, trace: &mut Trace, time: u64) {
         if let Some(files) = &mut self.files {
-            turn_over(&self.rt, files, &mut self.outlets, journal);
+            turn_over(&self.rt, files, &mut self.outlets, &mut journal.capture);
         }
         journal.write(trace, &mut self.outlets, time);
     }
