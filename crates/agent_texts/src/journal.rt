@@ -187,6 +187,7 @@ impl Journal {
 
     /// Keeps what was recorded since this was called last, at this moment, in microseconds since 1970, and writes what is taken at once.
     pub fn write<F: Write + Drop>(&mut self, outlets: &mut Outlets<F>, time: u64)
+        ensures tally { self.new.tally ≡ self.old.tally }
         ensures rest { self.new ≡ record self.old {
           told = self.new.told;
           log = self.new.log;
