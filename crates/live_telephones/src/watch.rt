@@ -134,6 +134,7 @@ impl Watch {
 
     /// Somebody asks to be told for so long, in s, what changes; 0 ends it: the answer. Nobody, as the page, can't be told. After an error,
     /// which is for want of memory, those watch who did.
+    #[tactic(auto, using(crate::proofs::WatchingLemmas::unasked))]
     pub fn ask(
         &mut self,
         alloc: Global,

@@ -4,7 +4,7 @@ use Rattle.std.specs.declared.net.socket_addr.SocketAddrV4.{SocketAddrV4}
 use Rattle.line_changes.specs.declared.watchers.Watchers.{Watchers}
 use Rattle.plain_machine.specs.Lists.{plain}
 use Rattle.live_telephones.specs.Watching.{AnswersWatch}
-use Rattle.live_telephones.proofs.WatchingLemmas.{unasked, unasked_behind}
+use Rattle.live_telephones.proofs.WatchingLemmas.{unasked_behind}
 use Rattle.live_telephones.proofs.watch.Watch.ask.Goals as goal
 
 pub returns-then-branch-clause-answered : goal.returns-then-branch-clause-answered
@@ -40,9 +40,6 @@ returns-in_ok-full-clause-seen c = λ events address stands is. record {
   kept = c.begin.ensures.kept events stands;
   rest = c.begin.ensures.rest;
 }
-
-pub returns-in_err-text-clause-unasked : goal.returns-in_err-text-clause-unasked
-returns-in_err-text-clause-unasked c = unasked c.args.gateway.now c.args.self.now
 
 pub returns-in_err-begin-clause-unasked : goal.returns-in_err-begin-clause-unasked
 returns-in_err-begin-clause-unasked c =
