@@ -37,7 +37,7 @@ ghost use Rattle.live_gateway.specs.declared.exchange.Exchange.{Exchange};
 ghost use Rattle.live_gateway.specs.declared.spoilt_way.SpoiltWay.{SpoiltWay};
 ghost use Rattle.live_gateway.specs.Admitting.{is_heard};
 ghost use Rattle.live_gateway.specs.Ending.{OnlyEnds};
-ghost use Rattle.live_gateway.specs.Exchanging.{with_refused, with_unreceived, OnlyWrites, OnlyNotes, LooksBetween, FoundSince};
+ghost use Rattle.live_gateway.specs.Exchanging.{with_unreceived, OnlyWrites, LooksBetween, FoundSince};
 ghost use Rattle.live_gateway.specs.Leaving.{IsAsked, TakesIf, TakesFromPage, Starts, DoesVisit};
 ghost use Rattle.live_gateway.specs.Offering.{next_fate, TakesFirst, TakesDue};
 ghost use Rattle.live_laws.specs.Example.{at_port};
@@ -94,15 +94,15 @@ pub fn what_is_looked_for_is_counted_and_found()
         → is.network ≡ None → was.around ≡ 0 → is.around ≡ 0 → FoundSince arrivals admission was found room is → found_by found room ≡ [] }
 {}
 
-/// Of an exchange nothing changes where it is written, noted or ended but what may.
+/// Of an exchange nothing changes where what was recorded is written, or a desk ends, but what may; and what was counted and shown stays.
 pub fn what_stays_of_an_exchange_has_examples()
     ensures written { (was is : Exchange ℕ) → OnlyWrites was is → is.journal ≡ was.journal → is.is_offering ≡ was.is_offering → is ≡ was }
-    ensures noted { (was is : Exchange ℕ) → OnlyNotes was is → (is.read ≡ was.read) × (is.now ≡ was.now)
-        × (is.is_offering ≡ was.is_offering) × (is.faults.receive ≡ was.faults.receive) × (is.faults.send ≡ was.faults.send) }
-    ensures refused { (was : Exchange ℕ) → OnlyNotes was (record was { faults = with_refused true was.faults }) }
+    ensures counted { (was is : Exchange ℕ) → OnlyWrites was is → (is.journal.tally ≡ was.journal.tally)
+        × (is.journal.board ≡ was.journal.board) }
     ensures ended { (was is : Desk ℕ ℕ) → OnlyEnds was is → is.play ≡ was.play → is.exchange ≡ was.exchange → is.lines ≡ was.lines
         → is ≡ was }
-    ensures gateway { (was is : Desk ℕ ℕ) → OnlyEnds was is → is.play.gateway ≡ was.play.gateway }
+    ensures kept { (was is : Desk ℕ ℕ) → OnlyEnds was is → (is.play.gateway ≡ was.play.gateway)
+        × (is.exchange.journal.tally ≡ was.exchange.journal.tally) × (is.exchange.journal.board ≡ was.exchange.journal.board) }
     ensures exchange { (was is : Desk ℕ ℕ) → OnlyEnds was is → is.exchange.around ≡ was.exchange.around
         → is.exchange.journal ≡ was.exchange.journal → is.exchange.is_offering ≡ was.exchange.is_offering → is.exchange ≡ was.exchange }
 {}

@@ -1,4 +1,4 @@
-use Rattle.std.proofs.Common.{ℕ, Bool, refl, ◌∙◌, ap}
+use Rattle.std.proofs.Common.{ℕ, Bool, ◌∙◌, ap}
 use Rattle.live_journal.specs.declared.journal.Journal.{Journal}
 use Rattle.live_play.specs.declared.play.LivePlay.{LivePlay}
 use Rattle.surroundings.specs.declared.lines.Lines.{Lines}
@@ -8,15 +8,12 @@ use Rattle.live_laws.proofs.way_examples.what_stays_of_an_exchange_has_examples.
 
 pub returns-clause-written : goal.returns-clause-written
 returns-clause-written c = λ was is only journal offering.
-    only
+    only.rest
     ∙ ap (λ (j : Journal). let x : Exchange ℕ = record was { journal = j; is_offering = is.is_offering } in x) journal
     ∙ ap (λ (b : Bool). let x : Exchange ℕ = record was { is_offering = b } in x) offering
 
-pub returns-clause-noted : goal.returns-clause-noted
-returns-clause-noted c = λ was is only. (only.0, only.1.0, only.1.1, only.2, only.3)
-
-pub returns-clause-refused : goal.returns-clause-refused
-returns-clause-refused c = λ was. (refl, (refl, refl), refl, refl)
+pub returns-clause-counted : goal.returns-clause-counted
+returns-clause-counted c = λ was is only. (only.counted, only.shown)
 
 pub returns-clause-ended : goal.returns-clause-ended
 returns-clause-ended c = λ was is only play exchange lines.
@@ -25,8 +22,8 @@ returns-clause-ended c = λ was is only play exchange lines.
     ∙ ap (λ (e : Exchange ℕ). let x : Desk ℕ ℕ = record was { exchange = e; lines = is.lines } in x) exchange
     ∙ ap (λ (l : Lines). let x : Desk ℕ ℕ = record was { lines = l } in x) lines
 
-pub returns-clause-gateway : goal.returns-clause-gateway
-returns-clause-gateway c = λ was is only. only.gateway
+pub returns-clause-kept : goal.returns-clause-kept
+returns-clause-kept c = λ was is only. (only.gateway, only.counted, only.shown)
 
 pub returns-clause-exchange : goal.returns-clause-exchange
 returns-clause-exchange c = λ was is only around journal offering.
