@@ -1,8 +1,9 @@
 //! What the page is answered by a board, as JSON, and what becomes of what it asks to be done.
-ghost use Rattle.std.specs.Prelude.{◌≡◌, IfOk, OnErr, string_bytes};
+ghost use Rattle.std.specs.Prelude.{◌≡◌, ◌≤◌, length, IfOk, OnErr, string_bytes};
 ghost use Rattle.page_answers.specs.Outcomes.{Becomes};
 ghost use Rattle.page_answers.specs.Telling.{events_text as text_of_events};
 ghost use Rattle.page_answers.specs.Texts.{TellsState};
+ghost use Rattle.page_board.specs.declared.board.TheConstants.{MOST_ACTS};
 
 use crate::acting::read_act;
 use crate::state::state_text;
@@ -41,6 +42,7 @@ pub fn events_of(alloc: Global, board: &Board, after: u64) -> Result<String, All
 /// the board is as it was.
 pub fn act_on(alloc: Global, board: &mut Board, body: &[u8]) -> Result<ActOutcome, AllocError>
     ensures outcome { IfOk result (λ outcome. Becomes board.old body.now outcome board.new) }
+    ensures few { length board.old.acts ≤ MOST_ACTS → length board.new.acts ≤ MOST_ACTS }
     ensures err { OnErr result (board.new ≡ board.old) }
 {
     let Some(queued) = read_act(alloc, body)? else {
