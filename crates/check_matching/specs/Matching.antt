@@ -38,6 +38,10 @@ left_at (Some place) waiting = remove waiting place
 unfoldable pub answer_for : Socket → ℕ → List Arrived → Option Arrived
 answer_for at id waiting = answer_at (position (is_of at id) waiting) waiting
 
+-- those that are left without it
+unfoldable pub left_for : Socket → ℕ → List Arrived → List Arrived
+left_for at id waiting = left_at (position (is_of at id) waiting) waiting
+
 -- the text of the first answer to the command with this id; nothing before there is one
 unfoldable pub first_text : ℕ → List Arrived → List ℕ
 first_text id [] = []

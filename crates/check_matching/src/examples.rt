@@ -13,7 +13,8 @@ ghost use Rattle.check_matching.specs.declared.step.Step.{Step};
 ghost use Rattle.check_matching.specs.declared.unasked.Likeness.TheVariants as likes;
 ghost use Rattle.check_matching.specs.declared.unasked.Unasked.{Unasked};
 ghost use Rattle.check_matching.specs.Hearing.{is_provisional, heard_of, response_to, given_in, awaits, awaits_answer, kept_in, to_nothing};
-ghost use Rattle.check_matching.specs.Matching.{is_second, is_among, code_fault, has_value, has_another, has_due, holds, last_text};
+ghost use Rattle.check_matching.specs.Matching.{is_second, answer_for, left_for, first_text, last_text, is_among, code_fault};
+ghost use Rattle.check_matching.specs.Matching.{has_value, has_another, has_due, holds};
 ghost use Rattle.check_matching.specs.Steps.{before, behind, blank, line_end, asked_by, number_of, IsStepOf};
 ghost use Rattle.check_matching.specs.Unasked.{notified_by, announced_by, is_for_check, breaks, is_quiet, likeness_by, first_meant};
 ghost use Rattle.check_matching.specs.Unasked.{none_since, with_coming, last_of, gaps_behind, has_grown};
@@ -50,6 +51,13 @@ pub fn each_sentence_has_an_example()
     ensures further_response { response_to false 7 ≡ codes ".\r\n200 7 OK\r\n" }
     ensures socket { is_second First ≡ false }
     ensures second_socket { is_second Second ≡ true }
+    // The first answer counts that came to this socket for this id, and without it the others are left.
+    ensures first_answer { (a b c : Arrived) → answer_for First 7
+        (record a { at = Second; id = 7 } ∷ record b { at = First; id = 7 } ∷ c ∷ []) ≡ Some (record b { at = First; id = 7 }) }
+    ensures others_left { (a b c : Arrived) → left_for First 7
+        (record a { at = First; id = 8 } ∷ record b { at = First; id = 7 } ∷ c ∷ []) ≡ record a { at = First; id = 8 } ∷ c ∷ [] }
+    ensures none_left_out { (a : Arrived) → left_for First 7 (record a { at = Second; id = 7 } ∷ []) ≡ record a { at = Second; id = 7 } ∷ [] }
+    ensures first_text { (a b : Arrived) → first_text 7 (record a { id = 7 } ∷ record b { id = 7 } ∷ []) ≡ a.text.items }
 {}
 
 /// Each sentence at an example.

@@ -1,5 +1,5 @@
 //! What a step expects of an answer, and what it keeps of it.
-ghost use Rattle.std.specs.Prelude.{◌≡◌, slice_get, string_bytes, option_copied, option_map, is_some, IfOk, OnOk};
+ghost use Rattle.std.specs.Prelude.{◌≡◌, ◌++◌, slice_get, remove, string_bytes, option_copied, option_map, option_to_list, is_some, IfOk, OnOk};
 ghost use Rattle.mgcp_text.specs.Reading.{read_text};
 ghost use Rattle.check_matching.specs.Hearing.{given_in};
 ghost use Rattle.check_matching.specs.Matching.{holds};
@@ -78,6 +78,9 @@ pub fn name_id<'a>(
     ensures kept { OnOk result (names_kept names.new
         ≡ kept_with name.now (id_named (slice_get mailbox.old.waiting.items place)) (names_kept names.old)) }
     ensures rest { names.new ≡ record names.old { kept = names.new.kept } }
+    ensures waiting { mailbox.new.waiting.items ≡ remove mailbox.old.waiting.items place }
+    ensures heard { OnOk result (mailbox.new.heard.items
+        ≡ mailbox.old.heard.items ++ option_to_list (slice_get mailbox.old.waiting.items place)) }
 {
     let Some(id) = mailbox.ask(place)? else {
         return Ok(());
