@@ -1,2 +1,4 @@
 pub mod Computing
+pub mod LeaveLemmas
 pub mod PlayLemmas
+pub mod TurnLemmas

@@ -1,16 +1,15 @@
 -- What comes of a step that expects what the gateway says by itself.
-use Rattle.std.proofs.Common.{◌≡◌, ℕ, suc, ◌+◌, Bool, true, false, List, Option, Some, None, refl, sym, ap, ◌∙◌, subst, inl, inr, arith, rules}
+use Rattle.std.proofs.Common.{◌≡◌, ℕ, Bool, true, false, List, Option, Some, None, refl, sym, ap, ◌∙◌, subst, rules}
 use Rattle.std.proofs.lemmas.Bool.{false≢true}
 use denote.Ref.{Bor}
 use Rattle.gateway_checks.specs.declared.judging.Fault.{Fault}
 use Rattle.check_player.specs.declared.player.Player.{Player}
 use Rattle.check_player.specs.declared.player.Turn.{Turn}
-use Rattle.check_player.specs.declared.player.Turn.TheVariants as turns
 use Rattle.check_matching.specs.declared.socket.Socket.{Socket}
 use Rattle.check_matching.specs.declared.step.Step.{Step}
 use Rattle.check_matching.specs.declared.unasked.Expected.TheVariants.{Notification, Announcement}
 use Rattle.gateway_checks.specs.Judging.{settled}
-use Rattle.check_player.specs.Playing.{counted, like_at, fault_left, step_left, is_over, ComesTo, found_outcome, notice_due, outcome_of, TakesStep, Further, FurtherTimes}
+use Rattle.check_player.specs.Playing.{counted, like_at, fault_left, step_left, is_over, ComesTo, found_outcome, notice_due, outcome_of}
 use Rattle.check_matching.specs.Steps.{before, behind, blank}
 use Rattle.check_matching.specs.Unasked.{likeness_at, notified_by, announced_by}
 
@@ -105,41 +104,6 @@ pub announced_comes : (was is : Player) (turn : Option Turn) (at : Socket) (meth
     → ComesTo was is turn (found_outcome was (like_at was.mailbox.heard.items at (announced_by due)) now)
 announced_comes was is turn at method due now same comes =
     subst (λ (m : List ℕ). ComesTo was is turn (found_outcome was (like_at was.mailbox.heard.items at (announced_by m)) now)) same comes
-
--- one step more was played
-pub once_more : (now count : ℕ) (was between is : Player) → FurtherTimes now count was between → Further now between is None
-    → FurtherTimes now (count + 1) was is
-once_more now count was between is some once =
-    let more : suc count ≡ count + 1 = omega arith in
-    subst (λ (n : ℕ). FurtherTimes now n was is) more (between, some, once)
-
--- something was answered while the check is undone
-pub further_left : (now : ℕ) (was taken left : Player) (turn : Option Turn) → TakesStep was taken
-    → (taken.is_undoing ≡ false → left ≡ taken)
-    → left ≡ record taken { mailbox = left.mailbox; sent = left.sent; is_refused = left.is_refused }
-    → taken.is_undoing ≡ true → (left.is_refused ≡ false → is_over turn ≡ false) → Further now was left turn
-unfolding Further
-further_left now was taken left turn takes same rest undoing goes = (taken, left, takes, (same, rest), inl (undoing, refl, goes))
-
--- no step is left
-pub further_over : (now : ℕ) (was taken left : Player) → TakesStep was taken
-    → (taken.is_undoing ≡ false → left ≡ taken)
-    → left ≡ record taken { mailbox = left.mailbox; sent = left.sent; is_refused = left.is_refused }
-    → taken.step ≡ None → Further now was left (Some turns.Over)
-unfolding Further
-further_over now was taken left takes same rest none =
-    (taken, left, takes, (same, rest), inr (inl (ap (λ (player : Player). player.step) rest ∙ none, refl, refl)))
-
--- the step was played
-pub further_played : (now : ℕ) (was taken left is : Player) (turn : Option Turn) (step : Step) → TakesStep was taken
-    → (taken.is_undoing ≡ false → left ≡ taken)
-    → left ≡ record taken { mailbox = left.mailbox; sent = left.sent; is_refused = left.is_refused }
-    → taken.step ≡ Some step → ComesTo left is turn (outcome_of left step now) → Further now was is turn
-unfolding Further
-further_played now was taken left is turn step takes same rest some comes =
-    (taken, left, takes, (same, rest), inr (inr (step, ap (λ (player : Player). player.step) rest ∙ some, comes)))
-
-pub ruleset steps_further = (further_left, further_over, further_played)
 
 -- what a step leaves that leaves no fault
 met_by : (undoing : Bool) (earlier : Option Fault) (waits : Option Step) (outcome : Option (Option Fault)) (step : Step) → undoing ≡ false

@@ -1,1 +1,4 @@
 pub mod Playing
+pub mod Leaving
+pub mod Turning
+pub mod Responding

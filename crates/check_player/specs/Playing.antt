@@ -1,12 +1,11 @@
 -- What comes of a step that is played, by what it expects and what came: it waits on, or it is done, with this fault or none.
-use Rattle.std.specs.Prelude.{◌≡◌, ◌⊎◌, ℕ, zero, suc, ◌-◌, Bool, true, false, not, ◌&&◌, ◌||◌, ◌==◌, nat_le, nat_lt, if◌then◌else◌, bytes_eq, vec_len, unwrap_or, is_some, is_none, option_map, slice_get, List, [], ◌∷◌, ◌++◌, length, Option, Some, None}
+use Rattle.std.specs.Prelude.{◌≡◌, ℕ, ◌-◌, Bool, true, false, not, ◌&&◌, ◌||◌, ◌==◌, nat_le, nat_lt, if◌then◌else◌, bytes_eq, vec_len, unwrap_or, is_some, option_map, List, Option, Some, None}
 use Rattle.mgcp_text.specs.Reading.{Outcome, read_text}
 use Rattle.check_matching.specs.declared.gaps.Gaps.{Gaps}
 use Rattle.check_matching.specs.declared.inbox.Arrived.{Arrived}
 use Rattle.gateway_checks.specs.declared.judging.Fault.{Fault}
 use Rattle.gateway_checks.specs.declared.names.Names.{Names}
 use Rattle.check_player.specs.declared.player.Player.{Player}
-use Rattle.check_player.specs.declared.player.TheConstants.{MOST_STEPS}
 use Rattle.check_player.specs.declared.player.Turn.{Turn}
 use Rattle.check_player.specs.declared.player.Turn.TheVariants as turns
 use Rattle.check_matching.specs.declared.socket.Socket.{Socket}
@@ -17,12 +16,12 @@ use Rattle.check_matching.specs.declared.unasked.Likeness.{Likeness}
 use Rattle.check_matching.specs.declared.unasked.Likeness.TheVariants.{Another}
 use Rattle.check_matching.specs.declared.unasked.Unasked.{Unasked}
 use Rattle.check_matching.specs.declared.waiting.TheConstants.{UNASKED_TIME}
-use Rattle.check_matching.specs.Expecting.{is_parameter_due, id_named}
+use Rattle.check_matching.specs.Expecting.{is_parameter_due}
 use Rattle.check_matching.specs.Hearing.{given_in}
 use Rattle.gateway_checks.specs.Judging.{judged, settled}
 use Rattle.check_matching.specs.Matching.{answer_for, first_text, last_text, code_fault, holds}
-use Rattle.gateway_checks.specs.Naming.{filled, id_in, differ, names_kept, kept_with}
-use Rattle.check_matching.specs.Steps.{before, behind, blank, line_end, IsStepOf}
+use Rattle.gateway_checks.specs.Naming.{filled, id_in, differ}
+use Rattle.check_matching.specs.Steps.{before, behind, blank}
 use Rattle.check_matching.specs.Unasked.{counts_at, first_meant, is_quiet, has_grown, last_of, gaps_behind, notified_by, announced_by}
 use Rattle.check_matching.specs.Waiting.{so_long_behind, waited_until}
 
@@ -110,11 +109,6 @@ same_outcome player id now =
     repeated_by (first_text (id_in player.names id) player.inbox.taken.items) (answer_until player.until player.begun now) now
     (option_map (λ arrived. arrived.text.items) (answer_in player (id_in player.names id)))
 
--- it is the last one then that a step has asked for
-abbrev pub TakesAnswer : Player → Player → Option Arrived → Type 0
-TakesAnswer was is answer =
-    (arrived : Arrived) → answer ≡ Some arrived → is.is_refused ≡ false → is.inbox.taken.items ≡ was.inbox.taken.items ++ arrived ∷ []
-
 -- What the gateway says by itself
 
 -- the first that is meant is right or wrong
@@ -129,12 +123,6 @@ like_at heard at like unasked = if not (counts_at heard at unasked) then Another
 abbrev pub found_outcome : Player → (Unasked → Likeness) → ℕ → Option (Option Fault)
 found_outcome player like now =
     found_by (until_in player.until UNASKED_TIME now) now (first_meant like 0 player.mailbox.waiting.items)
-
--- its id has a name from then on
-abbrev pub NamesFound : List ℕ → Player → Player → Option (ℕ × Bool) → Type 0
-NamesFound name was is found =
-    (place : ℕ) (is_due : Bool) → found ≡ Some (place, is_due) → is.is_refused ≡ false
-    → names_kept is.names ≡ kept_with name (id_named (slice_get was.mailbox.waiting.items place)) (names_kept was.names)
 
 -- the endpoint, X and O that are due have blanks between them
 abbrev pub notice_due : List ℕ → Outcome → Likeness
@@ -197,28 +185,6 @@ met_at_once steps.Act names answer step = false
 met_at_once steps.Restart names answer step = false
 met_at_once steps.Unknown names answer step = false
 
--- the parameter of the last answer has a name from then on; no other step that is met at once names anything
-abbrev pub named_at_once : Asks → List ℕ → Step → Option (List ℕ)
-named_at_once steps.Send answer step = None
-named_at_once steps.Answer answer step = None
-named_at_once steps.AnswerIfDone answer step = None
-named_at_once steps.Same answer step = None
-named_at_once steps.Silence answer step = None
-named_at_once steps.Wait answer step = None
-named_at_once steps.Has answer step = None
-named_at_once steps.Unlike answer step = None
-named_at_once steps.Tells answer step = None
-named_at_once steps.Keep answer step = given_in step.second.now (read_text answer)
-named_at_once steps.Differ answer step = None
-named_at_once steps.Notified answer step = None
-named_at_once steps.Announced answer step = None
-named_at_once steps.Again answer step = None
-named_at_once steps.Slower answer step = None
-named_at_once steps.Quiet answer step = None
-named_at_once steps.Act answer step = None
-named_at_once steps.Restart answer step = None
-named_at_once steps.Unknown answer step = None
-
 abbrev pub outcome_at_once : Player → Step → Option (Option Fault)
 outcome_at_once player step =
     Some (fault_unless (met_at_once step.asks player.names (last_text player.inbox.taken.items) step))
@@ -251,67 +217,3 @@ outcome_by steps.Unknown player step now = outcome_at_once player step
 -- a step that is played now comes to this
 abbrev pub outcome_of : Player → Step → ℕ → Option (Option Fault)
 outcome_of player step now = outcome_by step.asks player step now
-
--- Which step is played
-
--- lines are over by a fault, or by their end
-abbrev pub are_over : Option Fault → List ℕ → Bool
-are_over fault lines = is_some fault || length lines == 0
-
--- where those of the check are over those that undo it follow, once
-abbrev pub lines_due : Bool → Option Fault → List ℕ → List ℕ → List ℕ
-lines_due is_undoing fault lines undo = if not is_undoing && are_over fault lines then undo else lines
-
-abbrev pub is_at_end : Player → Bool
-is_at_end player = are_over player.fault player.lines.now
-
-abbrev pub lines_in : Player → List ℕ
-lines_in player = lines_due player.is_undoing player.fault player.lines.now player.undo.now
-
--- the step to be played: the one that waits, or else that of the next line, where one is left
-unfoldable pub TakesStep : Player → Player → Type 0
-TakesStep was is =
-    (is_some was.step ≡ true → is ≡ was)
-    × (was.step ≡ None → is.is_undoing ≡ (was.is_undoing || is_at_end was))
-    × (was.step ≡ None → is_none is.step ≡ (length (lines_in was) == 0))
-    × (was.step ≡ None → (step : Step) → is.step ≡ Some step → IsStepOf (before line_end (lines_in was)) step)
-    × (was.step ≡ None → is_some is.step ≡ true → is.lines.now ≡ behind line_end (lines_in was))
-    × (was.step ≡ None → is_some is.step ≡ true → (is.begun ≡ None) × (is.until ≡ None))
-    × (is ≡ record was {
-      is_undoing = is.is_undoing;
-      lines = is.lines;
-      line = is.line;
-      begun = is.begun;
-      until = is.until;
-      step = is.step;
-    })
-
--- A turn
-
--- what the gateway said by itself is answered before the check is undone, which changes nothing else
-abbrev pub AnswersLeft : Player → Player → Type 0
-AnswersLeft was is =
-    (was.is_undoing ≡ false → is ≡ was) × (is ≡ record was { mailbox = is.mailbox; sent = is.sent; is_refused = is.is_refused })
-
--- the step that is to be played comes to what it expects; where none is left the check is over
-abbrev pub PlaysStep : ℕ → Player → Player → Option Turn → Type 0
-PlaysStep now was is turn =
-    ((was.step ≡ None) × (is ≡ was) × (turn ≡ Some turns.Over))
-    ⊎ ((step : Step) × (was.step ≡ Some step) × ComesTo was is turn (outcome_of was step now))
-
--- one step further; while a check is undone something may be answered in its place
-unfoldable pub Further : ℕ → Player → Player → Option Turn → Type 0
-Further now was is turn =
-    (taken : Player) × (left : Player) × TakesStep was taken × AnswersLeft taken left
-    × (((taken.is_undoing ≡ true) × (is ≡ left) × (is.is_refused ≡ false → is_over turn ≡ false)) ⊎ PlaysStep now left is turn)
-
--- so many steps further, each of which is done
-abbrev pub FurtherTimes : ℕ → ℕ → Player → Player → Type 0
-FurtherTimes now zero was is = is ≡ was
-FurtherTimes now (suc count) was is = (between : Player) × FurtherTimes now count was between × Further now between is None
-
--- at a moment steps are played one behind the other, up to one that waits or the end; no check has more than the most
-abbrev pub Plays : ℕ → Player → Player → Turn → Type 0
-Plays now was is turn =
-    ((count : ℕ) × (between : Player) × FurtherTimes now count was between × Further now between is (Some turn))
-    ⊎ ((count : ℕ) × FurtherTimes now count was is × (count ≡ MOST_STEPS))

@@ -17,8 +17,10 @@ ghost use Rattle.check_player.specs.declared.player.Player.{Player};
 ghost use Rattle.check_player.specs.declared.player.Turn.TheVariants as turns;
 ghost use Rattle.check_player.specs.Playing.{counted, fault_unless, fault_left, step_left, is_over, due_until, passed_by, until_in};
 ghost use Rattle.check_player.specs.Playing.{answer_until, answered_by, repeated_by, found_by, repeats_by, silent_by, acted_by};
-ghost use Rattle.check_player.specs.Playing.{like_at, met_at_once, named_at_once, answer_outcome, same_outcome, found_outcome, notice_due};
-ghost use Rattle.check_player.specs.Playing.{again_outcome, silence_outcome, outcome_at_once, outcome_by, lines_due};
+ghost use Rattle.check_player.specs.Playing.{like_at, met_at_once, answer_outcome, same_outcome, found_outcome, notice_due};
+ghost use Rattle.check_player.specs.Playing.{again_outcome, silence_outcome, outcome_at_once, outcome_by};
+ghost use Rattle.check_player.specs.Leaving.{named_at_once};
+ghost use Rattle.check_player.specs.Turning.{lines_due};
 
 /// Each sentence at an example.
 pub fn what_is_met_at_once_has_examples()

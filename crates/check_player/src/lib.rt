@@ -5,6 +5,7 @@
 mod dialogue;
 pub mod examples;
 pub mod laws;
+pub mod leaving_examples;
 mod player;
 
 pub use crate::player::{Player, Turn};

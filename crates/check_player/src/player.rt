@@ -1,23 +1,27 @@
 //! Plays a check: what is to be sent, until when something is waited for, and what comes of it.
 ghost use Rattle.std.specs.Prelude.{◌≡◌, ◌⊎◌, ◌==◌, ◌++◌, [], length, map, not, true, false, Some, None};
-ghost use Rattle.std.specs.Prelude.{IfOk, OnOk, is_some, string_bytes, unwrap_or};
+ghost use Rattle.std.specs.Prelude.{IfOk, OnOk, string_bytes, string_len, unwrap_or};
+ghost use Rattle.std.specs.Str.Lossy.{utf8_lossy};
 ghost use Rattle.piggyback.specs.Parts.{parts_of};
 ghost use Rattle.check_matching.specs.Hearing.{came_as, awaits_answer, kept_of, kept_in};
 ghost use Rattle.gateway_checks.specs.Judging.{verdict_of};
-ghost use Rattle.check_matching.specs.Matching.{last_text};
-ghost use Rattle.gateway_checks.specs.Naming.{filled, id_in, names_kept, kept_with};
+ghost use Rattle.check_matching.specs.Matching.{last_text, left_for};
+ghost use Rattle.gateway_checks.specs.Naming.{id_in, names_kept, kept_with};
+ghost use Rattle.check_player.specs.Leaving.{OnlyWaits, Sends, AsksFor, TakesAnswer, TakesCopy, named_at_once, KeepsValue, Leaves};
 ghost use Rattle.check_player.specs.Playing.{counted, fault_unless, LeavesRest, ComesTo, due_until, passed_by, until_in, answer_until, answer_outcome};
-ghost use Rattle.check_player.specs.Playing.{answer_in, TakesAnswer, NamesFound, same_outcome, found_outcome, like_at, notice_due, again_outcome, is_silent_in, silence_outcome, acted_by};
-ghost use Rattle.check_player.specs.Playing.{is_over, met_at_once, named_at_once, outcome_at_once, outcome_of, Further, Plays};
-ghost use Rattle.check_matching.specs.Unasked.{likeness_at, first_meant, announced_by};
+ghost use Rattle.check_player.specs.Playing.{answer_in, same_outcome, is_silent_in, silence_outcome, acted_by};
+ghost use Rattle.check_player.specs.Playing.{met_at_once, outcome_at_once, outcome_of};
+ghost use Rattle.check_player.specs.Responding.{is_left_to_steps, response_of, is_first_behind, responses_from};
+ghost use Rattle.check_player.specs.Turning.{AnswersLast, AnswersLeft, Further, Plays};
+ghost use Rattle.check_player.specs.declared.player.Turn.TheVariants as turns;
 
+mod finding;
 mod stepping;
 
 use crate::dialogue::{put_said, told_due};
 use check_matching::{
-    Arrived, Asks, Expected, Heard, Inbox, Mailbox, Socket, Step, UNASKED_TIME, Unasked,
-    code_fault, first_word, hear_text, is_as_due, is_for_check, is_prolonged, is_told, keep_value,
-    name_id, put_response, waited_until,
+    Arrived, Asks, Heard, Inbox, Mailbox, Socket, Step, Unasked, code_fault, hear_text, is_as_due,
+    is_for_check, is_prolonged, is_told, keep_value, put_response, waited_until,
 };
 use gateway_checks::{Check, Fault, Names, Verdict, append, judged, settled, verdict_of};
 use mg_bytes::{Draft, OutOfMemory};
@@ -308,7 +312,7 @@ impl<'a> Player<'a> {
     }
 
     // Plays the next step: what is asked for then, or nothing where it is done.
-    #[tactic(auto, using(crate::proofs::PlayLemmas::steps_further))]
+    #[tactic(auto, using(crate::proofs::TurnLemmas::steps_further))]
     fn play_next(&mut self, now: u64) -> Option<Turn>
         ensures { Further now self.old self.new result }
     {
@@ -324,15 +328,22 @@ impl<'a> Player<'a> {
 
     // Before what undoes a check that a fault has ended all is answered that the gateway said by itself meanwhile: it would come again,
     // and keep its line from notifying what the checks behind are for.
+    #[tactic(auto, unfolding(crate::specs::Turning::AnswersLeft))]
     fn answer_left(&mut self) -> Option<Turn>
-        ensures some { is_some result ≡ true → self.old.is_undoing ≡ true }
-        ensures goes_on { self.new.is_refused ≡ false → is_over result ≡ false }
-        ensures left { self.old.is_undoing ≡ false → self.new ≡ self.old }
-        ensures rest { self.new ≡ record self.old { mailbox = self.new.mailbox; sent = self.new.sent; is_refused = self.new.is_refused } }
+        ensures { AnswersLeft self.old self.new result }
     {
         if !self.is_undoing || self.fault.is_none() {
             return None;
         }
+        self.answer_last()
+    }
+
+    // The last that the gateway said by itself is answered.
+    #[tactic(auto, using(crate::proofs::TurnLemmas::answers_last))]
+    fn answer_last(&mut self) -> Option<Turn>
+        ensures answers { AnswersLast self.old self.new result }
+        ensures rest { self.new ≡ record self.old { mailbox = self.new.mailbox; sent = self.new.sent; is_refused = self.new.is_refused } }
+    {
         let Some(unasked) = self.mailbox.take() else {
             return None;
         };
@@ -348,9 +359,10 @@ impl<'a> Player<'a> {
     }
 
     // Plays a step: what it asks for, or nothing where it is done.
-    #[tactic(auto, using(crate::proofs::PlayLemmas::comes_same))]
+    #[tactic(auto, using(crate::proofs::PlayLemmas::comes_same, crate::proofs::LeaveLemmas::leaves))]
     fn play(&mut self, step: Step<'a>, now: u64) -> Option<Turn>
-        ensures { ComesTo self.old self.new result (outcome_of self.old step.entry now) }
+        ensures comes { ComesTo self.old self.new result (outcome_of self.old step.entry now) }
+        ensures leaves { Leaves self.old self.new result step.entry }
     {
         let line = self.line;
         let (at, first, second) = (step.at, step.first, step.second);
@@ -378,7 +390,7 @@ impl<'a> Player<'a> {
             ≡ met_at_once step.entry.asks self.old.names (last_text self.old.inbox.taken.items) step.entry) }
         ensures kept { OnOk result (names_kept self.new.names ≡ kept_with step.entry.first.now
             (named_at_once step.entry.asks (last_text self.old.inbox.taken.items) step.entry) (names_kept self.old.names)) }
-        ensures rest { self.new ≡ record self.old { names = self.new.names } }
+        ensures rest { self.new ≡ record self.old { names = record self.old.names { kept = self.new.names.kept } } }
     {
         let alloc = self.alloc;
         let (first, second) = (step.first, step.second);
@@ -394,9 +406,10 @@ impl<'a> Player<'a> {
     }
 
     // Plays such a step.
-    #[tactic(auto, using(crate::proofs::PlayLemmas::comes_at_once))]
+    #[tactic(auto, using(crate::proofs::PlayLemmas::comes_at_once), unfolding(crate::specs::Leaving::KeepsValue))]
     fn play_at_once(&mut self, step: Step<'a>) -> Option<Turn>
-        ensures { ComesTo self.old self.new result (outcome_at_once self.old step.entry) }
+        ensures comes { ComesTo self.old self.new result (outcome_at_once self.old step.entry) }
+        ensures keeps { KeepsValue self.old self.new step.entry }
     {
         match self.met_at_once(step) {
             Ok(is_met) => self.finish_met(is_met),
@@ -408,6 +421,17 @@ impl<'a> Player<'a> {
     #[tactic(auto, using(crate::proofs::PlayLemmas::comes_at_once))]
     fn send_now(&mut self, from: Socket) -> Option<Turn>
         ensures comes { ComesTo self.old self.new result (Some None) }
+        ensures turn { self.new.is_refused ≡ false → result ≡ Some (turns.Send from) }
+        ensures from { self.new.from ≡ from }
+        ensures rest { self.new ≡ record self.old {
+          from = self.new.from;
+          came = self.new.came;
+          step = self.new.step;
+          fault = self.new.fault;
+          said = self.new.said;
+          due = self.new.due;
+          is_refused = self.new.is_refused;
+        } }
     {
         let mark = if from.is_second() { ">> " } else { "> " };
         self.from = from;
@@ -419,9 +443,10 @@ impl<'a> Player<'a> {
     }
 
     // This goes out from a socket, or what went out last does again.
-    #[tactic(auto, using(crate::proofs::PlayLemmas::comes_sent))]
+    #[tactic(auto, using(crate::proofs::PlayLemmas::comes_sent), unfolding(crate::specs::Leaving::Sends))]
     fn send(&mut self, from: Socket, text: &str) -> Option<Turn>
         ensures comes { ComesTo self.old self.new result (Some None) }
+        ensures sends { Sends self.old self.new result from text.now }
     {
         if text == "again" {
             return self.send_now(from);
@@ -469,9 +494,10 @@ impl<'a> Player<'a> {
     }
 
     // Waits for an answer; where none came in time the step isn't met.
-    #[tactic(auto, using(crate::proofs::PlayLemmas::comes_in_time))]
+    #[tactic(auto, using(crate::proofs::PlayLemmas::comes_in_time), unfolding(crate::specs::Leaving::OnlyWaits))]
     fn await_answer(&mut self, now: u64) -> Option<Turn>
-        ensures { ComesTo self.old self.new result (due_until (answer_until self.old.until self.old.begun now) now) }
+        ensures comes { ComesTo self.old self.new result (due_until (answer_until self.old.until self.old.begun now) now) }
+        ensures rest { OnlyWaits self.old self.new }
     {
         let until = self.answer_deadline(now);
         if now < until {
@@ -481,20 +507,20 @@ impl<'a> Player<'a> {
     }
 
     // The first answer to the command with this id is taken that came to the socket from which the last text went out.
-    #[tactic(auto, unfolding(check_matching::specs::Matching::answer_for))]
+    #[tactic(auto, unfolding(check_matching::specs::Matching::answer_for, check_matching::specs::Matching::left_for))]
     fn take_answer(&mut self, id: u32) -> Option<Arrived>
         ensures found { result ≡ answer_in self.old id }
-        ensures taken { self.new.inbox.taken ≡ self.old.inbox.taken }
-        ensures rest { self.new ≡ record self.old { inbox = self.new.inbox } }
+        ensures left { self.new.inbox.waiting.items ≡ left_for self.old.from id self.old.inbox.waiting.items }
+        ensures rest { self.new ≡ record self.old { inbox = record self.old.inbox { waiting = self.new.inbox.waiting } } }
     {
         self.inbox.take(self.from, id)
     }
 
     // The answer with this id is to come, with one of these codes.
-    #[tactic(auto, using(crate::proofs::PlayLemmas::comes_on))]
+    #[tactic(auto, using(crate::proofs::PlayLemmas::comes_on), unfolding(crate::specs::Leaving::TakesAnswer, crate::specs::Leaving::OnlyWaits))]
     fn answered(&mut self, codes: &str, id: &str, is_optional: bool, now: u64) -> Option<Turn>
         ensures comes { ComesTo self.old self.new result (answer_outcome self.old codes.now id.now is_optional now) }
-        ensures taken { TakesAnswer self.old self.new (answer_in self.old (id_in self.old.names id.now)) }
+        ensures takes { TakesAnswer self.old self.new (id_in self.old.names id.now) }
     {
         let Ok(id) = self.names.id_in(id) else {
             return self.refused();
@@ -512,9 +538,10 @@ impl<'a> Player<'a> {
     }
 
     // The answer with this id is to come again as it first came.
-    #[tactic(auto, using(crate::proofs::PlayLemmas::comes_on))]
+    #[tactic(auto, using(crate::proofs::PlayLemmas::comes_on), unfolding(crate::specs::Leaving::TakesCopy, crate::specs::Leaving::OnlyWaits))]
     fn answered_again(&mut self, id: &str, now: u64) -> Option<Turn>
-        ensures { ComesTo self.old self.new result (same_outcome self.old id.now now) }
+        ensures comes { ComesTo self.old self.new result (same_outcome self.old id.now now) }
+        ensures takes { TakesCopy self.old self.new (id_in self.old.names id.now) }
     {
         let Ok(id) = self.names.id_in(id) else {
             return self.refused();
@@ -529,8 +556,9 @@ impl<'a> Player<'a> {
     }
 
     // It is waited for so long; then the step is met or not.
-    #[tactic(auto, using(crate::proofs::PlayLemmas::comes_in_time))]
+    #[tactic(auto, using(crate::proofs::PlayLemmas::comes_in_time), unfolding(crate::specs::Leaving::OnlyWaits))]
     fn waited(&mut self, ms: u64, is_met: bool, now: u64) -> Option<Turn>
+        ensures rest { OnlyWaits self.old self.new }
         ensures passes { is_met ≡ true → ComesTo self.old self.new result (passed_by (until_in self.old.until ms now) now) }
         ensures is_due { is_met ≡ false → ComesTo self.old self.new result (due_until (until_in self.old.until ms now) now) }
     {
@@ -539,73 +567,6 @@ impl<'a> Player<'a> {
             return Some(Turn::Wait { until });
         }
         self.finish_met(is_met)
-    }
-
-    // This is to come to a socket: whether as due or not, its id has this name from here on.
-    #[tactic(auto, using(crate::proofs::PlayLemmas::comes_on))]
-    fn find(&mut self, at: Socket, expected: &Expected<'_>, name: &'a str, now: u64) -> Option<Turn>
-        ensures comes { ComesTo self.old self.new result (found_outcome self.old
-            (likeness_at self.old.mailbox.heard.items at expected.now) now) }
-        ensures named { NamesFound name.now self.old self.new
-            (first_meant (likeness_at self.old.mailbox.heard.items at expected.now) 0 self.old.mailbox.waiting.items) }
-    {
-        match self.mailbox.first_meant(at, expected) {
-            Ok(Some((place, is_due))) => {
-                match name_id(&mut self.mailbox, &mut self.names, place, name) {
-                    Ok(()) => self.finish_met(is_due),
-                    Err(_) => self.refused(),
-                }
-            }
-            Ok(None) => self.waited(UNASKED_TIME, false, now),
-            Err(_) => self.refused(),
-        }
-    }
-
-    // A notification is to come to a socket: the endpoint, X and O that are due have blanks between them.
-    #[tactic(auto, using(crate::proofs::PlayLemmas::comes_notified))]
-    fn notified(&mut self, at: Socket, name: &'a str, due: &str, now: u64) -> Option<Turn>
-        ensures { ComesTo self.old self.new result (found_outcome self.old
-            (like_at self.old.mailbox.heard.items at (notice_due (filled self.old.names due.now))) now) }
-    {
-        let Ok(due) = self.names.filled(due) else {
-            return self.refused();
-        };
-        let (endpoint, rest) = first_word(due.as_str());
-        let (x, events) = first_word(rest);
-        let expected = Expected::Notification {
-            name: endpoint.as_bytes(),
-            x: x.as_bytes(),
-            events: events.as_bytes(),
-        };
-        self.find(at, &expected, name, now)
-    }
-
-    // An announcement with this method is to come to a socket.
-    #[tactic(auto, using(crate::proofs::PlayLemmas::announced_comes))]
-    fn announced(&mut self, at: Socket, name: &'a str, method: &str, now: u64) -> Option<Turn>
-        ensures { ComesTo self.old self.new result (found_outcome self.old
-            (like_at self.old.mailbox.heard.items at (announced_by method.now)) now) }
-    {
-        let method = method.as_bytes();
-        self.find(at, &Expected::Announcement { method }, name, now)
-    }
-
-    // What a step asked for last is to come so often again, each time within a time of its own.
-    #[tactic(auto, using(crate::proofs::PlayLemmas::comes_in_time))]
-    fn came_again(&mut self, times: u64, grows: bool, now: u64) -> Option<Turn>
-        ensures { ComesTo self.old self.new result (again_outcome self.old times grows now) }
-    {
-        let Some(gaps) = self.mailbox.gaps() else {
-            return self.finish_met(false);
-        };
-        if u64::from(gaps.count) >= times {
-            return self.finish_met(gaps.are_due(grows));
-        }
-        let until = gaps.previous.saturating_add(UNASKED_TIME);
-        if now < until {
-            return Some(Turn::Wait { until });
-        }
-        self.finish_met(false)
     }
 
     // Whether the gateway has said nothing by itself since this moment, or no answer waits.
@@ -621,9 +582,10 @@ impl<'a> Player<'a> {
     }
 
     // No answer is to come for so long, or the gateway is to say nothing by itself.
-    #[tactic(auto, using(crate::proofs::PlayLemmas::comes))]
+    #[tactic(auto, using(crate::proofs::PlayLemmas::comes), unfolding(crate::specs::Leaving::OnlyWaits))]
     fn quiet(&mut self, ms: u64, is_unasked: bool, now: u64) -> Option<Turn>
-        ensures { ComesTo self.old self.new result (silence_outcome self.old ms is_unasked now) }
+        ensures comes { ComesTo self.old self.new result (silence_outcome self.old ms is_unasked now) }
+        ensures rest { OnlyWaits self.old self.new }
     {
         let until = self.deadline(ms, now);
         let is_quiet = self.is_silent(is_unasked, until.saturating_sub(ms));
@@ -640,9 +602,10 @@ impl<'a> Player<'a> {
     }
 
     // This is to be done at the line's telephone, or with the gateway.
-    #[tactic(auto, using(crate::proofs::PlayLemmas::comes))]
+    #[tactic(auto, using(crate::proofs::PlayLemmas::comes), unfolding(crate::specs::Leaving::AsksFor))]
     fn ask_for(&mut self, act: &'a str) -> Option<Turn>
-        ensures { ComesTo self.old self.new result (acted_by self.old.acted) }
+        ensures comes { ComesTo self.old self.new result (acted_by self.old.acted) }
+        ensures asks { AsksFor self.old self.new result act.now }
     {
         match self.acted {
             None => {
@@ -694,25 +657,48 @@ impl<'a> Player<'a> {
     }
 
     // Whether the steps of the check answer a command of the gateway's.
-    fn is_for_steps(&self, text: &[u8]) -> Result<bool, OutOfMemory> {
+    fn is_for_steps(&self, text: &[u8]) -> Result<bool, OutOfMemory>
+        ensures { IfOk result (λ is_left. is_left ≡ is_left_to_steps self.now text.now) }
+    {
         if !self.hears || self.is_undoing {
             return Ok(false);
         }
         is_for_check(self.alloc, text, self.names.base(), self.announces)
     }
 
+    // Puts the response to a text, if it is a command that no step answers: whether the next one is the first then.
+    fn put_response_to(
+        &self,
+        out: &mut Draft,
+        is_first: bool,
+        text: &[u8],
+    ) -> Result<bool, OutOfMemory>
+        ensures put { OnOk result (out.new ≡ out.old ++ response_of self.now is_first text.now) }
+        ensures first { IfOk result (λ is_first_then. is_first_then ≡ is_first_behind self.now is_first text.now) }
+    {
+        match hear_text(self.alloc, text)? {
+            Heard::Command { id } => {
+                if self.is_for_steps(text)? {
+                    return Ok(is_first);
+                }
+                put_response(out, is_first, id);
+                Ok(false)
+            }
+            Heard::Answer { .. } | Heard::Provisional { .. } | Heard::Nothing => Ok(is_first),
+        }
+    }
+
     /// Puts the responses to the commands of a datagram that the gateway says by itself, but to those that steps answer: a gateway that
     /// announces itself waits for one.
-    pub fn put_responses(&self, out: &mut String, datagram: &[u8]) -> Result<(), OutOfMemory> {
+    #[tactic(auto, unfolding(crate::specs::Responding::responses_from))]
+    pub fn put_responses(&self, out: &mut String, datagram: &[u8]) -> Result<(), OutOfMemory>
+        ensures { OnOk result (string_bytes out.new ≡ string_bytes out.old
+            ++ utf8_lossy (responses_from self.now (string_len out.old == 0) (parts_of datagram.now))) }
+    {
         let mut responses = Draft::new(self.alloc);
         let mut is_first = out.is_empty();
         for text in parts(datagram) {
-            if let Heard::Command { id } = hear_text(self.alloc, text)? {
-                if !self.is_for_steps(text)? {
-                    put_response(&mut responses, is_first, id);
-                    is_first = false;
-                }
-            }
+            is_first = self.put_response_to(&mut responses, is_first, text)?;
         }
         append(responses, out)
     }

@@ -1,6 +1,6 @@
 //! Which step of a check is played.
 ghost use Rattle.std.specs.Prelude.{◌≡◌, ◌||◌};
-ghost use Rattle.check_player.specs.Playing.{is_at_end, lines_in, TakesStep};
+ghost use Rattle.check_player.specs.Turning.{is_at_end, lines_in, TakesStep};
 
 use crate::player::Player;
 use check_matching::{Step, first_line, step_of};
@@ -30,7 +30,7 @@ impl<'a> Player<'a> {
     }
 
     // The step that is to be played, if one is left. The first fault ends the check, and what undoes it comes last.
-    #[tactic(auto, unfolding(crate::specs::Playing::TakesStep))]
+    #[tactic(auto, unfolding(crate::specs::Turning::TakesStep))]
     pub(crate) fn next_step(&mut self) -> Option<Step<'a>>
         ensures takes { TakesStep self.old self.new }
         ensures step { self.new.step ≡ result }

@@ -1,5 +1,5 @@
 use Rattle.std.proofs.Common.{refl, inl, inr, arith}
-use Rattle.check_player.proofs.PlayLemmas.{once_more}
+use Rattle.check_player.proofs.TurnLemmas.{once_more}
 use Rattle.check_player.proofs.player.Player.next_turn.Goals as goal
 
 pub loop-init : goal.loop-init
@@ -12,4 +12,4 @@ pub returns-in-Some : goal.returns-in-Some
 returns-in-Some c = inl (c.loop.counter, c.loop.self, c.loop.invariant, c.in-Some.ensures)
 
 pub returns : goal.returns
-returns c = inr (c.loop.counter, c.loop.invariant, omega arith)
+returns c = inr (c.loop.counter, c.loop.invariant, omega arith, refl)

@@ -1,4 +1,4 @@
-use Rattle.check_player.specs.Playing.{FurtherTimes}
+use Rattle.check_player.specs.Turning.{FurtherTimes}
 use Rattle.check_player.proofs.player.Player.next_turn.Given as goal
 
 abbrev pub invariant-loop : goal.invariant-loop
