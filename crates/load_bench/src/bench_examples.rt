@@ -12,6 +12,7 @@ ghost use Rattle.load_bench.specs.Asked.{is_due, is_to_be_asked, order_text};
 ghost use Rattle.load_bench.specs.declared.bench.Course.{Course};
 ghost use Rattle.load_bench.specs.declared.stage.Stage.TheVariants as stages;
 ghost use Rattle.load_bench.specs.Due.{behind_start, due_among, due_begun, sooner};
+ghost use Rattle.load_bench.specs.Planning.{due_after};
 ghost use Rattle.load_bench.specs.Success.{success_of, is_success};
 
 /// A signal is heard as what it is, a lamp isn't heard, and the first that is heard counts.
@@ -94,6 +95,13 @@ pub fn what_is_due_has_examples()
     ensures later { sooner 800 (behind_start 500 (Some 350)) ≡ 800 }
     ensures no_more { sooner 800 (behind_start 500 None) ≡ 800 }
     ensures no_line { due_among 3000 [] 800 ≡ 800 }
+    ensures begun { (course : Course) → due_after course.plan.rate course.plan.length course.plan.begun ≡ Some 250 →
+        due_begun (Some 500) 700 course [] ≡ 750 }
+    ensures talks_on { (course : Course) → due_after course.plan.rate course.plan.length course.plan.begun ≡ None →
+        course.settings.hold ≡ 90 → due_begun (Some 500) 700 course (Some (record {
+          called = 1;
+          call = record { stage = stages.Talking; since = 650; why = None };
+        }) ∷ []) ≡ 740 }
     ensures no_call { due_among 3000 (None ∷ []) 800 ≡ 800 }
     ensures talks { due_among 90 (None ∷ Some (record { called = 1; call = record { stage = stages.Talking; since = 700; why = None } }) ∷ []) 800 ≡ 790 }
 {}
