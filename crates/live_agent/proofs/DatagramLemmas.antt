@@ -1,5 +1,5 @@
 -- What a datagram does, text by text and line by line.
-use Rattle.std.proofs.Common.{◌≡◌, ℕ, ◌+◌, ◌<◌, ◌≤◌, suc, Bool, true, false, List, [], ◌∷◌, length, get_or, drop, Option, Some, None, Result, refl, sym, subst, arith}
+use Rattle.std.proofs.Common.{◌≡◌, ⊤, ℕ, ◌+◌, ◌<◌, ◌≤◌, suc, Bool, true, false, List, [], ◌∷◌, length, get_or, drop, Option, Some, None, Result, refl, sym, subst, arith}
 use Rattle.std.proofs.lemmas.List.{drop_more, at_drop_all}
 use Rattle.std.specs.Prelude.{is_some}
 use Rattle.std.specs.declared.net.socket_addr.SocketAddrV4.{SocketAddrV4}
@@ -8,91 +8,94 @@ use Rattle.transmission.specs.Texts.{texts_of}
 use Rattle.switchboard.specs.declared.switchboard.Switchboard.{Switchboard}
 use Rattle.live_agent.specs.declared.wire.Wire.{Wire}
 use Rattle.bad_network.specs.declared.network.BadNetwork.{BadNetwork}
+use Rattle.bad_network.specs.declared.packet.Way.TheVariants.{In}
 use Rattle.surroundings.specs.declared.surroundings.Fault.{Fault}
 use Rattle.live_agent.specs.Datagrams.{DealsIf, HearsBy, HearsOne, HearsTexts, SettlesIf, TakesAll, TakesEach, TakesElse, TakesFound, TakesLooked, TakesNext, TakesOver, TakesReceived}
-use Rattle.live_agent.specs.Sending.{SendsAll, SendsOne, SendsOver, SettlesLines}
-use Rattle.live_agent.specs.Tallying.{CountsOffer}
+use Rattle.live_agent.specs.Handing.{OffersTo}
+use Rattle.live_agent.specs.Sending.{SendsAll, SendsOne}
+use Rattle.live_agent.specs.Settling.{SettlesAll}
 
-module _ {S : Type 0} where
+module _ {S : Type 0} (sends : S → SocketAddrV4 → List ℕ → Result ⊤ Fault → S → Type 0) where
   -- one more text was heard
   pub heard_next : (place : ℕ) (all more : List (List ℕ)) (text : List ℕ) (board heard now : Switchboard) (was sent is : Wire S) → all ≡ text ∷ more
-      → HearsOne place text board was heard sent → HearsTexts place more heard sent now is → HearsTexts place all board was now is
+      → HearsOne sends place text board was heard sent → HearsTexts sends place more heard sent now is → HearsTexts sends place all board was now is
   heard_next place all more text board heard now was sent is steps first rest =
-      subst (λ (texts : List (List ℕ)). HearsTexts place texts board was now is) (sym steps) (heard, sent, first, rest)
+      subst (λ (texts : List (List ℕ)). HearsTexts sends place texts board was now is) (sym steps) (heard, sent, first, rest)
 
   -- none is left
-  pub heard_all : (place : ℕ) (all : List (List ℕ)) (board : Switchboard) (was : Wire S) → all ≡ [] → HearsTexts place all board was board was
+  pub heard_all : (place : ℕ) (all : List (List ℕ)) (board : Switchboard) (was : Wire S) → all ≡ [] → HearsTexts sends place all board was board was
   heard_all place all board was none =
-      subst (λ (texts : List (List ℕ)). HearsTexts place texts board was board was) (sym none) (refl, refl)
+      subst (λ (texts : List (List ℕ)). HearsTexts sends place texts board was board was) (sym none) (refl, refl)
 
   -- whether there was anything
-  pub settled_none : (found : Bool) (board : Switchboard) (was : Wire S) → found ≡ false → SettlesIf found board was board was
-  settled_none found board was none = subst (λ (is_any : Bool). SettlesIf is_any board was board was) (sym none) (refl, refl)
+  pub settled_none : (found : Bool) (board : Switchboard) (was : Wire S) → found ≡ false → SettlesIf sends found board was board was
+  settled_none found board was none = subst (λ (is_any : Bool). SettlesIf sends is_any board was board was) (sym none) (refl, refl)
 
-  pub settled_some : (found : Bool) (board now : Switchboard) (was is : Wire S) → found ≡ true → SettlesLines board now → SendsOver was is
-      → SettlesIf found board was now is
-  settled_some found board now was is some settles over = subst (λ (is_any : Bool). SettlesIf is_any board was now is) (sym some) (settles, over)
+  pub settled_some : (found : Bool) (board now : Switchboard) (was is : Wire S) → found ≡ true → SettlesAll sends board was now is
+      → SettlesIf sends found board was now is
+  settled_some found board now was is some settles = subst (λ (is_any : Bool). SettlesIf sends is_any board was now is) (sym some) settles
 
   -- whether its agent went on
   pub dealt_none : (went_on : Bool) (place : ℕ) (bytes : List ℕ) (board : Switchboard) (was : Wire S) → went_on ≡ false
-      → DealsIf went_on place bytes board was board was
-  dealt_none went_on place bytes board was refused = subst (λ (is_on : Bool). DealsIf is_on place bytes board was board was) (sym refused) (refl, refl)
+      → DealsIf sends went_on place bytes board was board was
+  dealt_none went_on place bytes board was refused = subst (λ (is_on : Bool). DealsIf sends is_on place bytes board was board was) (sym refused) (refl, refl)
 
   pub dealt_with : (went_on : Bool) (place : ℕ) (bytes : List ℕ) (board dealt now : Switchboard) (was told is : Wire S) → went_on ≡ true
-      → HearsTexts place (texts_of bytes) board was dealt told → TakesAll place dealt told now is → DealsIf went_on place bytes board was now is
+      → HearsTexts sends place (texts_of bytes) board was dealt told → TakesAll sends place dealt told now is → DealsIf sends went_on place bytes board was now is
   dealt_with went_on place bytes board dealt now was told is went hears takes =
-      subst (λ (is_on : Bool). DealsIf is_on place bytes board was now is) (sym went) (dealt, told, hears, takes)
+      subst (λ (is_on : Bool). DealsIf sends is_on place bytes board was now is) (sym went) (dealt, told, hears, takes)
 
   -- whose it is
   pub heard_by : (place : Option ℕ) (found : Option ℕ) (source : SocketAddrV4) (bytes : List ℕ) (board now : Switchboard) (was is : Wire S) → place ≡ found
-      → HearsBy place source bytes board was now is → HearsBy found source bytes board was now is
+      → HearsBy sends place source bytes board was now is → HearsBy sends found source bytes board was now is
   heard_by place found source bytes board now was is same hears =
-      subst (λ (one : Option ℕ). HearsBy one source bytes board was now is) same hears
+      subst (λ (one : Option ℕ). HearsBy sends one source bytes board was now is) same hears
 
   -- one more datagram of these is sent
   pub sends_next : (is_repeat : Bool) (datagrams : List OutDatagram) (place : ℕ) (datagram : OutDatagram) (was sent is : Wire S) → place < length datagrams
-      → datagram ≡ get_or datagrams place datagram → SendsOne is_repeat was sent
-      → SendsAll is_repeat (drop (place + 1) datagrams) sent is → SendsAll is_repeat (drop place datagrams) was is
+      → datagram ≡ get_or datagrams place datagram → SendsOne sends is_repeat datagram.to datagram.bytes was sent
+      → SendsAll sends is_repeat (drop (place + 1) datagrams) sent is → SendsAll sends is_repeat (drop place datagrams) was is
   sends_next is_repeat datagrams place datagram was sent is within item first rest =
-      subst (λ (left : List OutDatagram). SendsAll is_repeat left was is) (sym (drop_more datagrams place datagram within)) (sent, first, rest)
+      subst (λ (left : List OutDatagram). SendsAll sends is_repeat left was is) (sym (drop_more datagrams place datagram within)) (sent, first, rest)
 
   pub sends_none : (is_repeat : Bool) (datagrams : List OutDatagram) (place : ℕ) (was : Wire S) → length datagrams ≤ place
-      → SendsAll is_repeat (drop place datagrams) was was
+      → SendsAll sends is_repeat (drop place datagrams) was was
   sends_none is_repeat datagrams place was past =
-      subst (λ (left : List OutDatagram). SendsAll is_repeat left was was)
+      subst (λ (left : List OutDatagram). SendsAll sends is_repeat left was was)
       (sym (at_drop_all (λ (left : List OutDatagram). left) datagrams place past)) refl
 
   -- what one line more told is taken
   takes_by : (place index next : ℕ) (board taken now : Switchboard) (was sent is : Wire S) → next ≡ suc index
-      → TakesEach place index board was taken sent → TakesNext place index taken sent now is → TakesEach place next board was now is
+      → TakesEach sends place index board was taken sent → TakesNext sends place index taken sent now is → TakesEach sends place next board was now is
   takes_by place index next board taken now was sent is one_more before line =
-      subst (λ (count : ℕ). TakesEach place count board was now is) (sym one_more) (taken, sent, before, line)
+      subst (λ (count : ℕ). TakesEach sends place count board was now is) (sym one_more) (taken, sent, before, line)
 
   pub takes_more : (place index : ℕ) (board taken now : Switchboard) (was sent is : Wire S)
-      → TakesEach place index board was taken sent → TakesNext place index taken sent now is → TakesEach place (index + 1) board was now is
+      → TakesEach sends place index board was taken sent → TakesNext sends place index taken sent now is → TakesEach sends place (index + 1) board was now is
   takes_more place index board taken now was sent is before line =
       takes_by place index (index + 1) board taken now was sent is (omega arith) before line
 
   -- the network that spoils it is offered it
   pub offered_to : (network : Option BadNetwork) (found : Bool) (source : SocketAddrV4) (bytes : List ℕ) (board now : Switchboard) (was offered is : Wire S)
-      → is_some network ≡ true → CountsOffer network was.journal.value.tally offered.journal.value.tally
-      → offered ≡ record was { network = offered.network; journal = offered.journal } → TakesOver found board offered now is
-      → TakesReceived network source bytes board was now is
+      → is_some network ≡ true
+      → OffersTo In source bytes was.now.clock network offered.network was.journal.value.tally offered.journal.value.tally
+      → offered ≡ record was { network = offered.network; journal = offered.journal } → TakesOver sends found board offered now is
+      → TakesReceived sends network source bytes board was now is
   offered_to None found source bytes board now was offered is some counts rest takes = absurd cc
   offered_to (Some network) found source bytes board now was offered is some counts rest takes = (found, offered, counts, rest, takes)
 
   -- what was looked for
   pub found_so : (found heard : Option (SocketAddrV4 × ℕ)) (room : List ℕ) (board now : Switchboard) (was is : Wire S) → found ≡ heard
-      → TakesFound found room board was now is → TakesFound heard room board was now is
+      → TakesFound sends found room board was now is → TakesFound sends heard room board was now is
   found_so found heard room board now was is same takes =
-      subst (λ (one : Option (SocketAddrV4 × ℕ)). TakesFound one room board was now is) same takes
+      subst (λ (one : Option (SocketAddrV4 × ℕ)). TakesFound sends one room board was now is) same takes
 
-module _ {S : Type 0} (receives : S → Result (Option (SocketAddrV4 × ℕ)) Fault → List ℕ → S → Type 0) where
+module _ {S : Type 0} (sends : S → SocketAddrV4 → List ℕ → Result ⊤ Fault → S → Type 0) (receives : S → Result (Option (SocketAddrV4 × ℕ)) Fault → List ℕ → S → Type 0) where
   -- the network handed one over, or none
-  pub handed_so : (found : Bool) (board : Switchboard) (was : Wire S) → found ≡ true → TakesElse receives found board was board was
-  handed_so found board was so = subst (λ (is_any : Bool). TakesElse receives is_any board was board was) (sym so) (refl, refl)
+  pub handed_so : (found : Bool) (board : Switchboard) (was : Wire S) → found ≡ true → TakesElse sends receives found board was board was
+  handed_so found board was so = subst (λ (is_any : Bool). TakesElse sends receives is_any board was board was) (sym so) (refl, refl)
 
-  pub looked_so : (found : Bool) (board now : Switchboard) (was is : Wire S) → found ≡ false → TakesLooked receives board was now is
-      → TakesElse receives found board was now is
+  pub looked_so : (found : Bool) (board now : Switchboard) (was is : Wire S) → found ≡ false → TakesLooked sends receives board was now is
+      → TakesElse sends receives found board was now is
   looked_so found board now was is none looked =
-      subst (λ (is_any : Bool). TakesElse receives is_any board was now is) (sym none) looked
+      subst (λ (is_any : Bool). TakesElse sends receives is_any board was now is) (sym none) looked

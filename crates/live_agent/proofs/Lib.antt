@@ -1,5 +1,9 @@
 pub mod TallyingLemmas
 pub mod TypingLemmas
 pub mod SendingLemmas
+pub mod HandingLemmas
+pub mod SettlingLemmas
+pub mod TickingLemmas
+pub mod ServingLemmas
 pub mod DatagramLemmas
 pub mod TypedCommandLemmas

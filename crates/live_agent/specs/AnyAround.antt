@@ -7,6 +7,9 @@ use Rattle.surroundings.specs.declared.surroundings.Fault.{Fault}
 abbrev pub no_sockets : ℕ → List SocketAddrV4
 no_sockets around = []
 
+abbrev pub sends_any : ℕ → SocketAddrV4 → List ℕ → Result ⊤ Fault → ℕ → Type 0
+sends_any around to bytes outcome after = ⊤
+
 abbrev pub receives_any : ℕ → Result (Option (SocketAddrV4 × ℕ)) Fault → List ℕ → ℕ → Type 0
 receives_any around outcome room after = ⊤
 

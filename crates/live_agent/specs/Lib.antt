@@ -4,6 +4,10 @@ pub mod Turning
 pub mod AnyAround
 pub mod Ending
 pub mod Tallying
+pub mod Handing
 pub mod Sending
+pub mod Settling
+pub mod Ticking
+pub mod Serving
 pub mod Datagrams
 pub mod TypedCommands

@@ -1,5 +1,5 @@
 -- What counts of what goes over a wire.
-use Rattle.std.specs.Prelude.{◌≡◌, ◌⊎◌, ℕ, ◌==◌, Bool, if◌then◌else◌, Option, Some, None, Result, Ok, Err}
+use Rattle.std.specs.Prelude.{◌≡◌, ◌⊎◌, ⊤, ℕ, ◌==◌, Bool, if◌then◌else◌, Option, Some, None, Result, Ok, Err}
 use Rattle.std.specs.declared.net.socket_addr.SocketAddrV4.{SocketAddrV4}
 use Rattle.agent_texts.specs.declared.tally.Tally.{Tally}
 use Rattle.agent_texts.specs.Counts.{one_more, with_handed_out}
@@ -38,6 +38,11 @@ CountsOffer (Some network) was is =
 -- a datagram is put onto the machine's network: it leaves, or doesn't
 abbrev pub CountsLeaving : Tally → Tally → Type 0
 CountsLeaving was is = (is ≡ was) ⊎ (is ≡ with_send_fault was)
+
+-- one that was handed to it counts where it doesn't leave
+abbrev pub leaving_counted : Result ⊤ Fault → Tally → Tally
+leaving_counted (Ok sent) tally = tally
+leaving_counted (Err fault) tally = with_send_fault tally
 
 -- a datagram is sent, again or for the first time: it counts once, and what becomes of it
 abbrev pub CountsSent : Bool → Option BadNetwork → Tally → Tally → Type 0

@@ -1,5 +1,5 @@
 -- What a turn does at a board and over a wire: of what is typed, and of a datagram; of the other turns what stays as it was.
-use Rattle.std.specs.Prelude.{◌≡◌, ◌⊎◌, ◌↔◌, ℕ, Bool, if◌then◌else◌, codes, List, [], ◌∷◌, Option, Some, None, Result, IsTrue, IsSomeAnd}
+use Rattle.std.specs.Prelude.{◌≡◌, ◌⊎◌, ◌↔◌, ⊤, ℕ, Bool, if◌then◌else◌, codes, List, [], ◌∷◌, Option, Some, None, is_some, Result, IsTrue, IsSomeAnd}
 use Rattle.std.specs.Global.{Box}
 use Rattle.std.specs.Net.Addr.{IsLoopbackV4, IsLoopbackV6, MatchIp}
 use Rattle.std.specs.Net.Socket.{socket_ip}
@@ -27,7 +27,10 @@ use Rattle.live_agent.specs.declared.wire.Wire.{Wire}
 use Rattle.live_agent.specs.Ending.{counted_in}
 use Rattle.live_agent.specs.Clock.{is_behind}
 use Rattle.live_agent.specs.Datagrams.{TakesDatagram}
-use Rattle.live_agent.specs.Sending.{SendsOver, SettlesLines}
+use Rattle.live_agent.specs.Sending.{SettlesLines}
+use Rattle.live_agent.specs.Settling.{SettlesAll}
+use Rattle.live_agent.specs.Tallying.{with_receive_fault}
+use Rattle.live_agent.specs.Ticking.{TicksAll}
 use Rattle.live_agent.specs.TypedCommands.{DoesCommand}
 use Rattle.live_agent.specs.Wiring.{with_read, IsSituation}
 
@@ -68,20 +71,23 @@ abbrev pub TellsCounts : Journal → List ℕ → Type 0
 TellsCounts journal text = (text ≡ counted_in journal) ⊎ (text ≡ codes "! 1 OutOfMemory\n")
 
 -- But for a command that was typed the board stays as it was. The end has come where that was asked for.
-abbrev pub DoesRequest : {S : Type 0} → (S → SocketAddr → List ℕ → S → Type 0) → Request → Switchboard → Switchboard → Wire S → Wire S → Type 0
-DoesRequest answers Nothing board now was is = (now ≡ board) × (is ≡ was)
-DoesRequest answers Counts board now was is =
+abbrev pub DoesRequest : {S : Type 0} → (S → SocketAddrV4 → List ℕ → Result ⊤ Fault → S → Type 0) → (S → SocketAddr → List ℕ → S → Type 0) → Request
+    → Switchboard → Switchboard → Wire S → Wire S → Type 0
+DoesRequest sends answers Nothing board now was is = (now ≡ board) × (is ≡ was)
+DoesRequest sends answers Counts board now was is =
     (now ≡ board) × ((text : List ℕ) × TellsCounts was.journal.value text × AnswersWith answers text was is)
-DoesRequest {S} answers Stop board now was is =
+DoesRequest {S} sends answers Stop board now was is =
     (now ≡ board) × ((answered : Wire S) × AnswersWith answers (codes "done\n") was answered × (is ≡ record answered { end = Some 0 }))
-DoesRequest answers StopFromAfar board now was is =
+DoesRequest sends answers StopFromAfar board now was is =
     (now ≡ board) × AnswersWith answers (codes "! stop is taken from a loopback address alone, 127.0.0.0/8\n") was is
-DoesRequest answers Command board now was is = DoesCommand answers board now was is
+DoesRequest sends answers Command board now was is = DoesCommand sends answers board now was is
 
-pub record AnswersFirst {S : Type 0} (answers : S → SocketAddr → List ℕ → S → Type 0) (board now : Switchboard) (was is : Wire S) : Type 0 where
+pub record AnswersFirst {S : Type 0} (sends : S → SocketAddrV4 → List ℕ → Result ⊤ Fault → S → Type 0) (answers : S → SocketAddr → List ℕ → S → Type 0)
+    (board now : Switchboard) (was is : Wire S)
+    : Type 0 where
   pub request : Request
   pub asks : AsksFirst was.lines request
-  pub does : DoesRequest answers request board now was is
+  pub does : DoesRequest sends answers request board now was is
 
 -- a datagram of lines is taken, where none is left; nothing else of the wire has changed
 abbrev pub HearsTyped :
@@ -90,60 +96,103 @@ HearsTyped sockets hears was is =
     (taken : Bool) × Hears sockets hears was.around was.lines taken is.around is.lines × (is.read ≡ with_read taken was.read)
     × (is ≡ record was { around = is.around; lines = is.lines; read = is.read })
 
+-- where a load is over the end has come
+abbrev pub end_of : Bool → Option ℕ → Option ℕ
+end_of is_over end = if is_over then Some 0 else end
+
+-- A datagram of telephones is taken, if one has come: what is around the wire may have changed by that, and the load, which may be over.
+pub record HearsTelephones {S : Type 0} (was is : Wire S) : Type 0 where
+  pub reads : (taken : Bool) × (is.read ≡ with_read taken was.read)
+  pub ends : (is_over : Bool) × (is.end ≡ end_of is_over was.end)
+  pub rest : is ≡ record was { around = is.around; read = is.read; end = is.end; load = is.load }
+
 -- where a load is made, its telephones are heard, and the board stays as it was; else the line that is answered next is answered
 abbrev pub TakesTyped :
-    {S : Type 0} → (S → List SocketAddrV4) → (S → Option (SocketAddr × ℕ) → List ℕ → S → Type 0)
+    {S : Type 0} → (S → List SocketAddrV4) → (S → SocketAddrV4 → List ℕ → Result ⊤ Fault → S → Type 0)
+    → (S → Option (SocketAddr × ℕ) → List ℕ → S → Type 0)
     → (S → SocketAddr → List ℕ → S → Type 0) → Option (Box Load) → Switchboard → Switchboard → Wire S → Wire S → Type 0
-TakesTyped sockets hears answers (Some load) board now was is = now ≡ board
-TakesTyped {S} sockets hears answers None board now was is =
-    (heard : Wire S) × HearsTyped sockets hears was heard × AnswersFirst answers board now heard is
+TakesTyped sockets sends hears answers (Some load) board now was is = (now ≡ board) × HearsTelephones was is
+TakesTyped {S} sockets sends hears answers None board now was is =
+    (heard : Wire S) × HearsTyped sockets hears was heard × AnswersFirst sends answers board now heard is
 
--- a wait changes what is around a wire, and what failed is counted
+-- a wait changes what is around a wire; that it failed counts, and nothing else of the journal has changed
 abbrev pub Waits : {S : Type 0} → Wire S → Wire S → Type 0
-Waits was is = is ≡ record was { around = is.around; journal = is.journal }
+Waits was is =
+    ((is.journal.value.tally ≡ was.journal.value.tally) ⊎ (is.journal.value.tally ≡ with_receive_fault was.journal.value.tally))
+    × (is.journal.value ≡ record was.journal.value { tally = is.journal.value.tally })
+    × (is ≡ record was { around = is.around; journal = is.journal })
 
--- The clock goes on to this moment, and what falls due is sent; whether it is behind is known anew. What was typed stays, and what was read.
-abbrev pub TickedOver : {S : Type 0} → ℕ → Wire S → Wire S → Type 0
-TickedOver moment was is =
-    is ≡ record was {
+-- a pause is noted in the log, and nowhere else
+abbrev pub Notes : {S : Type 0} → Wire S → Wire S → Type 0
+Notes was is =
+    (is.journal.value ≡ record was.journal.value { log = is.journal.value.log }) × (is ≡ record was { journal = is.journal })
+
+-- Where it is this moment the clock goes on to one, and what falls due is sent; whether it is behind is known by that. What was typed stays,
+-- and what was read, and whether a load is made.
+abbrev pub TickedOver : {S : Type 0} → ℕ → ℕ → Wire S → Wire S → Type 0
+TickedOver moment to was is =
+    (is_some is.load ≡ is_some was.load) × (is ≡ record was {
       around = is.around;
       network = is.network;
       journal = is.journal;
       load = is.load;
-      now = record was.now { clock = moment };
-      is_behind = is.is_behind;
-    }
+      now = record was.now { clock = to };
+      is_behind = is_behind moment to;
+    })
 
--- what is due of a load is done besides; where that is over the end has come
-abbrev pub TicksOver : {S : Type 0} → ℕ → Wire S → Wire S → Type 0
-TicksOver moment was is =
-    ((is.end ≡ was.end) ⊎ (is.end ≡ Some 0)) × (is ≡ record was {
+-- where a load is made and is over the end has come
+abbrev pub EndsBy : Option (Box Load) → Option ℕ → Option ℕ → Type 0
+EndsBy None was is = is ≡ was
+EndsBy (Some load) was is = (is ≡ was) ⊎ (is ≡ Some 0)
+
+-- what is due of it is done, and it is logged how far it is
+abbrev pub PassesLoad : {S : Type 0} → Option (Box Load) → Wire S → Wire S → Type 0
+PassesLoad None was is = is ≡ was
+PassesLoad (Some load) was is =
+    EndsBy (Some load) was.end is.end × (is ≡ record was { around = is.around; journal = is.journal; load = is.load; end = is.end })
+
+-- behind a tick
+abbrev pub TicksOver : {S : Type 0} → ℕ → ℕ → Wire S → Wire S → Type 0
+TicksOver moment to was is =
+    EndsBy was.load was.end is.end × (is ≡ record was {
       around = is.around;
       network = is.network;
       journal = is.journal;
       load = is.load;
-      now = record was.now { clock = moment };
-      is_behind = is.is_behind;
+      now = record was.now { clock = to };
+      is_behind = is_behind moment to;
       end = is.end;
     })
 
--- What a turn of a kind does: a tick, a command that was typed and a datagram alone change the board. A pause is noted in the journal.
+-- all that it does: what the agents' clocks do, what is given up and what was put off; then what is due of a load
+pub record DoesTick {S : Type 0} (sends : S → SocketAddrV4 → List ℕ → Result ⊤ Fault → S → Type 0) (moment to : ℕ) (board now : Switchboard) (was is : Wire S)
+    : Type 0 where
+  pub ticked : Wire S
+  pub ticks : TicksAll sends moment to board was now ticked
+  pub passes : PassesLoad ticked.load ticked is
+  pub lines : SettlesLines board now
+  pub over : TicksOver moment to was is
+
+-- What a turn of a kind does, where it is this moment: a tick, a command that was typed and a datagram alone change the board.
 abbrev pub DoesTurn :
-    {S : Type 0} → (S → List SocketAddrV4) → (S → Result (Option (SocketAddrV4 × ℕ)) Fault → List ℕ → S → Type 0)
+    {S : Type 0} → (S → List SocketAddrV4) → (S → SocketAddrV4 → List ℕ → Result ⊤ Fault → S → Type 0)
+    → (S → Result (Option (SocketAddrV4 × ℕ)) Fault → List ℕ → S → Type 0)
     → (S → Option (SocketAddr × ℕ) → List ℕ → S → Type 0)
-    → (S → SocketAddr → List ℕ → S → Type 0) → Turn → Switchboard → Switchboard → Wire S → Wire S → Type 0
-DoesTurn sockets receives hears answers turns.End board now was is = (now ≡ board) × (is ≡ was)
-DoesTurn sockets receives hears answers turns.Look board now was is = (now ≡ board) × Waits was is
-DoesTurn sockets receives hears answers (turns.Wait until) board now was is = (now ≡ board) × Waits was is
-DoesTurn sockets receives hears answers (turns.Tick moment) board now was is = SettlesLines board now × TicksOver moment was is
-DoesTurn sockets receives hears answers turns.Command board now was is = TakesTyped sockets hears answers was.load board now was is
-DoesTurn sockets receives hears answers turns.Datagram board now was is = TakesDatagram receives board was now is
-DoesTurn sockets receives hears answers turns.Visit board now was is = (now ≡ board) × (is ≡ was)
-DoesTurn sockets receives hears answers (turns.Note pause) board now was is = (now ≡ board) × (is ≡ record was { journal = is.journal })
+    → (S → SocketAddr → List ℕ → S → Type 0) → ℕ → Turn → Switchboard → Switchboard → Wire S → Wire S → Type 0
+DoesTurn sockets sends receives hears answers moment turns.End board now was is = (now ≡ board) × (is ≡ was)
+DoesTurn sockets sends receives hears answers moment turns.Look board now was is = (now ≡ board) × Waits was is
+DoesTurn sockets sends receives hears answers moment (turns.Wait until) board now was is = (now ≡ board) × Waits was is
+DoesTurn sockets sends receives hears answers moment (turns.Tick to) board now was is = DoesTick sends moment to board now was is
+DoesTurn sockets sends receives hears answers moment turns.Command board now was is =
+    TakesTyped sockets sends hears answers was.load board now was is
+DoesTurn sockets sends receives hears answers moment turns.Datagram board now was is = TakesDatagram sends receives board was now is
+DoesTurn sockets sends receives hears answers moment turns.Visit board now was is = (now ≡ board) × (is ≡ was)
+DoesTurn sockets sends receives hears answers moment (turns.Note pause) board now was is = (now ≡ board) × Notes was is
 
 -- what comes next by a schedule, as things stand, is done, once lines are settled
 pub record DoesNext {S : Type 0}
-    (sockets : S → List SocketAddrV4) (passes : S → Result ℕ Fault → Type 0) (tells : S → Told → Type 0)
+    (sockets : S → List SocketAddrV4) (sends : S → SocketAddrV4 → List ℕ → Result ⊤ Fault → S → Type 0)
+    (passes : S → Result ℕ Fault → Type 0) (tells : S → Told → Type 0)
     (receives : S → Result (Option (SocketAddrV4 × ℕ)) Fault → List ℕ → S → Type 0)
     (hears : S → Option (SocketAddr × ℕ) → List ℕ → S → Type 0) (answers : S → SocketAddr → List ℕ → S → Type 0)
     (board now : Switchboard) (was is : Wire S) (schedule : Schedule)
@@ -154,6 +203,5 @@ pub record DoesNext {S : Type 0}
   pub sent : Wire S
   pub situation : IsSituation passes tells board was at
   pub begins : begun ≡ record was { now = record was.now { time = begun.now.time }; is_behind = is_behind at.moment at.ticked }
-  pub settles : SettlesLines board settled
-  pub over : SendsOver begun sent
-  pub does : DoesTurn sockets receives hears answers (next_of schedule at).0 settled now sent is
+  pub settles : SettlesAll sends board begun settled sent
+  pub does : DoesTurn sockets sends receives hears answers at.moment (next_of schedule at).0 settled now sent is

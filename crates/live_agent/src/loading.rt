@@ -1,6 +1,7 @@
 //! Makes a load: calls at a rate between the telephones of gateways, which another call agent serves, or this program's own exchange.
 ghost use Rattle.std.specs.Prelude.{◌≡◌, ◌⊎◌, false, is_some, Some};
-ghost use Rattle.live_agent.specs.Wiring.{due_of, FallsDueOver};
+ghost use Rattle.live_agent.specs.Turning.{end_of, HearsTelephones};
+ghost use Rattle.live_agent.specs.Wiring.{due_of, with_read, FallsDueOver};
 
 use crate::recorder::Recorder;
 use crate::serving::{MICROSECONDS, WireSettings, open_wire, serve_config};
@@ -46,7 +47,9 @@ pub(crate) fn count_sent(
     to: SocketAddrV4,
     bytes: &[u8],
     is_repeat: bool,
-) {
+)
+    ensures { is_some load.new ≡ is_some load.old }
+{
     if let Some(load) = load {
         let load = &mut **load;
         load.bench.sent(to, bytes, is_repeat, time / MICROSECONDS);
@@ -59,7 +62,9 @@ pub(crate) fn count_came(
     time: u64,
     source: SocketAddrV4,
     bytes: &[u8],
-) {
+)
+    ensures { is_some load.new ≡ is_some load.old }
+{
     if let Some(load) = load {
         let load = &mut **load;
         load.bench.came(source, bytes, time / MICROSECONDS);
@@ -106,6 +111,20 @@ fn hear<S: Surroundings>(alloc: Global, around: &mut S, load: &mut Load, moment:
     true
 }
 
+// So many datagrams were read, where one more was, or none.
+fn with_read(taken: bool, read: u64) -> u64
+    ensures { result ≡ with_read taken read }
+{
+    if taken { read.saturating_add(1) } else { read }
+}
+
+// The moment at which it ends, where a load is over or goes on.
+fn end_of(is_over: bool, end: Option<u64>) -> Option<u64>
+    ensures { result ≡ end_of is_over end }
+{
+    if is_over { Some(0) } else { end }
+}
+
 // A load is over, at this moment of the clock by which commands are counted, in ms: telephones are to tell nothing more.
 fn end<S: Surroundings>(alloc: Global, around: &mut S, load: &mut Load, now: u64) {
     load.bench.end(now);
@@ -126,7 +145,7 @@ fn report(load: &mut Load, out: &mut Vec<u8>, file: &str, agent: &str) -> LoadEn
 impl<S: Surroundings + Drop> Wire<S> {
     /// The moment at which something is to be done though nothing comes, in ms, where it is now this one.
     pub(crate) fn due(&self, moment: u64) -> Option<u64>
-        ensures { FallsDueOver self.entry.now.load (due_of self.entry.now.network) result }
+        ensures { FallsDueOver moment self.entry.now.load (due_of self.entry.now.network) result }
     {
         match &self.load {
             Some(load) => earlier(self.network_due(), Some(load.bench.due(moment))),
@@ -136,6 +155,7 @@ impl<S: Surroundings + Drop> Wire<S> {
 
     /// It is this moment, in ms: what is due of a load is done, where one is made, and it is logged how far it is.
     pub(crate) fn pass_load(&mut self, alloc: Global, moment: u64)
+        ensures none { is_some self.old.load ≡ false → self.new ≡ self.old }
         ensures ends { (self.new.end ≡ self.old.end) ⊎ (self.new.end ≡ Some 0) }
         ensures rest { self.new ≡ record self.old { around = self.new.around; journal = self.new.journal; load = self.new.load; end = self.new.end } }
     {
@@ -153,17 +173,15 @@ impl<S: Surroundings + Drop> Wire<S> {
     pub(crate) fn hear_telephones(&mut self, alloc: Global, moment: u64) -> bool
         ensures made { result ≡ is_some self.old.load }
         ensures none { result ≡ false → self.new ≡ self.old }
+        ensures heard { result ≡ true → HearsTelephones self.old self.new }
     {
         let Some(load) = &mut self.load else {
             return false;
         };
         let load = &mut **load;
-        if hear(alloc, &mut self.around, load, moment) {
-            self.read = self.read.saturating_add(1);
-        }
-        if load.bench.is_over(moment) {
-            self.end = Some(0);
-        }
+        let taken = hear(alloc, &mut self.around, load, moment);
+        self.read = with_read(taken, self.read);
+        self.end = end_of(load.bench.is_over(moment), self.end);
         true
     }
 

@@ -2,20 +2,23 @@
 ghost use Rattle.std.specs.Prelude.{◌≡◌, ◌||◌, ℕ, [], true, false, List, Option, Err, IfOk, IfErr};
 ghost use Rattle.live_agent.specs.Clock.{is_behind};
 ghost use Rattle.live_agent.specs.Datagrams.{HearsAt, HearsDatagram, HearsTexts, TakesAll, TakesDatagram, TakesEach, TakesNext, TakesOver, TakesReceived};
-ghost use Rattle.live_agent.specs.Sending.{SendsOutputs, SendsOver, SettlesLines};
-ghost use Rattle.live_agent.specs.Tallying.{with_command, CountsSent};
+ghost use Rattle.live_agent.specs.Handing.{HandsTo};
+ghost use Rattle.live_agent.specs.Sending.{SendsCommand, SendsOutputs};
+ghost use Rattle.live_agent.specs.Settling.{SendsEach, SendsIssued, SendsNext, SettlesAll, ShowsEach, ShowsOne};
+ghost use Rattle.live_agent.specs.Ticking.{GivesUpAll, GivesUpEach, GivesUpNext, TicksAll, TicksEach, TicksOne, WakesAll, WakesEach, WakesNext};
+ghost use Rattle.live_agent.specs.Serving.{Runs, Serves, TurnsOnce, Writes};
 ghost use Rattle.transmission.specs.Texts.{texts_of};
-ghost use Rattle.live_agent.specs.Turning.{TickedOver, stop_request, line_request, AsksFirst, AnswersWith, TellsCounts, DoesRequest, AnswersFirst, TakesTyped, DoesTurn, DoesNext};
+ghost use Rattle.live_agent.specs.Turning.{stop_request, line_request, AsksFirst, AnswersWith, TellsCounts, DoesRequest, AnswersFirst, TakesTyped, DoesTurn, DoesNext};
 ghost use Rattle.live_agent.specs.TypedCommands.{fault_text, issued_text, AnswersCommand, DoesCommand, IsTypedNext};
 ghost use Rattle.surroundings.specs.Typing.{left_of};
 ghost use Rattle.live_agent.specs.Wiring.{due_of, ms_until, longest_until, IsSituation, IsWaitedFor, FallsDueFirst, AsksNext};
 
 use crate::loading::count_came;
 use crate::recorder::Recorder;
-use crate::wire::Wire;
+use crate::wire::{MOST_AT_ONCE, Wire};
 use agent_texts::count;
 use bad_network::Way;
-use call_agent::Issued;
+use call_agent::{IssueFault, Issued};
 use live_outlets::{DONE, NO_MEMORY, STOP_FROM_AFAR};
 use mg_bytes::{OutOfMemory, put_decimal};
 use plain_machine::{Outputs, Refusal};
@@ -37,8 +40,7 @@ const ISSUED_ROOM: usize = 17;
 
 // A command was issued.
 fn send_issued<S: Surroundings + Drop>(wire: &mut Wire<S>, issued: &Issued)
-    ensures tally { CountsSent false wire.old.network (with_command wire.old.journal.value.tally) wire.new.journal.value.tally }
-    ensures over { SendsOver wire.old wire.new }
+    ensures { SendsCommand (HandsTo S.sends S.traffic) issued.now.datagram wire.old wire.new }
 {
     count(&mut wire.journal.tally.commands);
     wire.send(issued.datagram.to, issued.datagram.bytes.as_bytes(), false);
@@ -51,36 +53,65 @@ fn is_behind(moment: u64, ticked: u64) -> bool
     LONGEST_LAG < moment.saturating_sub(ticked)
 }
 
-// Sends the line that is settled so many behind the first what it is to be sent.
-fn send_next<S: Surroundings + Drop>(board: &mut Switchboard, wire: &mut Wire<S>, index: usize)
-    ensures settles { SettlesLines board.old board.new }
-    ensures over { SendsOver wire.old wire.new }
+// Tells how the line stands that is settled so many behind the first, where that has changed.
+fn show_next<S: Surroundings + Drop>(board: &mut Switchboard, wire: &mut Wire<S>, index: usize)
+    ensures { ShowsOne index board.old wire.old board.new wire.new }
 {
-    match board.issue_next(index) {
+    board.show(&mut wire.journal, index);
+}
+
+// So it does of so many lines, one behind another.
+fn show_each<S: Surroundings + Drop>(board: &mut Switchboard, wire: &mut Wire<S>, lines: usize)
+    ensures { ShowsEach lines board.old wire.old board.new wire.new }
+{
+    for index in 0..lines {
+        show_next(board, wire, index);
+    }
+}
+
+// Sends what was issued to a line, if anything was. What couldn't be issued counts.
+fn send_if_issued<S: Surroundings + Drop>(
+    wire: &mut Wire<S>,
+    issued: Result<Option<Issued>, IssueFault>,
+)
+    ensures { SendsIssued (HandsTo S.sends S.traffic) issued wire.old wire.new }
+{
+    match issued {
         Ok(Some(issued)) => send_issued(wire, &issued),
         Ok(None) => {}
         Err(_) => count(&mut wire.journal.tally.refused),
     }
 }
 
+// Sends the line that is settled so many behind the first what it is to be sent.
+fn send_next<S: Surroundings + Drop>(board: &mut Switchboard, wire: &mut Wire<S>, index: usize)
+    ensures { SendsNext (HandsTo S.sends S.traffic) index board.old wire.old board.new wire.new }
+{
+    let issued = board.issue_next(index);
+    send_if_issued(wire, issued);
+}
+
+// So it does to so many lines, one behind another.
+fn send_each<S: Surroundings + Drop>(board: &mut Switchboard, wire: &mut Wire<S>, lines: usize)
+    ensures { SendsEach (HandsTo S.sends S.traffic) lines board.old wire.old board.new wire.new }
+{
+    for index in 0..lines {
+        send_next(board, wire, index);
+    }
+}
+
 // Tells how the lines to which something has happened stand, and sends them what they are to be sent. Where the clock is behind they go
 // on waiting.
 fn settle<S: Surroundings + Drop>(board: &mut Switchboard, wire: &mut Wire<S>)
-    ensures settles { SettlesLines board.old board.new }
-    ensures over { SendsOver wire.old wire.new }
-    ensures waits { wire.old.is_behind ≡ true → (board.new ≡ board.old) × (wire.new ≡ wire.old) }
+    ensures { SettlesAll (HandsTo S.sends S.traffic) board.old wire.old board.new wire.new }
 {
     if wire.is_behind {
         return;
     }
     board.begin_settling();
     let lines = board.settling();
-    for index in 0..lines {
-        board.show(&mut wire.journal, index);
-    }
-    for index in 0..lines {
-        send_next(board, wire, index);
-    }
+    show_each(board, wire, lines);
+    send_each(board, wire, lines);
 }
 
 // Sends what an agent says, for the first time or again: whether it went on.
@@ -89,7 +120,7 @@ fn send_outputs<S: Surroundings + Drop>(
     outputs: Result<Outputs, Refusal>,
     is_repeat: bool,
 ) -> bool
-    ensures { SendsOutputs is_repeat outputs result wire.old wire.new }
+    ensures { SendsOutputs (HandsTo S.sends S.traffic) is_repeat outputs result wire.old wire.new }
 {
     match outputs {
         Ok(outputs) => {
@@ -110,7 +141,7 @@ fn deal_with<S: Surroundings + Drop>(
     place: usize,
     bytes: &[u8],
 )
-    ensures { HearsTexts place (texts_of bytes.now) board.old wire.old board.new wire.new }
+    ensures { HearsTexts (HandsTo S.sends S.traffic) place (texts_of bytes.now) board.old wire.old board.new wire.new }
 {
     let Some(mut rest) = texts(bytes) else {
         return;
@@ -128,7 +159,7 @@ fn take_next<S: Surroundings + Drop>(
     place: usize,
     index: usize,
 )
-    ensures { TakesNext place index board.old wire.old board.new wire.new }
+    ensures { TakesNext (HandsTo S.sends S.traffic) place index board.old wire.old board.new wire.new }
 {
     if !board.take(&mut wire.journal, place, index) {
         return;
@@ -143,7 +174,7 @@ fn take_each<S: Surroundings + Drop>(
     place: usize,
     lines: usize,
 )
-    ensures { TakesEach place lines board.old wire.old board.new wire.new }
+    ensures { TakesEach (HandsTo S.sends S.traffic) place lines board.old wire.old board.new wire.new }
 {
     for index in 0..lines {
         take_next(board, wire, place, index);
@@ -152,7 +183,7 @@ fn take_each<S: Surroundings + Drop>(
 
 // What the lines of a gateway told is taken.
 fn take_told<S: Surroundings + Drop>(board: &mut Switchboard, wire: &mut Wire<S>, place: usize)
-    ensures { TakesAll place board.old wire.old board.new wire.new }
+    ensures { TakesAll (HandsTo S.sends S.traffic) place board.old wire.old board.new wire.new }
 {
     let lines = board.begin_taking(place);
     take_each(board, wire, place, lines);
@@ -166,7 +197,7 @@ fn hear_at<S: Surroundings + Drop>(
     source: SocketAddrV4,
     bytes: &[u8],
 )
-    ensures { HearsAt place source bytes.now board.old wire.old board.new wire.new }
+    ensures { HearsAt (HandsTo S.sends S.traffic) place source bytes.now board.old wire.old board.new wire.new }
 {
     let outputs = board.step(place, source, bytes);
     if !send_outputs(wire, outputs, false) {
@@ -183,7 +214,7 @@ fn hear<S: Surroundings + Drop>(
     source: SocketAddrV4,
     bytes: &[u8],
 )
-    ensures { HearsDatagram source bytes.now board.old wire.old board.new wire.new }
+    ensures { HearsDatagram (HandsTo S.sends S.traffic) source bytes.now board.old wire.old board.new wire.new }
 {
     wire.journal.came(wire.now.time, source, bytes);
     count_came(&mut wire.load, wire.now.time, source, bytes);
@@ -196,7 +227,7 @@ fn hear<S: Surroundings + Drop>(
 
 // Takes the next packet that the bad network hands over, where it does: whether it did.
 fn take_over<S: Surroundings + Drop>(board: &mut Switchboard, wire: &mut Wire<S>) -> bool
-    ensures { TakesOver result board.old wire.old board.new wire.new }
+    ensures { TakesOver (HandsTo S.sends S.traffic) result board.old wire.old board.new wire.new }
 {
     match wire.handed_over() {
         Some(packet) => {
@@ -214,7 +245,7 @@ fn take_received<S: Surroundings + Drop>(
     source: SocketAddrV4,
     bytes: &[u8],
 )
-    ensures { TakesReceived wire.old.network source bytes.now board.old wire.old board.new wire.new }
+    ensures { TakesReceived (HandsTo S.sends S.traffic) wire.old.network source bytes.now board.old wire.old board.new wire.new }
 {
     if wire.offer(Way::In, source, bytes) {
         let _ = take_over(board, wire);
@@ -225,7 +256,7 @@ fn take_received<S: Surroundings + Drop>(
 
 // Takes a datagram, if one is there: of those that the bad network held, or that has come.
 fn take_datagram<S: Surroundings + Drop>(board: &mut Switchboard, wire: &mut Wire<S>)
-    ensures { TakesDatagram S.receives board.old wire.old board.new wire.new }
+    ensures { TakesDatagram (HandsTo S.sends S.traffic) S.receives board.old wire.old board.new wire.new }
 {
     if take_over(board, wire) {
         return;
@@ -270,7 +301,7 @@ fn answer_typed<S: Surroundings + Drop>(
     wire: &mut Wire<S>,
     text: &[u8],
 )
-    ensures { AnswersCommand S.answers text.now board.old board.new wire.old wire.new }
+    ensures { AnswersCommand (HandsTo S.sends S.traffic) S.answers text.now board.old board.new wire.old wire.new }
 {
     let Ok(room) = Vec::with_capacity(alloc, ISSUED_ROOM) else {
         return wire.answer_all(NO_MEMORY);
@@ -359,7 +390,7 @@ fn answer_command<S: Surroundings + Drop>(
     board: &mut Switchboard,
     wire: &mut Wire<S>,
 )
-    ensures { DoesCommand S.answers board.old board.new wire.old wire.new }
+    ensures { DoesCommand (HandsTo S.sends S.traffic) S.answers board.old board.new wire.old wire.new }
 {
     match command_in(alloc, &wire.lines) {
         Ok(text) => answer_typed(alloc, board, wire, text.as_slice()),
@@ -374,7 +405,7 @@ fn do_request<S: Surroundings + Drop>(
     wire: &mut Wire<S>,
     request: Request,
 )
-    ensures { DoesRequest S.answers request board.old board.new wire.old wire.new }
+    ensures { DoesRequest (HandsTo S.sends S.traffic) S.answers request board.old board.new wire.old wire.new }
 {
     match request {
         Request::Nothing => {}
@@ -394,7 +425,7 @@ fn answer_request<S: Surroundings + Drop>(
     board: &mut Switchboard,
     wire: &mut Wire<S>,
 )
-    ensures { AnswersFirst S.answers board.old board.new wire.old wire.new }
+    ensures { AnswersFirst (HandsTo S.sends S.traffic) S.answers board.old board.new wire.old wire.new }
 {
     let request = request_in(&wire.lines);
     do_request(alloc, board, wire, request);
@@ -407,7 +438,7 @@ fn take_line<S: Surroundings + Drop>(
     wire: &mut Wire<S>,
     moment: u64,
 )
-    ensures { TakesTyped S.sockets S.hears S.answers wire.old.load board.old board.new wire.old wire.new }
+    ensures { TakesTyped S.sockets (HandsTo S.sends S.traffic) S.hears S.answers wire.old.load board.old board.new wire.old wire.new }
 {
     if wire.hear_telephones(alloc, moment) {
         return;
@@ -416,63 +447,109 @@ fn take_line<S: Surroundings + Drop>(
     answer_request(alloc, board, wire);
 }
 
+// The next command to a gateway that is given up by now is so, if one is: whether it was.
+fn give_up_next<S: Surroundings + Drop>(
+    board: &mut Switchboard,
+    wire: &mut Wire<S>,
+    place: usize,
+) -> bool
+    ensures { GivesUpNext result place board.old wire.old board.new wire.new }
+{
+    board.give_up(&mut wire.journal, place, wire.now.time)
+}
+
 // What is given up by now of the commands to a gateway.
 fn give_up<S: Surroundings + Drop>(board: &mut Switchboard, wire: &mut Wire<S>, place: usize)
-    ensures settles { SettlesLines board.old board.new }
-    ensures over { SendsOver wire.old wire.new }
+    ensures { GivesUpAll (HandsTo S.sends S.traffic) place board.old wire.old board.new wire.new }
 {
-    for _ in 0..u16::MAX {
-        if !board.give_up(&mut wire.journal, place, wire.now.time) {
+    for _ in 0..MOST_AT_ONCE {
+        if !give_up_next(board, wire, place) {
             return;
         }
         settle(board, wire);
     }
 }
 
-// The same of all gateways.
-fn give_up_all<S: Surroundings + Drop>(board: &mut Switchboard, wire: &mut Wire<S>)
-    ensures settles { SettlesLines board.old board.new }
-    ensures over { SendsOver wire.old wire.new }
+// The same of so many gateways, one behind another.
+fn give_up_each<S: Surroundings + Drop>(
+    board: &mut Switchboard,
+    wire: &mut Wire<S>,
+    gateways: usize,
+)
+    ensures { GivesUpEach (HandsTo S.sends S.traffic) gateways board.old wire.old board.new wire.new }
 {
-    for place in 0..board.gateways() {
+    for place in 0..gateways {
         give_up(board, wire, place);
     }
 }
 
+// The next line of a gateway to which what was put off is sent again by now waits to be settled, if there is one: whether there was.
+fn wake_next(board: &mut Switchboard, place: usize) -> bool
+    ensures { WakesNext result place board.old board.new }
+{
+    board.wake(place)
+}
+
 // The lines of a gateway to which what was put off is sent again by now wait to be settled.
 fn wake(board: &mut Switchboard, place: usize)
-    ensures { SettlesLines board.old board.new }
+    ensures { WakesAll place board.old board.new }
 {
-    for _ in 0..u16::MAX {
-        if !board.wake(place) {
+    for _ in 0..MOST_AT_ONCE {
+        if !wake_next(board, place) {
             return;
         }
     }
 }
 
-// The same of all gateways, and they are settled.
-fn wake_all<S: Surroundings + Drop>(board: &mut Switchboard, wire: &mut Wire<S>)
-    ensures settles { SettlesLines board.old board.new }
-    ensures over { SendsOver wire.old wire.new }
+// The same of so many gateways, one behind another.
+fn wake_each(board: &mut Switchboard, gateways: usize)
+    ensures { WakesEach gateways board.old board.new }
 {
-    for place in 0..board.gateways() {
+    for place in 0..gateways {
         wake(board, place);
     }
-    settle(board, wire);
+}
+
+// The clock of the agent of the gateway at this place goes on, and what it says is sent, again.
+fn tick_next<S: Surroundings + Drop>(
+    board: &mut Switchboard,
+    wire: &mut Wire<S>,
+    to: u64,
+    place: usize,
+)
+    ensures { TicksOne (HandsTo S.sends S.traffic) to place board.old wire.old board.new wire.new }
+{
+    let outputs = board.tick(place, to);
+    let _ = send_outputs(wire, outputs, true);
+}
+
+// The same of so many gateways, one behind another.
+fn tick_each<S: Surroundings + Drop>(
+    board: &mut Switchboard,
+    wire: &mut Wire<S>,
+    to: u64,
+    gateways: usize,
+)
+    ensures { TicksEach (HandsTo S.sends S.traffic) to gateways board.old wire.old board.new wire.new }
+{
+    for place in 0..gateways {
+        tick_next(board, wire, to, place);
+    }
 }
 
 // The clock goes on, that of each agent first: by one that was behind what is issued now would be sent again at once.
 fn tick<S: Surroundings + Drop>(board: &mut Switchboard, wire: &mut Wire<S>, to: u64, moment: u64)
-    ensures settles { SettlesLines board.old board.new }
-    ensures over { TickedOver to wire.old wire.new }
+    ensures { TicksAll (HandsTo S.sends S.traffic) moment to board.old wire.old board.new wire.new }
 {
     wire.now.clock = to;
-    for place in 0..board.gateways() {
-        let _ = send_outputs(wire, board.tick(place, to), true);
-    }
+    let ticking = board.gateways();
+    tick_each(board, wire, to, ticking);
     wire.is_behind = is_behind(moment, to);
-    give_up_all(board, wire);
-    wake_all(board, wire);
+    let giving_up = board.gateways();
+    give_up_each(board, wire, giving_up);
+    let waking = board.gateways();
+    wake_each(board, waking);
+    settle(board, wire);
 }
 
 // Whether something may be there of who types, or of the network.
@@ -488,7 +565,7 @@ fn first_due<S: Surroundings + Drop>(
     wire: &Wire<S>,
     moment: u64,
 ) -> Option<u64>
-    ensures { FallsDueFirst board.now.gateways.items wire.entry.now.load (due_of wire.entry.now.network) result }
+    ensures { FallsDueFirst moment board.now.gateways.items wire.entry.now.load (due_of wire.entry.now.network) result }
 {
     earlier(board.next_due(), wire.due(moment))
 }
@@ -500,7 +577,7 @@ fn waited_for<S: Surroundings + Drop>(
     ready: Ready,
     moment: u64,
 ) -> Option<u64>
-    ensures { IsWaitedFor (ready.commands || ready.datagrams) board.now.gateways.items wire.entry.now.load
+    ensures { IsWaitedFor (ready.commands || ready.datagrams) moment board.now.gateways.items wire.entry.now.load
         (due_of wire.entry.now.network) result }
 {
     if is_there(ready) {
@@ -558,7 +635,7 @@ fn longest_wait<S: Surroundings + Drop>(
     until: u64,
     moment: u64,
 ) -> u64
-    ensures { (due : Option ℕ) × FallsDueFirst board.now.gateways.items wire.entry.now.load (due_of wire.entry.now.network) due
+    ensures { (due : Option ℕ) × FallsDueFirst moment board.now.gateways.items wire.entry.now.load (due_of wire.entry.now.network) due
         × (result ≡ longest_until until due moment) }
 {
     let due = first_due(board, wire, moment);
@@ -573,7 +650,7 @@ fn do_turn<S: Surroundings + Drop>(
     turn: Turn,
     moment: u64,
 )
-    ensures { DoesTurn S.sockets S.receives S.hears S.answers turn board.old board.new wire.old wire.new }
+    ensures { DoesTurn S.sockets (HandsTo S.sends S.traffic) S.receives S.hears S.answers moment turn board.old board.new wire.old wire.new }
 {
     match turn {
         Turn::Tick { moment: to } => {
@@ -601,7 +678,7 @@ fn turn<S: Surroundings + Drop>(
     schedule: &mut Schedule,
 ) -> Result<bool, Fault>
     ensures next { IfOk result (λ goes_on. AsksNext S.passes S.tells board.old wire.old schedule.old goes_on schedule.new) }
-    ensures does { IfOk result (λ goes_on. goes_on ≡ true → DoesNext S.sockets S.passes S.tells S.receives S.hears S.answers
+    ensures does { IfOk result (λ goes_on. goes_on ≡ true → DoesNext S.sockets (HandsTo S.sends S.traffic) S.passes S.tells S.receives S.hears S.answers
         board.old board.new wire.old wire.new schedule.old) }
     ensures ended { IfOk result (λ goes_on. goes_on ≡ false → (wire.new ≡ wire.old) × (board.new ≡ board.old)) }
     ensures failed { IfErr result (λ fault. S.passes wire.old.around (Err fault)) }
@@ -624,28 +701,53 @@ fn turn<S: Surroundings + Drop>(
     Ok(true)
 }
 
-/// Serves until the end comes, and writes after each turn what was recorded. An error is of the clock.
-pub(crate) fn serve<S: Surroundings + Drop, W: Recorder>(
+// Writes what was recorded, as much as is taken at once, and keeps whether some of it waits to be taken.
+fn write_turn<S: Surroundings + Drop, W: Recorder>(wire: &mut Wire<S>, recorder: &mut W)
+    ensures { Writes wire.old wire.new }
+{
+    recorder.write(&mut wire.journal, wire.now.time);
+    wire.note_offering(recorder.is_offering());
+}
+
+// Has turns until the end comes, and writes after each what was recorded. An error is of the clock.
+fn run<S: Surroundings + Drop, W: Recorder>(
     alloc: Global,
     board: &mut Switchboard,
     wire: &mut Wire<S>,
+    schedule: &mut Schedule,
     recorder: &mut W,
-) -> Result<(), Fault> {
-    // What the start took isn't a pause.
-    let Ok(start) = wire.around.moment() else {
-        return Err(Fault);
-    };
-    let mut schedule = Schedule::starting_at(start);
+) -> Result<(), Fault>
+    ensures { Runs S.passes S.tells (TurnsOnce S.sockets (HandsTo S.sends S.traffic) S.passes S.tells S.receives S.hears S.answers) result
+        board.old wire.old schedule.old board.new wire.new }
+{
     for _ in 0..u64::MAX {
-        let goes_on = match turn(alloc, board, wire, &mut schedule) {
+        let goes_on = match turn(alloc, board, wire, schedule) {
             Ok(goes_on) => goes_on,
             Err(fault) => return Err(fault),
         };
         if !goes_on {
             return Ok(());
         }
-        recorder.write(&mut wire.journal, wire.now.time);
-        wire.note_offering(recorder.is_offering());
+        write_turn(wire, recorder);
     }
     Ok(())
+}
+
+/// Serves until the end comes, and writes after each turn what was recorded. An error is of the clock.
+pub(crate) fn serve<S: Surroundings + Drop, W: Recorder>(
+    alloc: Global,
+    board: &mut Switchboard,
+    wire: &mut Wire<S>,
+    recorder: &mut W,
+) -> Result<(), Fault>
+    ensures { Serves S.passes S.tells (TurnsOnce S.sockets (HandsTo S.sends S.traffic) S.passes S.tells S.receives S.hears S.answers) result
+        board.old wire.old board.new wire.new }
+{
+    // What the start took isn't a pause.
+    let start = match wire.around.moment() {
+        Ok(start) => start,
+        Err(fault) => return Err(fault),
+    };
+    let mut schedule = Schedule::starting_at(start);
+    run(alloc, board, wire, &mut schedule, recorder)
 }

@@ -1,11 +1,12 @@
 //! The wire: what datagrams and typed lines come over, and a bad network, where one lies between; and the journal of what goes over it.
-ghost use Rattle.std.specs.Prelude.{◌≡◌, ◌≤◌, ◌∷◌, ℕ, Bool, Option, Some, Result, [], true, false, not, length, is_some, IfOk, IfSome};
+ghost use Rattle.std.specs.Prelude.{◌≡◌, ◌⊎◌, ◌≤◌, ◌∷◌, ℕ, Bool, Option, Some, Result, [], true, false, not, length, is_some, IfOk, IfSome};
 ghost use Rattle.std.specs.declared.net.socket_addr.SocketAddrV4.{SocketAddrV4 as Peer};
 ghost use Rattle.bad_network.specs.declared.packet.Way.TheVariants.{In};
 ghost use Rattle.mg_bytes.specs.Lists.{is_empty};
 ghost use Rattle.live_agent.specs.Wiring.{due_of, with_read, read_at, heard_at, ready_by};
-ghost use Rattle.live_agent.specs.Sending.{SendsAll, SendsOver};
-ghost use Rattle.live_agent.specs.Tallying.{looked_counted, with_fate, CountsLeaving, CountsOffer, CountsSent};
+ghost use Rattle.live_agent.specs.Handing.{comes_in, HandsFirst, HandsOver, HandsTo, Leaves, Offers, OffersTo};
+ghost use Rattle.live_agent.specs.Sending.{SendsAll, SendsOne, SendsOver};
+ghost use Rattle.live_agent.specs.Tallying.{leaving_counted, looked_counted, with_fate, with_receive_fault, CountsLeaving, CountsOffer, CountsSent};
 ghost use Rattle.surroundings.specs.Hearing.{Hears, AnswersTo};
 ghost use Rattle.surroundings.specs.Requests.{requests_from};
 ghost use Rattle.surroundings.specs.Sending.{Grows};
@@ -21,8 +22,11 @@ use live_outlets::{NEXT_OFFER, Now};
 use plain_machine::OutDatagram;
 use std::alloc::{AllocError, Global};
 use std::net::SocketAddrV4;
-use surroundings::{Lines, Surroundings};
+use surroundings::{Fault, Lines, Surroundings};
 use turns::{Pause, Ready};
+
+/// So many packets are handed out at most at a turn, or commands given up, or lines woken, where more are due: the others are at the next.
+pub(crate) const MOST_AT_ONCE: u16 = 65_535;
 
 /// A wire over these surroundings.
 pub struct Wire<S> {
@@ -114,11 +118,22 @@ fn offer_to(
     bytes: &[u8],
     clock: u64,
 )
-    ensures { CountsOffer (Some network.old) journal.old.tally journal.new.tally }
+    ensures tally { CountsOffer (Some network.old) journal.old.tally journal.new.tally }
+    ensures offers { Offers way stamp.peer bytes.now clock network.old network.new journal.old.tally journal.new.tally }
 {
     match network.offer(way, stamp.peer, bytes, clock) {
         Ok(fate) => note_fate(journal, stamp, fate),
         Err(_) => count(&mut journal.tally.refused),
+    }
+}
+
+// Whether a packet comes in.
+fn comes_in(way: Way) -> bool
+    ensures { result ≡ comes_in way }
+{
+    match way {
+        Way::In => true,
+        Way::Out => false,
     }
 }
 
@@ -252,6 +267,8 @@ impl<S: Surroundings + Drop> Wire<S> {
         ensures spoilt { result ≡ is_some self.old.network }
         ensures around { self.new.around ≡ self.old.around }
         ensures tally { CountsOffer self.old.network self.old.journal.value.tally self.new.journal.value.tally }
+        ensures offers { OffersTo way peer bytes.now self.old.now.clock self.old.network self.new.network
+            self.old.journal.value.tally self.new.journal.value.tally }
         ensures none { result ≡ false → self.new ≡ self.old }
         ensures rest { self.new ≡ record self.old { network = self.new.network; journal = self.new.journal } }
     {
@@ -269,7 +286,8 @@ impl<S: Surroundings + Drop> Wire<S> {
 
     // The next packet that the network hands out now, if there is one.
     fn take_due(&mut self) -> Option<Packet>
-        ensures { self.new ≡ record self.old { network = self.new.network } }
+        ensures first { HandsFirst self.old.now.clock self.old.network result self.new.network }
+        ensures rest { self.new ≡ record self.old { network = self.new.network } }
     {
         match &mut self.network {
             Some(network) => network.take_due(self.now.clock),
@@ -281,12 +299,13 @@ impl<S: Surroundings + Drop> Wire<S> {
     pub(crate) fn handed_over(&mut self) -> Option<Packet>
         ensures comes { IfSome result (λ packet. packet.way ≡ In) }
         ensures over { SendsOver self.old self.new }
+        ensures hands { HandsOver (HandsTo S.sends S.traffic) result self.old self.new }
     {
-        for _ in 0..u16::MAX {
+        for _ in 0..MOST_AT_ONCE {
             let Some(packet) = self.take_due() else {
                 return None;
             };
-            if packet.way == Way::In {
+            if comes_in(packet.way) {
                 return Some(packet);
             }
             self.transmit(packet.peer, packet.bytes.as_bytes());
@@ -294,23 +313,35 @@ impl<S: Surroundings + Drop> Wire<S> {
         None
     }
 
-    // Puts a datagram onto the machine's network. One that doesn't leave is counted, and noted in the log.
+    // A datagram was put onto the machine's network. One that didn't leave is counted, and noted in the log.
+    fn note_leaving(&mut self, to: SocketAddrV4, sent: Result<(), Fault>)
+        ensures tally { self.new.journal.value.tally ≡ leaving_counted sent self.old.journal.value.tally }
+        ensures rest { self.new ≡ record self.old { journal = self.new.journal } }
+    {
+        match sent {
+            Ok(()) => {}
+            Err(_) => {
+                count(&mut self.journal.tally.send_faults);
+                let stamp = Stamp {
+                    moment: self.now.time,
+                    peer: to,
+                };
+                self.journal.note(stamp, Note::Unsent);
+            }
+        }
+    }
+
+    // Puts a datagram onto the machine's network.
     fn transmit(&mut self, to: SocketAddrV4, bytes: &[u8])
         ensures sent { Grows (S.traffic self.old.around).sent (record { to = to; bytes = bytes.now } ∷ [])
             (S.traffic self.new.around).sent }
         ensures received { (S.traffic self.new.around).received ≡ (S.traffic self.old.around).received }
         ensures tally { CountsLeaving self.old.journal.value.tally self.new.journal.value.tally }
+        ensures leaves { Leaves (HandsTo S.sends S.traffic) to bytes.now self.old self.new }
         ensures rest { self.new ≡ record self.old { around = self.new.around; journal = self.new.journal } }
     {
-        if self.around.send(to, bytes).is_ok() {
-            return;
-        }
-        count(&mut self.journal.tally.send_faults);
-        let stamp = Stamp {
-            moment: self.now.time,
-            peer: to,
-        };
-        self.journal.note(stamp, Note::Unsent);
+        let sent = self.around.send(to, bytes);
+        self.note_leaving(to, sent);
     }
 
     /// Sends a datagram, for the first time or again.
@@ -320,6 +351,7 @@ impl<S: Surroundings + Drop> Wire<S> {
         ensures offered { is_some self.old.network ≡ true → self.new.around ≡ self.old.around }
         ensures tally { CountsSent is_repeat self.old.network self.old.journal.value.tally self.new.journal.value.tally }
         ensures over { SendsOver self.old self.new }
+        ensures one { SendsOne (HandsTo S.sends S.traffic) is_repeat to bytes.now self.old self.new }
     {
         self.journal.sent(self.now.time, to, bytes, is_repeat);
         count_sent(&mut self.load, self.now.time, to, bytes, is_repeat);
@@ -331,7 +363,7 @@ impl<S: Surroundings + Drop> Wire<S> {
 
     /// Sends datagrams, for the first time or again.
     pub(crate) fn send_all(&mut self, datagrams: &[OutDatagram], is_repeat: bool)
-        ensures { SendsAll is_repeat datagrams.now self.old self.new }
+        ensures { SendsAll (HandsTo S.sends S.traffic) is_repeat datagrams.now self.old self.new }
     {
         for datagram in datagrams {
             self.send(datagram.to, datagram.bytes.as_bytes(), is_repeat);
@@ -340,7 +372,8 @@ impl<S: Surroundings + Drop> Wire<S> {
 
     /// The program was stopped, and goes on: that is noted in the log.
     pub(crate) fn note_pause(&mut self, pause: Pause)
-        ensures { self.new ≡ record self.old { journal = self.new.journal } }
+        ensures journal { self.new.journal.value ≡ record self.old.journal.value { log = self.new.journal.value.log } }
+        ensures rest { self.new ≡ record self.old { journal = self.new.journal } }
     {
         let log = &mut self.journal.log;
         let Pause { lateness, read } = pause;
@@ -360,7 +393,10 @@ impl<S: Surroundings + Drop> Wire<S> {
 
     /// Waits until something comes, but no longer than this, in ms, nor than until what waits to be taken is offered again.
     pub(crate) fn wait(&mut self, longest: u64)
-        ensures { self.new ≡ record self.old { around = self.new.around; journal = self.new.journal } }
+        ensures counts { (self.new.journal.value.tally ≡ self.old.journal.value.tally)
+            ⊎ (self.new.journal.value.tally ≡ with_receive_fault self.old.journal.value.tally) }
+        ensures journal { self.new.journal.value ≡ record self.old.journal.value { tally = self.new.journal.value.tally } }
+        ensures rest { self.new ≡ record self.old { around = self.new.around; journal = self.new.journal } }
     {
         let longest = if self.is_offering {
             longest.min(NEXT_OFFER)

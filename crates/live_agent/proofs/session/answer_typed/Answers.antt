@@ -9,8 +9,7 @@ returns-in-Ok-issued_text g c =
       (
         c.send_issued.new.wire,
         c.as_slice.result.now,
-        c.send_issued.ensures.over,
-        c.send_issued.ensures.tally,
+        c.send_issued.ensures,
         inl (c.as_slice.ensures.value ∙ c.in-Ok-issued_text.ensures),
         record {
           answered = c.answer_all-in-Ok-issued_text.ensures.answered;
@@ -28,8 +27,7 @@ returns g c =
       (
         c.send_issued.new.wire,
         _,
-        c.send_issued.ensures.over,
-        c.send_issued.ensures.tally,
+        c.send_issued.ensures,
         inr refl,
         record {
           answered = c.answer_all-in-Err-issued_text.ensures.answered;

@@ -1,5 +1,6 @@
 use Rattle.std.proofs.Common.{refl}
-use Rattle.live_agent.proofs.SendingLemmas.{ticks_over}
+use Rattle.live_agent.specs.Handing.{HandsTo}
+use Rattle.live_agent.proofs.TickingLemmas.{did_tick}
 use Rattle.live_agent.proofs.session.do_turn.Goals as goal
 
 pub returns-in-Command : goal.returns-in-Command
@@ -8,16 +9,17 @@ returns-in-Command g c = rw (c.in-Command.is) c.take_line.ensures
 pub returns-in-Tick : goal.returns-in-Tick
 returns-in-Tick g c =
     rw (c.in-Tick.is)
-    (c.tick.ensures.settles, ticks_over c.args.wire.now c.tick.new.wire c.pass_load.new.self _ c.tick.ensures.over c.pass_load.ensures.rest c.pass_load.ensures.ends)
+    (did_tick (HandsTo g.S.Surroundings.sends g.S.Surroundings.traffic) c.args.moment c.in-Tick.to c.args.board.now c.tick.new.board c.args.wire.now c.tick.new.wire c.pass_load.new.self c.tick.ensures
+    c.pass_load.ensures.none c.pass_load.ensures.ends c.pass_load.ensures.rest)
 
 pub returns-in-Datagram : goal.returns-in-Datagram
 returns-in-Datagram g c = rw (c.in-Datagram.is) c.take_datagram.ensures
 
 pub returns-in-Look : goal.returns-in-Look
-returns-in-Look g c = rw (c.in-Look.is) (refl, c.wait.ensures)
+returns-in-Look g c = rw (c.in-Look.is) (refl, (c.wait.ensures.counts, c.wait.ensures.journal, c.wait.ensures.rest))
 
 pub returns-in-Wait : goal.returns-in-Wait
-returns-in-Wait g c = rw (c.in-Wait.is) (refl, c.wait-in-Wait.ensures)
+returns-in-Wait g c = rw (c.in-Wait.is) (refl, (c.wait-in-Wait.ensures.counts, c.wait-in-Wait.ensures.journal, c.wait-in-Wait.ensures.rest))
 
 pub returns-in-Note : goal.returns-in-Note
-returns-in-Note g c = rw (c.in-Note.is) (refl, c.note_pause.ensures)
+returns-in-Note g c = rw (c.in-Note.is) (refl, (c.note_pause.ensures.journal, c.note_pause.ensures.rest))

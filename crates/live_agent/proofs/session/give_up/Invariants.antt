@@ -1,8 +1,7 @@
-use Rattle.live_agent.specs.Sending.{SendsOver, SettlesLines}
+use Rattle.live_agent.specs.Handing.{HandsTo}
+use Rattle.live_agent.specs.Ticking.{GivesUpMany}
 use Rattle.live_agent.proofs.session.give_up.Given as goal
 
+-- so many were given up
 abbrev pub invariant-loop : goal.invariant-loop
-invariant-loop g l = record {
-  settles : SettlesLines l.fn.board l.board;
-  over : SendsOver l.fn.wire l.wire;
-}
+invariant-loop g l = GivesUpMany (HandsTo g.S.Surroundings.sends g.S.Surroundings.traffic) l.place l.counter l.fn.board l.fn.wire l.board l.wire

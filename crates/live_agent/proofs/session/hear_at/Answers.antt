@@ -1,4 +1,5 @@
 use Rattle.std.proofs.Common.{◌≡◌, true, false, rules}
+use Rattle.live_agent.specs.Handing.{HandsTo}
 use Rattle.live_agent.proofs.DatagramLemmas.{dealt_none, dealt_with}
 use Rattle.live_agent.proofs.session.hear_at.Goals as goal
 
@@ -6,25 +7,25 @@ pub returns-then-not-send_outputs : goal.returns-then-not-send_outputs
 returns-then-not-send_outputs g c =
     let refused : c.send_outputs.result ≡ false = search rules in
     record {
-  outputs = c.step-outputs.result;
-  went_on = c.send_outputs.result;
-  stepped = c.step-outputs.new.self;
-  sent = c.send_outputs.new.wire;
-  steps = (c.step-outputs.ensures.took, c.step-outputs.ensures.others, c.step-outputs.ensures.rest);
-  sends = c.send_outputs.ensures;
-  deals = dealt_none c.send_outputs.result c.args.place c.args.bytes.now c.step-outputs.new.self c.send_outputs.new.wire refused;
-}
+      outputs = c.step-outputs.result;
+      went_on = c.send_outputs.result;
+      stepped = c.step-outputs.new.self;
+      sent = c.send_outputs.new.wire;
+      steps = record { took = c.step-outputs.ensures.took; stays = c.step-outputs.ensures.err; ends = c.step-outputs.ensures.ends; own = c.step-outputs.ensures.own; others = c.step-outputs.ensures.others; rest = c.step-outputs.ensures.rest };
+      goes = c.send_outputs.ensures;
+      deals = dealt_none (HandsTo g.S.Surroundings.sends g.S.Surroundings.traffic) c.send_outputs.result c.args.place c.args.bytes.now c.step-outputs.new.self c.send_outputs.new.wire refused;
+    }
 
 pub returns : goal.returns
 returns g c =
     let went : c.send_outputs.result ≡ true = search rules in
     record {
-  outputs = c.step-outputs.result;
-  went_on = c.send_outputs.result;
-  stepped = c.step-outputs.new.self;
-  sent = c.send_outputs.new.wire;
-  steps = (c.step-outputs.ensures.took, c.step-outputs.ensures.others, c.step-outputs.ensures.rest);
-  sends = c.send_outputs.ensures;
-  deals = dealt_with c.send_outputs.result c.args.place c.args.bytes.now c.step-outputs.new.self c.deal_with.new.board c.take_told.new.board
-      c.send_outputs.new.wire c.deal_with.new.wire c.take_told.new.wire went c.deal_with.ensures c.take_told.ensures;
-}
+      outputs = c.step-outputs.result;
+      went_on = c.send_outputs.result;
+      stepped = c.step-outputs.new.self;
+      sent = c.send_outputs.new.wire;
+      steps = record { took = c.step-outputs.ensures.took; stays = c.step-outputs.ensures.err; ends = c.step-outputs.ensures.ends; own = c.step-outputs.ensures.own; others = c.step-outputs.ensures.others; rest = c.step-outputs.ensures.rest };
+      goes = c.send_outputs.ensures;
+      deals = dealt_with (HandsTo g.S.Surroundings.sends g.S.Surroundings.traffic) c.send_outputs.result c.args.place c.args.bytes.now c.step-outputs.new.self c.deal_with.new.board c.take_told.new.board
+          c.send_outputs.new.wire c.deal_with.new.wire c.take_told.new.wire went c.deal_with.ensures c.take_told.ensures;
+    }

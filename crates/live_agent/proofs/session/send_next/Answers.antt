@@ -1,8 +1,11 @@
-use Rattle.std.proofs.Common.{refl}
 use Rattle.live_agent.proofs.session.send_next.Goals as goal
 
-pub returns-in-Ok-None-clause-over : goal.returns-in-Ok-None-clause-over
-returns-in-Ok-None-clause-over g c = record { rest = refl; }
-
-pub returns-in-Err-clause-over : goal.returns-in-Err-clause-over
-returns-in-Err-clause-over g c = record { rest = refl; }
+pub returns : goal.returns
+returns g c = record {
+  issued = c.issue_next-issued.result;
+  office = c.issue_next-issued.ensures.office;
+  issues = c.issue_next-issued.ensures.issued;
+  alone = c.issue_next-issued.ensures.alone;
+  rest = c.issue_next-issued.ensures.rest;
+  goes = c.send_if_issued.ensures;
+}

@@ -1,23 +1,22 @@
-use Rattle.std.proofs.Common.{refl}
-use Rattle.live_agent.proofs.SendingLemmas.{over_none, sent_more}
-use Rattle.live_agent.proofs.TypingLemmas.{by_office, settled_more}
+use Rattle.std.proofs.Common.{ℕ, subst}
+use Rattle.live_agent.specs.Handing.{HandsTo}
+use Rattle.live_agent.specs.Settling.{SendsEach, ShowsEach}
+use Rattle.live_agent.proofs.SettlingLemmas.{settled_none, settled_now}
 use Rattle.live_agent.proofs.session.settle.Goals as goal
 
-pub loop-index-init : goal.loop-index-init
-loop-index-init g c = record {
-  settles = by_office c.args.board.now c.begin_settling.new.self c.begin_settling.ensures.rest;
-  over = record { rest = refl; };
-}
+pub returns-then-is_behind : goal.returns-then-is_behind
+returns-then-is_behind g c = settled_none (HandsTo g.S.Surroundings.sends g.S.Surroundings.traffic) c.args.board.now c.args.wire.now c.if-is_behind.true
 
-pub loop-index-preserved : goal.loop-index-preserved
-loop-index-preserved g c = record {
-  settles = settled_more c.args.board.now c.loop-index.board c.show.new.self c.loop-index.invariant.settles
-      (by_office c.loop-index.board c.show.new.self c.show.ensures.rest);
-  over = sent_more c.args.wire.now c.loop-index.wire _ c.loop-index.invariant.over (record { rest = refl; });
-}
-
-pub loop-index-2-preserved : goal.loop-index-2-preserved
-loop-index-2-preserved g c = record {
-  settles = settled_more c.args.board.now c.loop-index-2.board c.send_next.new.board c.loop-index-2.invariant.settles c.send_next.ensures.settles;
-  over = sent_more c.args.wire.now c.loop-index-2.wire c.send_next.new.wire c.loop-index-2.invariant.over c.send_next.ensures.over;
-}
+pub returns : goal.returns
+returns g c =
+    settled_now (HandsTo g.S.Surroundings.sends g.S.Surroundings.traffic) c.args.board.now c.send_each.new.board c.args.wire.now c.send_each.new.wire c.if-is_behind.false (record {
+      begun = c.begin_settling.new.self;
+      shown = c.show_each.new.board;
+      told = c.show_each.new.wire;
+      begins = c.begin_settling.ensures.settles;
+      rest = c.begin_settling.ensures.rest;
+      shows = subst (λ (lines : ℕ). ShowsEach lines c.begin_settling.new.self c.args.wire.now c.show_each.new.board c.show_each.new.wire)
+          c.settling-lines.ensures c.show_each.ensures;
+      goes = subst (λ (lines : ℕ). SendsEach (HandsTo g.S.Surroundings.sends g.S.Surroundings.traffic) lines c.show_each.new.board c.show_each.new.wire c.send_each.new.board c.send_each.new.wire)
+          c.settling-lines.ensures c.send_each.ensures;
+    })

@@ -1,4 +1,5 @@
 use Rattle.std.proofs.Common.{◌≡◌, Some, None, take, refl, rules}
+use Rattle.live_agent.specs.Handing.{HandsTo}
 use Rattle.live_agent.proofs.DatagramLemmas.{found_so, looked_so}
 use Rattle.live_agent.proofs.session.take_datagram.Goals as goal
 
@@ -8,18 +9,18 @@ returns-in_default g c = record {
   between = c.take_over.new.board;
   left = c.take_over.new.wire;
   over = c.take_over.ensures;
-  looks = looked_so g.S.Surroundings.receives c.take_over.result c.take_over.new.board c.take_over.new.board c.take_over.new.wire c.receive.new.self
+  looks = looked_so (HandsTo g.S.Surroundings.sends g.S.Surroundings.traffic) g.S.Surroundings.receives c.take_over.result c.take_over.new.board c.take_over.new.board c.take_over.new.wire c.receive.new.self
       c.if-take_over.false (record {
-    outcome = c.in_default.ensures.looked.0;
-    room = c.receive.new.room;
-    looked = c.receive.new.self;
-    looks = c.in_default.ensures.looked.1;
-    counts = c.in_default.ensures.looked.4;
-    reads = c.in_default.ensures.looked.3;
-    leaves = c.in_default.ensures.rest;
-    takes = found_so None _ c.receive.new.room c.take_over.new.board c.take_over.new.board c.receive.new.self c.receive.new.self
-        c.in_default.ensures.looked.2 (refl, refl);
-  });
+        outcome = c.in_default.ensures.looked.0;
+        room = c.receive.new.room;
+        looked = c.receive.new.self;
+        looks = c.in_default.ensures.looked.1;
+        counts = c.in_default.ensures.looked.4;
+        reads = c.in_default.ensures.looked.3;
+        leaves = c.in_default.ensures.rest;
+        takes = found_so (HandsTo g.S.Surroundings.sends g.S.Surroundings.traffic) None _ c.receive.new.room c.take_over.new.board c.take_over.new.board c.receive.new.self c.receive.new.self
+            c.in_default.ensures.looked.2 (refl, refl);
+      });
 }
 
 pub returns : goal.returns
@@ -30,16 +31,16 @@ returns g c =
       between = c.take_over.new.board;
       left = c.take_over.new.wire;
       over = c.take_over.ensures;
-      looks = looked_so g.S.Surroundings.receives c.take_over.result c.take_over.new.board c.take_received.new.board c.take_over.new.wire
+      looks = looked_so (HandsTo g.S.Surroundings.sends g.S.Surroundings.traffic) g.S.Surroundings.receives c.take_over.result c.take_over.new.board c.take_received.new.board c.take_over.new.wire
           c.take_received.new.wire c.if-take_over.false (record {
-        outcome = c.in-Some.ensures.looked.0;
-        room = c.receive.new.room;
-        looked = c.receive.new.self;
-        looks = c.in-Some.ensures.looked.1;
-        counts = c.in-Some.ensures.looked.4;
-        reads = c.in-Some.ensures.looked.3;
-        leaves = c.in-Some.ensures.rest;
-        takes = found_so (Some c.in-Some.found) _ c.receive.new.room c.take_over.new.board c.take_received.new.board c.receive.new.self
-            c.take_received.new.wire c.in-Some.ensures.looked.2 (rw bytes at c.take_received.ensures);
-      });
+            outcome = c.in-Some.ensures.looked.0;
+            room = c.receive.new.room;
+            looked = c.receive.new.self;
+            looks = c.in-Some.ensures.looked.1;
+            counts = c.in-Some.ensures.looked.4;
+            reads = c.in-Some.ensures.looked.3;
+            leaves = c.in-Some.ensures.rest;
+            takes = found_so (HandsTo g.S.Surroundings.sends g.S.Surroundings.traffic) (Some c.in-Some.found) _ c.receive.new.room c.take_over.new.board c.take_received.new.board c.receive.new.self
+                c.take_received.new.wire c.in-Some.ensures.looked.2 (rw bytes at c.take_received.ensures);
+          });
     }

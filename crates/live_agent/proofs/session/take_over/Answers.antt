@@ -1,5 +1,6 @@
 use Rattle.std.proofs.Common.{ℕ, List, Some, None, refl, subst}
 use Rattle.live_agent.specs.Datagrams.{HearsDatagram}
+use Rattle.live_agent.specs.Handing.{HandsTo}
 use Rattle.live_agent.proofs.session.take_over.Goals as goal
 
 pub returns-in-Some : goal.returns-in-Some
@@ -7,10 +8,10 @@ returns-in-Some g c = record {
   packet = Some c.in-Some.packet;
   handed = c.handed_over.new.self;
   is_found = refl;
-  comes = c.in-Some.ensures.comes;
+  hands = c.in-Some.ensures.hands;
   over = c.in-Some.ensures.over;
   hears = subst
-      (λ (bytes : List ℕ). HearsDatagram c.in-Some.packet.peer bytes c.args.board.now c.handed_over.new.self c.hear.new.board c.hear.new.wire)
+      (λ (bytes : List ℕ). HearsDatagram (HandsTo g.S.Surroundings.sends g.S.Surroundings.traffic) c.in-Some.packet.peer bytes c.args.board.now c.handed_over.new.self c.hear.new.board c.hear.new.wire)
       c.as_bytes.ensures c.hear.ensures;
 }
 
@@ -19,7 +20,7 @@ returns-in-None g c = record {
   packet = None;
   handed = c.handed_over.new.self;
   is_found = refl;
-  comes = c.in-None.ensures.comes;
+  hands = c.in-None.ensures.hands;
   over = c.in-None.ensures.over;
   hears = (refl, refl);
 }

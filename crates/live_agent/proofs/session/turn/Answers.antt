@@ -1,6 +1,7 @@
 use Rattle.std.proofs.Common.{ap, subst}
 use Rattle.turns.specs.declared.schedule.Schedule.{Schedule}
 use Rattle.turns.specs.declared.turn.Turn.{Turn}
+use Rattle.live_agent.specs.Handing.{HandsTo}
 use Rattle.live_agent.proofs.SendingLemmas.{begun_so}
 use Rattle.live_agent.specs.Turning.{DoesTurn}
 use Rattle.live_agent.proofs.session.turn.Goals as goal
@@ -13,9 +14,9 @@ returns-clause-does g c = λ holds. record {
   sent = c.settle.new.wire;
   situation = c.in-Ok.ensures.stands;
   begins = begun_so c.args.wire.now c.begin.new.self _ _ c.begin.ensures c.is_behind-wire.ensures;
-  settles = c.settle.ensures.settles;
-  over = c.settle.ensures.over;
-  does = subst (λ (turn : Turn). DoesTurn g.S.Surroundings.sockets g.S.Surroundings.receives g.S.Surroundings.hears g.S.Surroundings.answers turn c.settle.new.board
+  settles = c.settle.ensures;
+  does = subst (λ (turn : Turn). DoesTurn g.S.Surroundings.sockets (HandsTo g.S.Surroundings.sends g.S.Surroundings.traffic) g.S.Surroundings.receives g.S.Surroundings.hears
+      g.S.Surroundings.answers c.in-Ok.at.moment turn c.settle.new.board
       c.do_turn.new.board c.settle.new.wire c.do_turn.new.wire)
       (ap (λ (next : Turn × Schedule). next.0) c.next-turn.ensures) c.do_turn.ensures;
 }

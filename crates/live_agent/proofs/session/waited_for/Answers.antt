@@ -4,11 +4,11 @@ use Rattle.live_agent.proofs.session.waited_for.Goals as goal
 
 pub returns-then-is_there : goal.returns-then-is_there
 returns-then-is_there g c =
-    subst (λ (is_any : Bool). IsWaitedFor is_any c.args.board.now.gateways.items c.args.wire.now.load (due_of c.args.wire.now.network) None)
+    subst (λ (is_any : Bool). IsWaitedFor is_any c.args.moment c.args.board.now.gateways.items c.args.wire.now.load (due_of c.args.wire.now.network) None)
     (sym (sym c.is_there.ensures ∙ c.if-is_there.true)) refl
 
 pub returns : goal.returns
 returns g c =
-    subst (λ (is_any : Bool). IsWaitedFor is_any c.args.board.now.gateways.items c.args.wire.now.load (due_of c.args.wire.now.network)
+    subst (λ (is_any : Bool). IsWaitedFor is_any c.args.moment c.args.board.now.gateways.items c.args.wire.now.load (due_of c.args.wire.now.network)
     c.first_due.result)
     (sym (sym c.is_there.ensures ∙ c.if-is_there.false)) c.first_due.ensures

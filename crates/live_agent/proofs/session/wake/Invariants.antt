@@ -1,5 +1,6 @@
-use Rattle.live_agent.specs.Sending.{SettlesLines}
+use Rattle.live_agent.specs.Ticking.{WakesMany}
 use Rattle.live_agent.proofs.session.wake.Given as goal
 
+-- so many lines wait
 abbrev pub invariant-loop : goal.invariant-loop
-invariant-loop l = SettlesLines l.fn.board l.board
+invariant-loop l = WakesMany l.place l.counter l.fn.board l.board

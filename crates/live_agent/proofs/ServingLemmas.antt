@@ -1,0 +1,62 @@
+-- Turns, one behind another.
+use Rattle.std.proofs.Common.{◌≡◌, inl, ℕ, ◌+◌, suc, Bool, false, Result, Ok, Err, tt, sym, ap, subst, ◌∙◌, arith}
+use Rattle.surroundings.specs.declared.surroundings.Fault.{Fault}
+use Rattle.surroundings.specs.declared.surroundings.Told.{Told}
+use Rattle.switchboard.specs.declared.switchboard.Switchboard.{Switchboard}
+use Rattle.turns.specs.declared.schedule.Schedule.{Schedule}
+use Rattle.live_agent.specs.declared.wire.Wire.{Wire}
+use Rattle.live_agent.specs.Serving.{RunsTurns, StopsAt, Writes}
+use Rattle.live_agent.specs.Wiring.{AsksNext}
+
+module _ {S : Type 0} where
+  -- what was recorded was written, and after it was kept whether some of it waits
+  pub written_so : (was between is : Wire S) → between.journal.value.tally ≡ was.journal.value.tally → between ≡ record was { journal = between.journal }
+      → is ≡ record between { is_offering = is.is_offering } → Writes was is
+  written_so was between is kept leaves next =
+      let all : is ≡ record was { journal = between.journal; is_offering = is.is_offering }
+      = next ∙ ap (λ (one : Wire S). record one { is_offering = is.is_offering }) leaves in (
+        ap (λ (one : Wire S). one.journal.value.tally) next ∙ kept,
+        all ∙ ap (λ (one : Wire S). record was { journal = one.journal; is_offering = is.is_offering }) (sym all),
+      )
+
+  pub offered_so : (was is : Wire S) (is_offering : Bool) → is ≡ record was { is_offering = is_offering }
+      → is ≡ record was { is_offering = is.is_offering }
+  offered_so was is is_offering next = next ∙ ap (λ (one : Wire S). record was { is_offering = one.is_offering }) (sym next)
+
+module _ {S : Type 0} (turns : Switchboard → Wire S → Schedule → Switchboard → Wire S → Schedule → Type 0) where
+  -- one more
+  runs_by : (count next : ℕ) (board between now : Switchboard) (was left is : Wire S) (schedule behind after : Schedule) → next ≡ suc count
+      → RunsTurns turns count board was schedule between left behind → turns between left behind now is after
+      → RunsTurns turns next board was schedule now is after
+  runs_by count next board between now was left is schedule behind after one_more so_far turn =
+      subst (λ (many : ℕ). RunsTurns turns many board was schedule now is after) (sym one_more) (between, left, behind, so_far, turn)
+
+  pub runs_more : (count : ℕ) (board between now : Switchboard) (was left is : Wire S) (schedule behind after : Schedule)
+      → RunsTurns turns count board was schedule between left behind → turns between left behind now is after
+      → RunsTurns turns (count + 1) board was schedule now is after
+  runs_more count board between now was left is schedule behind after so_far turn =
+      runs_by count (count + 1) board between now was left is schedule behind after (omega arith) so_far turn
+
+  -- behind them nothing more is done
+  pub runs_so : (count : ℕ) (board between now : Switchboard) (was left is : Wire S) (schedule behind : Schedule) → now ≡ between → is ≡ left
+      → RunsTurns turns count board was schedule between left behind → RunsTurns turns count board was schedule now is behind
+  runs_so count board between now was left is schedule behind same_board same_wire so_far =
+      subst (λ (one : Switchboard). RunsTurns turns count board was schedule one is behind) (sym same_board)
+      (subst (λ (one : Wire S). RunsTurns turns count board was schedule between one behind) (sym same_wire) so_far)
+
+module _ {S : Type 0} (passes : S → Result ℕ Fault → Type 0) (tells : S → Told → Type 0) where
+  -- the end comes next
+  pub stops_ended : (count : ℕ) (board now : Switchboard) (was is : Wire S) (schedule next : Schedule) → now ≡ board → is ≡ was
+      → AsksNext passes tells board was schedule false next → StopsAt passes tells (Ok tt) count now is schedule
+  stops_ended count board now was is schedule next same_board same_wire asks =
+      inl (
+        next,
+        subst (λ (one : Switchboard). AsksNext passes tells one is schedule false next) (sym same_board)
+            (subst (λ (one : Wire S). AsksNext passes tells board one schedule false next) (sym same_wire) asks),
+      )
+
+  -- the clock fails
+  pub stops_failed : (fault : Fault) (count : ℕ) (now : Switchboard) (was is : Wire S) (schedule : Schedule) → is ≡ was → passes was.around (Err fault)
+      → StopsAt passes tells (Err fault) count now is schedule
+  stops_failed fault count now was is schedule same_wire failed =
+      subst (λ (one : Wire S). passes one.around (Err fault)) (sym same_wire) failed

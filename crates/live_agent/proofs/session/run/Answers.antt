@@ -1,0 +1,58 @@
+use Rattle.std.proofs.Common.{◌≡◌, ◌-◌, ◌^◌, true, false, inl, inr, refl, sym, subst, arith, rules}
+use Rattle.std.specs.Prelude.{Err, Result}
+use Rattle.live_agent.specs.declared.wire.Wire.{Wire}
+use Rattle.live_agent.specs.Handing.{HandsTo}
+use Rattle.live_agent.specs.Serving.{TurnsOnce}
+use Rattle.live_agent.proofs.ServingLemmas.{runs_more, runs_so, stops_ended, stops_failed}
+use Rattle.live_agent.proofs.session.run.Goals as goal
+
+pub loop-init : goal.loop-init
+loop-init g c = (refl, refl, refl)
+
+pub loop-preserved : goal.loop-preserved
+loop-preserved g c =
+    let went : c.in-Ok.goes_on ≡ true = search rules in
+    runs_more (TurnsOnce g.S.Surroundings.sockets (HandsTo g.S.Surroundings.sends g.S.Surroundings.traffic) g.S.Surroundings.passes g.S.Surroundings.tells g.S.Surroundings.receives g.S.Surroundings.hears
+    g.S.Surroundings.answers)
+    c.loop.counter c.args.board.now c.loop.board c.turn.new.board c.args.wire.now c.loop.wire c.write_turn.new.wire c.args.schedule.now c.loop.schedule
+    c.turn.new.schedule c.loop.invariant (record {
+      done = c.turn.new.wire;
+      asks = rw went at c.in-Ok.ensures.next;
+      does = c.in-Ok.ensures.does went;
+      writes = c.write_turn.ensures;
+    })
+
+pub returns-in-Err : goal.returns-in-Err
+returns-in-Err g c = record {
+  count = c.loop.counter;
+  behind = c.loop.schedule;
+  runs = runs_so (TurnsOnce g.S.Surroundings.sockets (HandsTo g.S.Surroundings.sends g.S.Surroundings.traffic) g.S.Surroundings.passes g.S.Surroundings.tells g.S.Surroundings.receives g.S.Surroundings.hears
+      g.S.Surroundings.answers)
+      c.loop.counter c.args.board.now c.loop.board c.turn.new.board c.args.wire.now c.loop.wire c.turn.new.wire c.args.schedule.now c.loop.schedule
+      c.in-Err.ensures.fault.1 c.in-Err.ensures.fault.0 c.loop.invariant;
+  stops = stops_failed g.S.Surroundings.passes g.S.Surroundings.tells c.in-Err.fault c.loop.counter c.turn.new.board c.loop.wire c.turn.new.wire c.loop.schedule
+      c.in-Err.ensures.fault.0 c.in-Err.ensures.failed;
+}
+
+pub returns-then-not-goes_on : goal.returns-then-not-goes_on
+returns-then-not-goes_on g c =
+    let over : c.in-Ok.goes_on ≡ false = search rules in
+    let same = c.in-Ok.ensures.ended over in
+    record {
+      count = c.loop.counter;
+      behind = c.loop.schedule;
+      runs = runs_so (TurnsOnce g.S.Surroundings.sockets (HandsTo g.S.Surroundings.sends g.S.Surroundings.traffic) g.S.Surroundings.passes g.S.Surroundings.tells g.S.Surroundings.receives g.S.Surroundings.hears
+          g.S.Surroundings.answers)
+          c.loop.counter c.args.board.now c.loop.board c.turn.new.board c.args.wire.now c.loop.wire c.turn.new.wire c.args.schedule.now c.loop.schedule
+          same.1 same.0 c.loop.invariant;
+      stops = stops_ended g.S.Surroundings.passes g.S.Surroundings.tells c.loop.counter c.loop.board c.turn.new.board c.loop.wire c.turn.new.wire
+          c.loop.schedule c.turn.new.schedule same.1 same.0 (rw over at c.in-Ok.ensures.next);
+    }
+
+pub returns : goal.returns
+returns g c = record {
+  count = c.loop.counter;
+  behind = c.loop.schedule;
+  runs = c.loop.invariant;
+  stops = inr (omega (arith, c.loop.auto.counter-end, c.loop-test.false));
+}

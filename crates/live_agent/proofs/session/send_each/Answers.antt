@@ -1,0 +1,12 @@
+use Rattle.std.proofs.Common.{refl}
+use Rattle.live_agent.specs.Handing.{HandsTo}
+use Rattle.live_agent.proofs.SettlingLemmas.{issued_more}
+use Rattle.live_agent.proofs.session.send_each.Goals as goal
+
+pub loop-index-init : goal.loop-index-init
+loop-index-init g c = (refl, refl)
+
+pub loop-index-preserved : goal.loop-index-preserved
+loop-index-preserved g c =
+    issued_more (HandsTo g.S.Surroundings.sends g.S.Surroundings.traffic) c.loop-index.index c.args.board.now c.loop-index.board c.send_next.new.board c.args.wire.now c.loop-index.wire c.send_next.new.wire
+    c.loop-index.invariant c.send_next.ensures

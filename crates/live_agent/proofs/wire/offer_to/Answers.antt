@@ -1,0 +1,21 @@
+use Rattle.std.proofs.Common.{inl, inr, ap, ◌∙◌}
+use Rattle.bad_network.specs.declared.fate.Fate.{Fate}
+use Rattle.live_agent.specs.Tallying.{with_fate}
+use Rattle.live_agent.proofs.wire.offer_to.Goals as goal
+
+pub returns-in-Ok-clause-offers : goal.returns-in-Ok-clause-offers
+returns-in-Ok-clause-offers c = record {
+  takes = inl (
+    c.in-Ok.ensures.ok,
+    c.note_fate.ensures.tally ∙ ap (λ (fate : Fate). with_fate fate c.args.journal.now.tally) c.in-Ok.ensures.fate,
+  );
+  spoiling = c.in-Ok.ensures.spoiling;
+  draws = c.in-Ok.ensures.generator;
+}
+
+pub returns-in-Err-clause-offers : goal.returns-in-Err-clause-offers
+returns-in-Err-clause-offers c = record {
+  takes = inr (c.in-Err.ensures.err, ap (λ refused. record c.args.journal.now.tally { refused = refused }) c.count.ensures);
+  spoiling = c.in-Err.ensures.spoiling;
+  draws = c.in-Err.ensures.generator;
+}

@@ -1,0 +1,65 @@
+-- How a call agent serves: one turn behind another, until the end comes.
+use Rattle.std.specs.Prelude.{◌≡◌, ◌⊎◌, ⊤, ℕ, zero, suc, ◌-◌, ◌^◌, true, false, List, Option, Result, Ok, Err}
+use Rattle.std.specs.declared.net.socket_addr.SocketAddr.{SocketAddr}
+use Rattle.std.specs.declared.net.socket_addr.SocketAddrV4.{SocketAddrV4}
+use Rattle.surroundings.specs.declared.surroundings.Fault.{Fault}
+use Rattle.surroundings.specs.declared.surroundings.Told.{Told}
+use Rattle.switchboard.specs.declared.switchboard.Switchboard.{Switchboard}
+use Rattle.turns.specs.Schedule.{opening}
+use Rattle.turns.specs.declared.schedule.Schedule.{Schedule}
+use Rattle.live_agent.specs.declared.wire.Wire.{Wire}
+use Rattle.live_agent.specs.Turning.{DoesNext}
+use Rattle.live_agent.specs.Wiring.{AsksNext}
+
+-- what was recorded is written, and whether some of it waits to be taken is known by that; what was counted stays
+abbrev pub Writes : {S : Type 0} → Wire S → Wire S → Type 0
+Writes was is =
+    (is.journal.value.tally ≡ was.journal.value.tally) × (is ≡ record was { journal = is.journal; is_offering = is.is_offering })
+
+-- what comes next by a schedule has its turn; then what was recorded is written
+pub record TurnsOnce {S : Type 0}
+    (sockets : S → List SocketAddrV4) (sends : S → SocketAddrV4 → List ℕ → Result ⊤ Fault → S → Type 0)
+    (passes : S → Result ℕ Fault → Type 0) (tells : S → Told → Type 0)
+    (receives : S → Result (Option (SocketAddrV4 × ℕ)) Fault → List ℕ → S → Type 0)
+    (hears : S → Option (SocketAddr × ℕ) → List ℕ → S → Type 0) (answers : S → SocketAddr → List ℕ → S → Type 0)
+    (board : Switchboard) (was : Wire S) (schedule : Schedule) (now : Switchboard) (is : Wire S) (next : Schedule)
+    : Type 0 where
+  pub done : Wire S
+  pub asks : AsksNext passes tells board was schedule true next
+  pub does : DoesNext sockets sends passes tells receives hears answers board now was done schedule
+  pub writes : Writes done is
+
+-- so many turns, one behind another
+abbrev pub RunsTurns :
+    {S : Type 0} → (Switchboard → Wire S → Schedule → Switchboard → Wire S → Schedule → Type 0) → ℕ
+    → Switchboard → Wire S → Schedule → Switchboard → Wire S → Schedule → Type 0
+RunsTurns turns zero board was schedule now is next = (now ≡ board) × (is ≡ was) × (next ≡ schedule)
+RunsTurns {S} turns (suc count) board was schedule now is next =
+    (between : Switchboard) × (left : Wire S) × (behind : Schedule)
+    × RunsTurns turns count board was schedule between left behind × turns between left behind now is next
+
+-- behind them the end comes next, or there were as many as can be; or the clock fails
+abbrev pub StopsAt :
+    {S : Type 0} → (S → Result ℕ Fault → Type 0) → (S → Told → Type 0) → Result ⊤ Fault → ℕ → Switchboard → Wire S → Schedule → Type 0
+StopsAt passes tells (Ok done) count board wire schedule =
+    ((next : Schedule) × AsksNext passes tells board wire schedule false next) ⊎ (count ≡ 2 ^ 64 - 1)
+StopsAt passes tells (Err fault) count board wire schedule = passes wire.around (Err fault)
+
+pub record Runs {S : Type 0}
+    (passes : S → Result ℕ Fault → Type 0) (tells : S → Told → Type 0)
+    (turns : Switchboard → Wire S → Schedule → Switchboard → Wire S → Schedule → Type 0)
+    (result : Result ⊤ Fault) (board : Switchboard) (was : Wire S) (schedule : Schedule) (now : Switchboard) (is : Wire S)
+    : Type 0 where
+  pub count : ℕ
+  pub behind : Schedule
+  pub runs : RunsTurns turns count board was schedule now is behind
+  pub stops : StopsAt passes tells result count now is behind
+
+-- It begins at the moment that the clock tells: what the start took isn't a pause. Or the clock fails, and nothing is done.
+abbrev pub Serves :
+    {S : Type 0} → (S → Result ℕ Fault → Type 0) → (S → Told → Type 0)
+    → (Switchboard → Wire S → Schedule → Switchboard → Wire S → Schedule → Type 0)
+    → Result ⊤ Fault → Switchboard → Wire S → Switchboard → Wire S → Type 0
+Serves passes tells turns result board was now is =
+    ((start : ℕ) × passes was.around (Ok start) × Runs passes tells turns result board was (opening start) now is)
+    ⊎ ((fault : Fault) × passes was.around (Err fault) × (result ≡ Err fault) × (now ≡ board) × (is ≡ was))

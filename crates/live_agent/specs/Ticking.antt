@@ -1,0 +1,133 @@
+-- What a tick does: the clock of each agent goes on; what is given up by now is so, and what was put off is sent again, as lines are settled.
+use Rattle.std.specs.Prelude.{◌≡◌, ◌⊎◌, ⊤, ℕ, zero, suc, Bool, true, false, is_ok, is_some, List, length, IfOk, OnErr, Result, slice_get}
+use Rattle.std.specs.declared.net.socket_addr.SocketAddrV4.{SocketAddrV4}
+use Rattle.agent_texts.specs.Counts.{with_given_up}
+use Rattle.call_agent.specs.AgentStands.{AgentStays, AgentTook}
+use Rattle.call_agent.specs.Hearing.{hears}
+use Rattle.gateway_rules.specs.declared.refusal.Refusal.{Refusal}
+use Rattle.plain_machine.specs.Event.{tick}
+use Rattle.surroundings.specs.declared.surroundings.Fault.{Fault}
+use Rattle.transmission.specs.declared.output.OutDatagram.{OutDatagram}
+use Rattle.switchboard.specs.declared.switchboard.Switchboard.{Switchboard}
+use Rattle.switchboard.specs.AgentClock.{tick_to}
+use Rattle.switchboard.specs.Boards.{woken_at, WakesIn}
+use Rattle.switchboard.specs.GivingUp.{ended_in, GivesUp}
+use Rattle.switchboard.specs.Steps.{AtPlace, OthersStay, Ticks, Wakens}
+use Rattle.switchboard.specs.Tallying.{counted_if}
+use Rattle.live_agent.specs.declared.wire.TheConstants.{MOST_AT_ONCE}
+use Rattle.live_agent.specs.declared.wire.Wire.{Wire}
+use Rattle.live_agent.specs.Clock.{is_behind}
+use Rattle.live_agent.specs.Sending.{SendsOutputs}
+use Rattle.live_agent.specs.Settling.{SettlesAll}
+
+-- The clocks of agents
+
+-- that of the agent of the gateway at this place goes on, and what it says by that is sent, again; or it refuses that
+pub record TicksOne {S : Type 0} (sends : S → SocketAddrV4 → List ℕ → Result ⊤ Fault → S → Type 0) (to place : ℕ) (board : Switchboard) (was : Wire S)
+    (now : Switchboard) (is : Wire S)
+    : Type 0 where
+  pub outputs : Result (List OutDatagram) Refusal
+  pub went_on : Bool
+  pub took : AtPlace place (λ before behind. IfOk outputs (λ sent.
+      AgentTook before.agent.value (hears (tick (tick_to before.ticked to))) behind.agent.value sent)) board.gateways.items now.gateways.items
+  pub stays : AtPlace place (λ before behind. OnErr outputs (AgentStays before.agent.value behind.agent.value)) board.gateways.items now.gateways.items
+  pub own : AtPlace place (λ before behind. behind ≡ record before { agent = behind.agent; ticked = behind.ticked })
+      board.gateways.items now.gateways.items
+  pub clock : AtPlace place (Ticks (is_ok outputs) to) board.gateways.items now.gateways.items
+  pub others : OthersStay place board.gateways.items now.gateways.items
+  pub rest : now ≡ record board { gateways = now.gateways }
+  pub goes : SendsOutputs sends true outputs went_on was is
+
+-- those of so many agents, one behind another
+abbrev pub TicksEach : {S : Type 0} → (S → SocketAddrV4 → List ℕ → Result ⊤ Fault → S → Type 0) → ℕ → ℕ → Switchboard → Wire S → Switchboard → Wire S → Type 0
+TicksEach sends to zero board was now is = (now ≡ board) × (is ≡ was)
+TicksEach {S} sends to (suc place) board was now is =
+    (ticked : Switchboard) × (sent : Wire S) × TicksEach sends to place board was ticked sent × TicksOne sends to place ticked sent now is
+
+-- What is given up
+
+-- the next command to the gateway at this place that is given up by now is so, and counts, if there is one
+pub record GivesUpNext {S : Type 0} (found : Bool) (place : ℕ) (board : Switchboard) (was : Wire S) (now : Switchboard) (is : Wire S) : Type 0 where
+  pub is_found : found ≡ is_some (ended_in None (slice_get board.gateways.items place))
+  pub gives_up : GivesUp place board now
+  pub counts : is.journal.value.tally ≡ counted_if found with_given_up was.journal.value.tally
+  pub rest : is ≡ record was { journal = is.journal }
+
+-- so many are, one behind another; behind each lines are settled
+pub record GivesUpOne {S : Type 0} (sends : S → SocketAddrV4 → List ℕ → Result ⊤ Fault → S → Type 0) (place : ℕ) (board : Switchboard) (was : Wire S)
+    (now : Switchboard) (is : Wire S)
+    : Type 0 where
+  pub given : Switchboard
+  pub told : Wire S
+  pub gives_up : GivesUpNext true place board was given told
+  pub settles : SettlesAll sends given told now is
+
+abbrev pub GivesUpMany : {S : Type 0} → (S → SocketAddrV4 → List ℕ → Result ⊤ Fault → S → Type 0) → ℕ → ℕ → Switchboard → Wire S → Switchboard → Wire S → Type 0
+GivesUpMany sends place zero board was now is = (now ≡ board) × (is ≡ was)
+GivesUpMany {S} sends place (suc count) board was now is =
+    (given : Switchboard) × (told : Wire S) × GivesUpMany sends place count board was given told × GivesUpOne sends place given told now is
+
+-- all that are at this gateway: behind them none is found; after too many none is looked for any more at this tick
+abbrev pub GivesUpLast : {S : Type 0} → ℕ → ℕ → Switchboard → Wire S → Switchboard → Wire S → Type 0
+GivesUpLast count place board was now is =
+    GivesUpNext false place board was now is ⊎ ((count ≡ MOST_AT_ONCE) × (now ≡ board) × (is ≡ was))
+
+pub record GivesUpAll {S : Type 0} (sends : S → SocketAddrV4 → List ℕ → Result ⊤ Fault → S → Type 0) (place : ℕ) (board : Switchboard) (was : Wire S)
+    (now : Switchboard) (is : Wire S)
+    : Type 0 where
+  pub count : ℕ
+  pub given : Switchboard
+  pub told : Wire S
+  pub many : GivesUpMany sends place count board was given told
+  pub last : GivesUpLast count place given told now is
+
+-- at so many gateways, one behind another
+abbrev pub GivesUpEach : {S : Type 0} → (S → SocketAddrV4 → List ℕ → Result ⊤ Fault → S → Type 0) → ℕ → Switchboard → Wire S → Switchboard → Wire S → Type 0
+GivesUpEach sends zero board was now is = (now ≡ board) × (is ≡ was)
+GivesUpEach {S} sends (suc place) board was now is =
+    (given : Switchboard) × (told : Wire S) × GivesUpEach sends place board was given told × GivesUpAll sends place given told now is
+
+-- What was put off
+
+-- the next line of the gateway at this place to which a command is sent again by now waits to be settled, if there is one
+pub record WakesNext (found : Bool) (place : ℕ) (board now : Switchboard) : Type 0 where
+  pub is_found : found ≡ is_some (woken_at (slice_get board.gateways.items place))
+  pub line : WakesIn (woken_at (slice_get board.gateways.items place)) board.office now.office
+  pub gateway : AtPlace place Wakens board.gateways.items now.gateways.items
+  pub own : AtPlace place (λ before behind. behind ≡ record before { wakes = behind.wakes }) board.gateways.items now.gateways.items
+  pub others : OthersStay place board.gateways.items now.gateways.items
+  pub rest : now ≡ record board { gateways = now.gateways; office = now.office }
+
+-- so many do, one behind another
+abbrev pub WakesMany : ℕ → ℕ → Switchboard → Switchboard → Type 0
+WakesMany place zero board now = now ≡ board
+WakesMany place (suc count) board now = (woken : Switchboard) × WakesMany place count board woken × WakesNext true place woken now
+
+-- all that there are of this gateway: behind them none is found; after too many none is looked for any more at this tick
+pub record WakesAll (place : ℕ) (board now : Switchboard) : Type 0 where
+  pub count : ℕ
+  pub woken : Switchboard
+  pub many : WakesMany place count board woken
+  pub last : WakesNext false place woken now ⊎ ((count ≡ MOST_AT_ONCE) × (now ≡ woken))
+
+-- of so many gateways, one behind another
+abbrev pub WakesEach : ℕ → Switchboard → Switchboard → Type 0
+WakesEach zero board now = now ≡ board
+WakesEach (suc place) board now = (woken : Switchboard) × WakesEach place board woken × WakesAll place woken now
+
+-- All of it
+
+-- It is this moment, and the clock goes on to one: that of each agent first. Then it is known whether it is behind; what is given up by now
+-- is so, at each gateway; and lines of which something was put off that is sent again by now are settled.
+pub record TicksAll {S : Type 0} (sends : S → SocketAddrV4 → List ℕ → Result ⊤ Fault → S → Type 0) (moment to : ℕ) (board : Switchboard) (was : Wire S)
+    (now : Switchboard) (is : Wire S)
+    : Type 0 where
+  pub ticked : Switchboard
+  pub said : Wire S
+  pub given : Switchboard
+  pub told : Wire S
+  pub woken : Switchboard
+  pub ticks : TicksEach sends to (length board.gateways.items) board (record was { now = record was.now { clock = to } }) ticked said
+  pub gives_up : GivesUpEach sends (length ticked.gateways.items) ticked (record said { is_behind = is_behind moment to }) given told
+  pub wakes : WakesEach (length given.gateways.items) given woken
+  pub settles : SettlesAll sends woken told now is
