@@ -1,10 +1,23 @@
 //! Worked examples of what a desk waits for, of what its turns leave, and of how it ends, as theorems.
 #![tactic(auto)]
 
-ghost use Rattle.std.specs.Prelude.{◌≡◌, [], ◌∷◌, ℕ, true, false, List, Option, Some, None, Err, codes};
+ghost use Rattle.std.specs.Prelude.{◌≡◌, [], ◌∷◌, ℕ, true, false, tt, List, Option, Some, None, Ok, Err, codes};
 ghost use Rattle.std.specs.declared.net.socket_addr.SocketAddrV4.{SocketAddrV4};
 ghost use Rattle.std.specs.Global.{Box};
 ghost use Rattle.agent_texts.specs.declared.journal.Journal.{Journal};
+ghost use Rattle.agent_texts.specs.declared.tally.Tally.{Tally};
+ghost use Rattle.agent_texts.specs.Counts.{with_given_up, with_notification};
+ghost use Rattle.bad_network.specs.declared.network.BadNetwork.{BadNetwork};
+ghost use Rattle.bad_network.specs.declared.packet.Packet.{Packet};
+ghost use Rattle.bad_network.specs.declared.packet.Way.TheVariants.{In, Out};
+ghost use Rattle.bad_network.specs.Drawing.{after_draws};
+ghost use Rattle.call_agent.specs.declared.issuing.Issued.{Issued};
+ghost use Rattle.call_agent.specs.declared.issuing.IssueFault.{IssueFault};
+ghost use Rattle.gateway_rules.specs.declared.refusal.Refusal.{Refusal};
+ghost use Rattle.load_bench.specs.Due.{bench_due};
+ghost use Rattle.surroundings.specs.declared.surroundings.Fault.{Fault};
+ghost use Rattle.transmission.specs.declared.output.OutDatagram.{OutDatagram};
+ghost use Rattle.turns.specs.declared.schedule.Schedule.{Schedule};
 ghost use Rattle.mg_bytes.specs.Lines.{cut, line_of};
 ghost use Rattle.live_outlets.specs.declared.written.Written.{Written};
 ghost use Rattle.switchboard.specs.declared.gateway.Gateway.{Gateway};
@@ -12,17 +25,22 @@ ghost use Rattle.live_agent.specs.declared.loading.Load.{Load};
 ghost use Rattle.live_agent.specs.declared.session.Request.TheVariants as requests;
 ghost use Rattle.switchboard.specs.declared.switchboard.Switchboard.{Switchboard};
 ghost use Rattle.live_agent.specs.declared.wire.Wire.{Wire};
-ghost use Rattle.live_agent.specs.AnyAround.{no_sockets, receives_any, hears_any, answers_any};
-ghost use Rattle.live_agent.specs.Datagrams.{with_stranger, DealsIf, HearsBy, HearsDatagram, HearsOne, HearsPacket, HearsTexts, SettlesIf, TakesEach, TakesElse, TakesFound, TakesReceived};
+ghost use Rattle.live_agent.specs.AnyAround.{no_sockets, sends_any, receives_any, hears_any, answers_any};
+ghost use Rattle.live_agent.specs.Datagrams.{with_stranger, DealsIf, HearsBy, HearsDatagram, HearsOne, HearsPacket, HearsTexts, SettlesIf, StepsAt, TakesEach, TakesElse, TakesFound, TakesLooked, TakesNext, TakesReceived};
 ghost use Rattle.switchboard.specs.Hearing.{HearsText};
 ghost use Rattle.switchboard.specs.Dues.{FallsDueAt};
 ghost use Rattle.live_agent.specs.Ending.{counted_in, EndsWith};
-ghost use Rattle.live_agent.specs.Sending.{SendsAll, SendsOver, SettlesLines};
-ghost use Rattle.live_agent.specs.Turning.{line_request, first_request, DoesRequest, DoesTurn, TakesTyped, TellsCounts, TicksOver};
+ghost use Rattle.live_agent.specs.Handing.{comes_in, HandsFirst, HandsLast, Leaves, Offers, OffersTo, SendsEachOn, SendsOn, TakesOffer};
+ghost use Rattle.live_agent.specs.Sending.{GoesOut, SendsAll, SendsCommand, SendsOne, SendsOutputs, SendsOver, SettlesLines};
+ghost use Rattle.live_agent.specs.Serving.{RunsTurns, StopsAt, Writes};
+ghost use Rattle.live_agent.specs.Settling.{SendsEach, SendsIssued, SettlesBy, ShowsEach, ShowsOne};
+ghost use Rattle.live_agent.specs.Tallying.{leaving_counted, with_refusal, with_send_fault};
+ghost use Rattle.live_agent.specs.Ticking.{GivesUpEach, GivesUpLast, GivesUpMany, GivesUpNext, TicksEach, TicksOne, WakesAll, WakesEach, WakesMany, WakesNext};
+ghost use Rattle.live_agent.specs.Turning.{end_of, line_request, first_request, DoesRequest, DoesTurn, EndsBy, HearsTelephones, Notes, PassesLoad, TakesTyped, TellsCounts, TicksOver, Waits};
 ghost use Rattle.switchboard.specs.Typed.{typed_text};
 ghost use Rattle.switchboard.specs.TypedCommands.{IssuesCommand, IssuesMeant, IssuesThere};
-ghost use Rattle.live_agent.specs.TypedCommands.{fault_text, AnswersAll, AnswersIssued, IsTypedNext};
-ghost use Rattle.live_agent.specs.Wiring.{longest_until, FallsDueFirst, IsWaitedFor};
+ghost use Rattle.live_agent.specs.TypedCommands.{fault_text, issued_text, TellsIssued, AnswersAll, AnswersIssued, IsTypedNext};
+ghost use Rattle.live_agent.specs.Wiring.{longest_until, FallsDueFirst, FallsDueOver, IsWaitedFor};
 
 use live_ends::CommonEnding;
 use switchboard::TypedFault;
@@ -31,14 +49,16 @@ use turns::Turn;
 /// What is waited for, and how long.
 pub fn what_is_waited_for_has_examples()
     // What the network hands out, what is to be done of a load, what falls due at a gateway: the earliest.
-    ensures network { FallsDueFirst [] None (Some 300) (Some 300) }
-    ensures load { (load : Box Load) → FallsDueFirst [] (Some load) (Some 300) (Some 200) }
+    ensures network { FallsDueFirst 700 [] None (Some 300) (Some 300) }
+    ensures load { (load : Box Load) → bench_due 250 load.value.bench.value ≡ 280 → FallsDueFirst 250 [] (Some load) (Some 300) (Some 280) }
+    ensures network_first { (load : Box Load) → bench_due 250 load.value.bench.value ≡ 320 → FallsDueFirst 250 [] (Some load) (Some 300) (Some 300) }
+    ensures load_alone { (load : Box Load) → bench_due 250 load.value.bench.value ≡ 320 → FallsDueOver 250 (Some load) None (Some 320) }
     ensures gateway { (gateway : Gateway) → FallsDueAt gateway (Some 100) →
-        FallsDueFirst (gateway ∷ []) None (Some 300) (Some 100) }
-    ensures nothing { FallsDueFirst [] None None None }
+        FallsDueFirst 700 (gateway ∷ []) None (Some 300) (Some 100) }
+    ensures nothing { FallsDueFirst 700 [] None None None }
     // Nothing where anything is there.
-    ensures there { (gateways : List Gateway) → IsWaitedFor true gateways None (Some 300) None }
-    ensures not_there { IsWaitedFor false [] None (Some 300) (Some 300) }
+    ensures there { (gateways : List Gateway) → IsWaitedFor true 700 gateways None (Some 300) None }
+    ensures not_there { IsWaitedFor false 700 [] None (Some 300) (Some 300) }
     // A wait is no longer than to what falls due, and a ms at least.
     ensures until { longest_until 1000 None 400 ≡ 600 }
     ensures sooner { longest_until 1000 (Some 500) 400 ≡ 100 }
@@ -66,29 +86,39 @@ pub fn what_is_typed_has_examples()
     ensures nothing { first_request true [] ≡ requests.Nothing }
     ensures told { (journal : Journal) (text : List ℕ) → text ≡ counted_in journal → TellsCounts journal text }
     ensures nothing_done { (board now : Switchboard) (was is : Wire ℕ) →
-        DoesRequest answers_any requests.Nothing board now was is → is ≡ was }
+        DoesRequest sends_any answers_any requests.Nothing board now was is → is ≡ was }
     ensures ends { (board now : Switchboard) (was is : Wire ℕ) →
-        DoesRequest answers_any requests.Stop board now was is → is.end ≡ Some 0 }
+        DoesRequest sends_any answers_any requests.Stop board now was is → is.end ≡ Some 0 }
     ensures goes_on { (board now : Switchboard) (was is : Wire ℕ) →
-        DoesRequest answers_any requests.StopFromAfar board now was is → is.end ≡ was.end }
+        DoesRequest sends_any answers_any requests.StopFromAfar board now was is → is.end ≡ was.end }
 {}
 
 /// What turns leave of the board.
 pub fn what_turns_leave_has_examples()
     ensures looks { (board now : Switchboard) (was is : Wire ℕ) →
-        DoesTurn no_sockets receives_any hears_any answers_any Turn.Look board now was is → (now ≡ board) × (is.lines ≡ was.lines) }
+        DoesTurn no_sockets sends_any receives_any hears_any answers_any 700 Turn.Look board now was is → (now ≡ board) × (is.lines ≡ was.lines) }
     ensures waits { (board now : Switchboard) (was is : Wire ℕ) →
-        DoesTurn no_sockets receives_any hears_any answers_any (Turn.Wait 700) board now was is → (now ≡ board) × (is.end ≡ was.end) }
+        DoesTurn no_sockets sends_any receives_any hears_any answers_any 700 (Turn.Wait 700) board now was is → (now ≡ board) × (is.end ≡ was.end) }
     ensures notes { (pause : _) (board now : Switchboard) (was is : Wire ℕ) →
-        DoesTurn no_sockets receives_any hears_any answers_any (Turn.Note pause) board now was is → (now ≡ board) × (is.around ≡ was.around) }
+        DoesTurn no_sockets sends_any receives_any hears_any answers_any 700 (Turn.Note pause) board now was is → (now ≡ board) × (is.around ≡ was.around) }
     ensures ticks { (board now : Switchboard) (was is : Wire ℕ) →
-        DoesTurn no_sockets receives_any hears_any answers_any (Turn.Tick 700) board now was is → now.notifying ≡ board.notifying }
+        DoesTurn no_sockets sends_any receives_any hears_any answers_any 700 (Turn.Tick 700) board now was is → now.notifying ≡ board.notifying }
     ensures visits { (board now : Switchboard) (was is : Wire ℕ) →
-        DoesTurn no_sockets receives_any hears_any answers_any Turn.Visit board now was is → (now ≡ board) × (is ≡ was) }
+        DoesTurn no_sockets sends_any receives_any hears_any answers_any 700 Turn.Visit board now was is → (now ≡ board) × (is ≡ was) }
     ensures ends { (board now : Switchboard) (was is : Wire ℕ) →
-        DoesTurn no_sockets receives_any hears_any answers_any Turn.End board now was is → (now ≡ board) × (is ≡ was) }
+        DoesTurn no_sockets sends_any receives_any hears_any answers_any 700 Turn.End board now was is → (now ≡ board) × (is ≡ was) }
     ensures load { (load : Box Load) (board now : Switchboard) (was is : Wire ℕ) →
-        TakesTyped no_sockets hears_any answers_any (Some load) board now was is → now ≡ board }
+        TakesTyped no_sockets sends_any hears_any answers_any (Some load) board now was is → (now ≡ board) × HearsTelephones was is }
+    ensures telephones { (was is : Wire ℕ) → HearsTelephones was is → (is.lines ≡ was.lines) × (is.network ≡ was.network) × (is.journal ≡ was.journal) }
+    ensures over { end_of true None ≡ Some 0 }
+    ensures not_over { end_of false (Some 900) ≡ Some 900 }
+    // A wait that fails counts once; a pause is noted in the log alone.
+    ensures fails { (was is : Wire ℕ) → Waits was is → is.journal.value.told ≡ was.journal.value.told }
+    ensures pauses { (was is : Wire ℕ) → Notes was is → is.journal.value.tally ≡ was.journal.value.tally }
+    // Where no load is made, nothing comes to its end by a tick; where one is, its end is at once.
+    ensures none_is_over { (is : Option ℕ) → EndsBy None (Some 900) is → is ≡ Some 900 }
+    ensures passes_none { (was is : Wire ℕ) → PassesLoad None was is → is ≡ was }
+    ensures passes { (load : Box Load) (was is : Wire ℕ) → PassesLoad (Some load) was is → is.lines ≡ was.lines }
     ensures settles { (board now : Switchboard) → SettlesLines board now →
         (now.stations ≡ board.stations) × (now.notifying ≡ board.notifying) }
 {}
@@ -96,32 +126,131 @@ pub fn what_turns_leave_has_examples()
 /// What a datagram does.
 pub fn what_a_datagram_does_has_examples()
     // A stranger's counts, and does nothing.
-    ensures stranger { (source : SocketAddrV4) (board now : Switchboard) (was is : Wire ℕ) → HearsBy None source [] board was now is →
+    ensures stranger { (source : SocketAddrV4) (board now : Switchboard) (was is : Wire ℕ) → HearsBy sends_any None source [] board was now is →
         (now ≡ board) × (is.journal.value.tally ≡ with_stranger was.journal.value.tally) }
     // What has no text is heard so; of two the first is heard before the other.
-    ensures no_text { (board now : Switchboard) (was is : Wire ℕ) → HearsTexts 0 [] board was now is → (now ≡ board) × (is ≡ was) }
-    ensures two { (board now : Switchboard) (was is : Wire ℕ) → HearsTexts 0 (codes "a" ∷ codes "b" ∷ []) board was now is →
-        (heard : Switchboard) × (sent : Wire ℕ) × HearsOne 0 (codes "a") board was heard sent }
-    ensures text { (board now : Switchboard) (was is : Wire ℕ) → HearsOne 0 [] board was now is →
+    ensures no_text { (board now : Switchboard) (was is : Wire ℕ) → HearsTexts sends_any 0 [] board was now is → (now ≡ board) × (is ≡ was) }
+    ensures two { (board now : Switchboard) (was is : Wire ℕ) → HearsTexts sends_any 0 (codes "a" ∷ codes "b" ∷ []) board was now is →
+        (heard : Switchboard) × (sent : Wire ℕ) × HearsOne sends_any 0 (codes "a") board was heard sent }
+    ensures text { (board now : Switchboard) (was is : Wire ℕ) → HearsOne sends_any 0 [] board was now is →
         (heard : Switchboard) × (told : _) × HearsText 0 [] board was.journal.value heard told }
+    // Its agent takes it, or refuses it: nothing else of the board changes, nor of the wire.
+    ensures steps { (source : SocketAddrV4) (outputs : _) (board now : Switchboard) → StepsAt 0 source [] outputs board now → now.office ≡ board.office }
     // Where its agent refused it, no text is heard, and nothing is taken.
-    ensures refused { (board now : Switchboard) (was is : Wire ℕ) → DealsIf false 0 [] board was now is → (now ≡ board) × (is ≡ was) }
+    ensures refused { (board now : Switchboard) (was is : Wire ℕ) → DealsIf sends_any false 0 [] board was now is → (now ≡ board) × (is ≡ was) }
     // Where a line told nothing none is settled.
-    ensures nothing { (board now : Switchboard) (was is : Wire ℕ) → SettlesIf false board was now is → (now ≡ board) × (is ≡ was) }
-    ensures something { (board now : Switchboard) (was is : Wire ℕ) → SettlesIf true board was now is → SettlesLines board now }
-    ensures no_line { (board now : Switchboard) (was is : Wire ℕ) → TakesEach 0 0 board was now is → now ≡ board }
+    ensures nothing { (board now : Switchboard) (was is : Wire ℕ) → SettlesIf sends_any false board was now is → (now ≡ board) × (is ≡ was) }
+    ensures something { (board now : Switchboard) (was is : Wire ℕ) → SettlesIf sends_any true board was now is → SettlesLines board now }
+    ensures counts_none { (board now : Switchboard) (was is : Wire ℕ) (takes : TakesNext sends_any 0 0 board was now is) → takes.found ≡ false →
+        takes.told.journal.value.tally ≡ was.journal.value.tally }
+    ensures counts { (board now : Switchboard) (was is : Wire ℕ) (takes : TakesNext sends_any 0 0 board was now is) → takes.found ≡ true →
+        takes.told.journal.value.tally ≡ with_notification was.journal.value.tally }
+    ensures no_line { (board now : Switchboard) (was is : Wire ℕ) → TakesEach sends_any 0 0 board was now is → now ≡ board }
     // Where the network handed one over the sockets aren't looked for one; where it handed over none, nothing is heard.
-    ensures handed { (board now : Switchboard) (was is : Wire ℕ) → TakesElse receives_any true board was now is → is ≡ was }
-    ensures not_handed { (board now : Switchboard) (was is : Wire ℕ) → HearsPacket None board was now is → (now ≡ board) × (is ≡ was) }
-    ensures looks { (board now : Switchboard) (was is : Wire ℕ) → TakesFound None [] board was now is → (now ≡ board) × (is ≡ was) }
+    ensures handed { (board now : Switchboard) (was is : Wire ℕ) → TakesElse sends_any receives_any true board was now is → is ≡ was }
+    ensures not_handed { (board now : Switchboard) (was is : Wire ℕ) → HearsPacket sends_any None board was now is → (now ≡ board) × (is ≡ was) }
+    ensures looks { (board now : Switchboard) (was is : Wire ℕ) → TakesFound sends_any None [] board was now is → (now ≡ board) × (is ≡ was) }
+    ensures looks_for_one { (board now : Switchboard) (was is : Wire ℕ) (looks : TakesLooked sends_any receives_any board was now is) →
+        looks.outcome ≡ Ok None → looks.looked.read ≡ was.read }
     // Without such a network it is heard at once.
     ensures at_once { (source : SocketAddrV4) (board now : Switchboard) (was is : Wire ℕ) →
-        TakesReceived None source [] board was now is → HearsDatagram source [] board was now is }
+        TakesReceived sends_any None source [] board was now is → HearsDatagram sends_any source [] board was now is }
     // Nothing of what was typed is lost by what is sent, nor of what was read, and the end hasn't come by it.
     ensures sends { (was is : Wire ℕ) → SendsOver was is → (is.lines ≡ was.lines) × (is.read ≡ was.read) × (is.end ≡ was.end) }
-    ensures sends_none { (was is : Wire ℕ) → SendsAll false [] was is → is ≡ was }
-    ensures ticks { (was is : Wire ℕ) → TicksOver 700 was is → (is.lines ≡ was.lines) × (is.read ≡ was.read) }
-    ensures clock { (was is : Wire ℕ) → TicksOver 700 was is → is.now.clock ≡ 700 }
+    ensures sends_none { (was is : Wire ℕ) → SendsAll sends_any false [] was is → is ≡ was }
+    ensures ticks { (was is : Wire ℕ) → TicksOver 900 700 was is → (is.lines ≡ was.lines) × (is.read ≡ was.read) }
+    ensures clock { (was is : Wire ℕ) → TicksOver 900 700 was is → is.now.clock ≡ 700 }
+    ensures behind { (was is : Wire ℕ) → TicksOver 900 700 was is → is.is_behind ≡ true }
+    ensures not_behind { (was is : Wire ℕ) → TicksOver 800 700 was is → is.is_behind ≡ false }
+{}
+
+/// What a network hands over, and what is offered to it.
+pub fn what_a_network_hands_over_has_examples()
+    // Without one nothing is handed out, and nothing waits.
+    ensures no_network { (packet : Option Packet) (is : Option BadNetwork) → HandsFirst 700 None packet is → (packet ≡ None) × (is ≡ None) }
+    ensures gone { (was : BadNetwork) (packet : Option Packet) → HandsFirst 700 (Some was) packet None → ⊥ }
+    // The first that waits, where it is due by now; else none, and all wait on.
+    ensures first { (was is : BadNetwork) (one two : Packet) → was.waiting.items ≡ one ∷ two ∷ [] → one.due ≡ 700 → is.waiting.items ≡ two ∷ [] →
+        is.spoiling ≡ was.spoiling → is.generator ≡ was.generator → HandsFirst 700 (Some was) (Some one) (Some is) }
+    ensures not_due { (was : BadNetwork) (one : Packet) → was.waiting.items ≡ one ∷ [] → one.due ≡ 701 → HandsFirst 700 (Some was) None (Some was) }
+    ensures not_the_other { (was is : BadNetwork) (one two : Packet) → was.waiting.items ≡ one ∷ [] → one.due ≡ 700 →
+        HandsFirst 700 (Some was) (Some two) (Some is) → two ≡ one }
+    // It comes in where it goes that way; one that goes out is sent, and isn't handed over.
+    ensures comes { comes_in In ≡ true }
+    ensures goes { comes_in Out ≡ false }
+    ensures comes_in_last { (packet : Packet) (was is : Wire ℕ) → HandsLast 3 (Some packet) was is → packet.way ≡ In }
+    ensures goes_out_before { (packet : Packet) (was is : Wire ℕ) → SendsOn sends_any packet was is → packet.way ≡ Out }
+    ensures none_out { (was is : Wire ℕ) → SendsEachOn sends_any [] was is → is ≡ was }
+    ensures one_out { (packet : Packet) (was is : Wire ℕ) → SendsEachOn sends_any (packet ∷ []) was is → (sent : Wire ℕ) × SendsOn sends_any packet was sent }
+    // What is offered to it has its copies wait, and counts as what it becomes; without one nothing counts.
+    ensures offered { (was : BadNetwork) (counted : Tally) → TakesOffer [] was was.waiting.items counted (with_refusal counted) }
+    ensures offered_nobody { (peer : SocketAddrV4) (is : Option BadNetwork) (counted counts : Tally) → OffersTo In peer [] 700 None is counted counts →
+        (is ≡ None) × (counts ≡ counted) }
+    ensures draws { (peer : SocketAddrV4) (was is : BadNetwork) (counted counts : Tally) → Offers Out peer [] 700 was is counted counts →
+        is.generator ≡ after_draws was.generator }
+    // What leaves doesn't count; what doesn't counts as a fault.
+    ensures leaves { (tally : Tally) → leaving_counted (Ok tt) tally ≡ tally }
+    ensures stays { (fault : Fault) (tally : Tally) → leaving_counted (Err fault) tally ≡ with_send_fault tally }
+    ensures handed { (to : SocketAddrV4) (was is : Wire ℕ) → Leaves (λ before peer bytes outcome after. peer ≡ to) to [] was is → is.network ≡ was.network }
+{}
+
+/// What is sent, and how lines are settled.
+pub fn what_is_sent_has_examples()
+    // A datagram goes to whom it is for, as it is; again or for the first time.
+    ensures nobody_else { (to other : SocketAddrV4) (was is : Wire ℕ) → was.network ≡ None →
+        SendsOne (λ before peer bytes outcome after. peer ≡ other) true to [] was is → to ≡ other }
+    ensures as_it_is { (to : SocketAddrV4) (was is : Wire ℕ) → was.network ≡ None →
+        SendsOne (λ before peer bytes outcome after. bytes ≡ codes "a") true to (codes "b") was is → codes "b" ≡ codes "a" }
+    ensures to_the_network { (to : SocketAddrV4) (network : BadNetwork) (was is : Wire ℕ) → GoesOut (λ before peer bytes outcome after. ⊥) to [] (Some network) was is →
+        is.around ≡ was.around }
+    ensures all { (datagram : OutDatagram) (was is : Wire ℕ) → SendsAll sends_any true (datagram ∷ []) was is →
+        (sent : Wire ℕ) × SendsOne sends_any true datagram.to datagram.bytes was sent }
+    ensures went_on { (was is : Wire ℕ) (went_on : _) → SendsOutputs sends_any true (Ok []) went_on was is → (went_on ≡ true) × (is ≡ was) }
+    ensures refused { (refusal : Refusal) (was is : Wire ℕ) (went_on : _) → SendsOutputs sends_any true (Err refusal) went_on was is →
+        (went_on ≡ false) × (is.journal.value.tally ≡ with_refusal was.journal.value.tally) }
+    ensures command { (datagram : OutDatagram) (was is : Wire ℕ) → SendsCommand sends_any datagram was is →
+        (counted : Wire ℕ) × SendsOne sends_any false datagram.to datagram.bytes counted is }
+    // Lines are settled one behind another, each is shown before any is sent something; while the clock is behind none is.
+    ensures behind { (board now : Switchboard) (was is : Wire ℕ) → SettlesBy sends_any true board was now is → (now ≡ board) × (is ≡ was) }
+    ensures none_shown { (board now : Switchboard) (was is : Wire ℕ) → ShowsEach 0 board was now is → (now ≡ board) × (is ≡ was) }
+    ensures one_shown { (board now : Switchboard) (was is : Wire ℕ) → ShowsEach 1 board was now is → (shown : Switchboard) × (told : Wire ℕ)
+        × (shown ≡ board) × (told ≡ was) × ShowsOne 0 shown told now is }
+    ensures none_sent { (board now : Switchboard) (was is : Wire ℕ) → SendsEach sends_any 0 board was now is → (now ≡ board) × (is ≡ was) }
+    ensures not_issued { (was is : Wire ℕ) → SendsIssued sends_any (Ok None) was is → is ≡ was }
+    ensures refused_too { (fault : IssueFault) (was is : Wire ℕ) → SendsIssued sends_any (Err fault) was is →
+        is.journal.value.tally ≡ with_refusal was.journal.value.tally }
+    ensures issued { (issued : Issued) (was is : Wire ℕ) → SendsIssued sends_any (Ok (Some issued)) was is → SendsCommand sends_any issued.datagram was is }
+{}
+
+/// What a tick does.
+pub fn what_a_tick_does_has_examples()
+    ensures no_agent { (board now : Switchboard) (was is : Wire ℕ) → TicksEach sends_any 700 0 board was now is → (now ≡ board) × (is ≡ was) }
+    ensures again { (board now : Switchboard) (was is : Wire ℕ) (ticks : TicksOne sends_any 700 0 board was now is) →
+        SendsOutputs sends_any true ticks.outputs ticks.went_on was is }
+    // What is given up counts; behind each lines are settled, and behind the last none is found.
+    ensures none_given_up { (board now : Switchboard) (was is : Wire ℕ) → GivesUpMany sends_any 0 0 board was now is → (now ≡ board) × (is ≡ was) }
+    ensures counts { (board now : Switchboard) (was is : Wire ℕ) → GivesUpNext true 0 board was now is →
+        is.journal.value.tally ≡ with_given_up was.journal.value.tally }
+    ensures counts_none { (board now : Switchboard) (was is : Wire ℕ) → GivesUpNext false 0 board was now is → is.journal.value.tally ≡ was.journal.value.tally }
+    ensures ends { (board now : Switchboard) (was is : Wire ℕ) → GivesUpLast 3 0 board was now is → GivesUpNext false 0 board was now is }
+    ensures no_gateway { (board now : Switchboard) (was is : Wire ℕ) → GivesUpEach sends_any 0 board was now is → (now ≡ board) × (is ≡ was) }
+    // The next line waits to be settled, until none is found.
+    ensures none_woken { (board now : Switchboard) → WakesMany 0 0 board now → now ≡ board }
+    ensures no_gateway_woken { (board now : Switchboard) → WakesEach 0 board now → now ≡ board }
+    ensures all_woken { (board now : Switchboard) (wakes : WakesAll 0 board now) → wakes.count ≡ 3 → WakesNext false 0 wakes.woken now }
+{}
+
+/// How a desk serves, a turn behind another.
+pub fn how_a_desk_serves_has_examples()
+    ensures no_turn { (board now : Switchboard) (was is : Wire ℕ) (schedule next : Schedule) →
+        RunsTurns (λ b w s n i t. ⊥) 0 board was schedule now is next → (now ≡ board) × (is ≡ was) × (next ≡ schedule) }
+    ensures one_turn { (board now : Switchboard) (was is : Wire ℕ) (schedule next : Schedule) →
+        RunsTurns (λ b w s n i t. t ≡ schedule) 1 board was schedule now is next → next ≡ schedule }
+    // What was recorded is written behind each: that counts nothing, and leaves what was typed.
+    ensures writes { (was is : Wire ℕ) → Writes was is → (is.journal.value.tally ≡ was.journal.value.tally) × (is.lines ≡ was.lines) }
+    // It stops where the clock fails, and not where it tells a moment.
+    ensures fails { (fault : Fault) (board : Switchboard) (wire : Wire ℕ) (schedule : Schedule) →
+        StopsAt (λ around outcome. outcome ≡ Ok 5) (λ around told. ⊥) (Err fault) 3 board wire schedule → ⊥ }
 {}
 
 /// What a command does that was typed.
@@ -138,7 +267,12 @@ pub fn what_a_typed_command_does_has_examples()
     ensures not_known { fault_text TypedFault.Unknown ≡ codes "? VERB NAME, counts, or stop\n" }
     ensures memory { fault_text TypedFault.OutOfMemory ≡ codes "! 1 OutOfMemory\n" }
     ensures answered { (was is : Wire ℕ) → AnswersAll answers_any [] was is → is.journal ≡ was.journal }
-    ensures refused { (fault : TypedFault) (was is : Wire ℕ) → AnswersIssued answers_any (Err fault) was is →
+    ensures id { issued_text 7 ≡ codes "issued 7\n" }
+    ensures told { TellsIssued 12 (codes "issued 12\n") }
+    ensures not_told { TellsIssued 12 (codes "! 1 OutOfMemory\n") }
+    ensures sent { (issued : Issued) (was is : Wire ℕ) → AnswersIssued sends_any answers_any (Ok issued) was is →
+        (sent : Wire ℕ) × SendsCommand sends_any issued.datagram was sent }
+    ensures refused { (fault : TypedFault) (was is : Wire ℕ) → AnswersIssued sends_any answers_any (Err fault) was is →
         AnswersAll answers_any (fault_text fault) was is }
     ensures nothing { (text : List ℕ) → IsTypedNext [] text → text ≡ [] }
     ensures next { (piece rest : List ℕ) → cut rest ≡ [] → IsTypedNext (piece ∷ []) (typed_text (line_of piece) rest) }
