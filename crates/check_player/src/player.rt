@@ -396,11 +396,11 @@ impl<'a> Player<'a> {
         let (first, second) = (step.first, step.second);
         let answer = self.inbox.last();
         match step.asks {
-            Asks::Has => Ok(is_as_due(alloc, &self.names, answer, first, second, false)?),
-            Asks::Unlike => Ok(is_as_due(alloc, &self.names, answer, first, second, true)?),
+            Asks::Has => is_as_due(alloc, &self.names, answer, first, second, false),
+            Asks::Unlike => is_as_due(alloc, &self.names, answer, first, second, true),
             Asks::Tells => Ok(is_told(answer, step.rest.as_bytes())),
-            Asks::Keep => Ok(keep_value(alloc, &mut self.names, answer, first, second)?),
-            Asks::Differ => Ok(self.names.differ(first, second)?),
+            Asks::Keep => keep_value(alloc, &mut self.names, answer, first, second),
+            Asks::Differ => self.names.differ(first, second),
             _ => Ok(false),
         }
     }
