@@ -87,7 +87,7 @@ impl<'a, R: Net + Clock> Live<'a, R> {
         alloc: Global,
         mut socket: UdpSocket,
         mut commands: UdpSocket,
-    ) -> Result<Live<'a, R>, ErrorKind> {
+    ) -> Result<Box<Live<'a, R>>, ErrorKind> {
         let own = [address_of(&socket), address_of(&commands)];
         let ready = match Readiness::watch(rt, alloc, &mut socket, &mut commands) {
             Ok(ready) => ready,
@@ -100,14 +100,18 @@ impl<'a, R: Net + Clock> Live<'a, R> {
             Ok(clock) => clock,
             Err(fault) => return Err(fault.kind()),
         };
-        Ok(Live {
+        let live = Live {
             rt,
             socket,
             commands,
             own,
             ready,
             clock,
-        })
+        };
+        match boxed(alloc, live) {
+            Ok(live) => Ok(live),
+            Err(_) => Err(ErrorKind::OutOfMemory),
+        }
     }
 
     /// The sockets that words ask for, for datagrams and for lines of who types, and the clock at moment 0. An error says how the program
@@ -126,13 +130,9 @@ impl<'a, R: Net + Clock> Live<'a, R> {
             Ok(commands) => commands,
             Err(fault) => return Err(lines.refused(fault.kind())),
         };
-        let live = match Live::watch(rt, alloc, socket, commands) {
-            Ok(live) => live,
-            Err(kind) => return Err(datagrams.refused(kind)),
-        };
-        match boxed(alloc, live) {
+        match Live::watch(rt, alloc, socket, commands) {
             Ok(live) => Ok(live),
-            Err(_) => Err(CommonEnding::OutOfMemory),
+            Err(kind) => Err(datagrams.refused(kind)),
         }
     }
 }
