@@ -11,7 +11,7 @@ use Rattle.turns.specs.declared.turn.Turn.{Turn}
 use Rattle.turns.specs.declared.turn.Turn.TheVariants.{Tick}
 use Rattle.turns.specs.Schedule.{next_of}
 use Rattle.turns.proofs.ScheduleLaws.{ticks_within}
-use Rattle.live_ends.specs.declared.now.Now.{Now}
+use Rattle.live_outlets.specs.declared.now.Now.{Now}
 use Rattle.live_play.specs.Running.{Ran, TakesBy}
 use Rattle.live_gateway.specs.Desk.{Standing, with_input}
 use Rattle.live_play.specs.Readable.{first_unread}
