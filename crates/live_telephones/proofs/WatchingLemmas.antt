@@ -68,6 +68,11 @@ still_watch answers setup m (suc line) before was after is (between, mid, some, 
 pub unasked : (gateway : GatewayState) (was : Watch) → IsUnasked gateway was was
 unasked gateway was = record { rest = refl; kept = λ events stands watched. refl }
 
+-- whatever failed
+pub err_if : {T E P : Type 0} (result : Result T E) → P → IfErr result (λ (e : E). P)
+err_if (Ok value) p = tt
+err_if (Err fault) p = p
+
 -- behind a look at the lines, which who watches doesn't have
 pub unasked_behind : (gateway : GatewayState) (was is : Watch) → is ≡ record was { watchers = is.watchers; seen = is.seen } → is.watchers ≡ was.watchers
     → ((events : List GatewayEvent) → Stands gateway events → is_watched (plain gateway.setup events).now was.watchers.places ≡ true → is.seen ≡ was.seen)

@@ -1,6 +1,9 @@
-use Rattle.std.proofs.Common.{refl, ap, []}
+use Rattle.std.proofs.Common.{◌≡◌, true, refl, sym, ap, subst, []}
 use Rattle.line_changes.specs.Telling.{Told}
 use Rattle.live_telephones.specs.declared.watch.Watch.{Watch}
+use Rattle.line_changes.specs.Watching.{is_watched}
+use Rattle.plain_machine.specs.declared.setup.Setup.{Setup}
+use Rattle.plain_machine.specs.Lists.{plain}
 use Rattle.live_telephones.proofs.Computing.{on_examples}
 use Rattle.live_telephones.proofs.watch_examples.who_begins_to_watch_has_examples.Goals as goal
 
@@ -23,4 +26,5 @@ returns-clause-unasked c = λ gateway was is only. (ap (λ (w : Watch). w.told) 
 
 pub returns-clause-goes_on_unasked : goal.returns-clause-goes_on_unasked
 unfolding on_examples
-returns-clause-goes_on_unasked c = λ gateway was is setup stands places only. only.kept [] stands (rw (setup, places) refl)
+returns-clause-goes_on_unasked c = λ gateway was is setup stands places only. only.kept [] stands
+    (subst (λ (s : Setup). is_watched (plain s []).now was.watchers.places ≡ true) (sym setup) (rw places refl))

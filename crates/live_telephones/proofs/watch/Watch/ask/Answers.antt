@@ -4,7 +4,7 @@ use Rattle.std.specs.declared.net.socket_addr.SocketAddrV4.{SocketAddrV4}
 use Rattle.line_changes.specs.declared.watchers.Watchers.{Watchers}
 use Rattle.plain_machine.specs.Lists.{plain}
 use Rattle.live_telephones.specs.Watching.{AnswersWatch}
-use Rattle.live_telephones.proofs.WatchingLemmas.{unasked_behind}
+use Rattle.live_telephones.proofs.WatchingLemmas.{err_if, unasked_behind}
 use Rattle.live_telephones.proofs.watch.Watch.ask.Goals as goal
 
 pub returns-then-branch-clause-answered : goal.returns-then-branch-clause-answered
@@ -43,9 +43,11 @@ returns-in_ok-full-clause-seen c = λ events address stands is. record {
 
 pub returns-in_err-begin-clause-unasked : goal.returns-in_err-begin-clause-unasked
 returns-in_err-begin-clause-unasked c =
-    unasked_behind c.args.gateway.now c.args.self.now c.begin.new.self c.begin.ensures.rest c.in_err-begin.ensures.refused c.begin.ensures.kept
+    err_if c.from_residual-in_err-begin.result
+    (unasked_behind c.args.gateway.now c.args.self.now c.begin.new.self c.begin.ensures.rest c.in_err-begin.ensures.refused c.begin.ensures.kept)
 
 pub returns-in_err-full-clause-unasked : goal.returns-in_err-full-clause-unasked
 returns-in_err-full-clause-unasked c =
-    unasked_behind c.args.gateway.now c.args.self.now c.begin.new.self c.begin.ensures.rest (c.in_ok-begin.ensures.full c.if-branch.false)
-    c.begin.ensures.kept
+    err_if c.from_residual-in_err-full.result
+    (unasked_behind c.args.gateway.now c.args.self.now c.begin.new.self c.begin.ensures.rest (c.in_ok-begin.ensures.full c.if-branch.false)
+    c.begin.ensures.kept)
