@@ -11,7 +11,7 @@ use Rattle.live_page.specs.declared.site.Site.{Site}
 use Rattle.live_page.specs.declared.visitor.Visitor.{Visitor}
 use Rattle.live_page.specs.Answering.{Answers}
 use Rattle.page_access.specs.Naming.{names_of}
-use Rattle.live_page.specs.Visiting.{calls_of, AnsweredAt, AnswersVisitor, ServesAt, ServesNext}
+use Rattle.live_page.specs.Visiting.{calls_of, AnsweredAt, AnswersBy, AnswersVisitor, ServesAt, ServesNext}
 
 -- calls behind others are calls of both
 chain_on : {S : Type 0} (answers : S → Request (List ℕ) → Response → S → Type 0) (first second : List Call) (a b c : S)
@@ -40,6 +40,10 @@ worked was (call ∷ calls) is more =
       subst (λ (site : SocketAddrV4). Chain (AnsweredAt site (names_of was.names.now)) more.0.board.now calls is.board.now) more.1.site
           (subst (λ (names : List (List ℕ)). Chain (AnsweredAt more.0.site names) more.0.board.now calls is.board.now) named rest.3),
     )
+
+-- nothing was asked
+pub none_asked : (site : SocketAddrV4) (names : List (List ℕ)) (board : BoardState) → AnswersBy site names board board
+none_asked site names board = ([], refl)
 
 -- nothing was answered
 pub none_answered : (site : SocketAddrV4) (names : List (List ℕ)) (was is : Visitor) (board : BoardState) → calls_of is ≡ calls_of was
