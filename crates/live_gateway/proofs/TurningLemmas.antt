@@ -12,7 +12,7 @@ use Rattle.turns.specs.declared.turn.Turn.TheVariants.{Tick}
 use Rattle.turns.specs.Schedule.{next_of}
 use Rattle.turns.proofs.ScheduleLaws.{ticks_within}
 use Rattle.live_outlets.specs.declared.now.Now.{Now}
-use Rattle.live_play.specs.Running.{Ran, TakesBy}
+use Rattle.live_play.specs.Running.{Live, Ran, TakesBy}
 use Rattle.live_gateway.specs.Desk.{Standing, with_input}
 use Rattle.live_play.specs.Readable.{first_unread}
 use Rattle.surroundings.specs.declared.surroundings.Fault.{Fault}
@@ -42,6 +42,15 @@ tries {S} sends input event (Err why) was mid is from sent to takes stays misses
       subst (λ (x : Exchange S). Notes true x to) stays notes,
       ap (λ (s : Standing). s.came.refused) same ∙ ap (λ (n : ℕ). counted n 1) counts,
     )
+
+-- a play that stands so
+pub takes_from : {S A B : Type 0} (sends : S → SocketAddrV4 → List ℕ → Result ⊤ Fault → S → Type 0) (input : Input) (event : GatewayEvent)
+    (done : Result A B) (was there is : Live) (from sent : Exchange S) → there ≡ was
+    → OnOk done (TakesBy (λ a gateway b. IsTold a gateway b) (λ a at bytes own mark b. HandsOver sends a at bytes own mark b) there from input event is sent)
+    → OnOk done (TakesBy (λ a gateway b. IsTold a gateway b) (λ a at bytes own mark b. HandsOver sends a at bytes own mark b) was from input event is sent)
+takes_from {S} sends input event done was there is from sent same takes =
+    subst (λ (x : Live). OnOk done (TakesBy {O = Exchange S} (λ a gateway b. IsTold a gateway b)
+    (λ a at bytes own mark b. HandsOver sends a at bytes own mark b) x from input event is sent)) same takes
 
 -- so it was from where a turn began
 pub tries_begun : {S : Type 0} (sends : S → SocketAddrV4 → List ℕ → Result ⊤ Fault → S → Type 0) (input : Input) (event : GatewayEvent) (was is : Standing)

@@ -1,13 +1,15 @@
-use Rattle.std.proofs.Common.{refl, ◌∙◌, ap}
+use Rattle.std.proofs.Common.{◌≡◌, refl, ◌∙◌, ap}
 use Rattle.plain_machine.specs.Event.{tick}
 use Rattle.traces.specs.Writing.{passed}
 use Rattle.live_play.specs.Coming.{Came}
+use Rattle.live_play.specs.Running.{live}
 use Rattle.live_gateway.specs.Desk.{at_desk}
+use Rattle.live_gateway.specs.Exchanging.{handed_by}
 use Rattle.live_gateway.proofs.DeskLemmas.{standing_of, counted_so, ticks}
 use Rattle.live_outlets.specs.declared.now.Now.{Now}
 use Rattle.live_gateway.proofs.FrameLemmas.{made_of}
 use Rattle.live_gateway.proofs.OverLemmas.{same_now, noted_now}
-use Rattle.live_gateway.proofs.TurningLemmas.{tries, tries_begun}
+use Rattle.live_gateway.proofs.TurningLemmas.{tries, takes_from, tries_begun}
 use Rattle.live_gateway.proofs.desk.Desk.tick.Goals as goal
 
 pub returns-clause-play : goal.returns-clause-play
@@ -28,15 +30,18 @@ returns-clause-tried g c =
     let told = g.T.Teller.told in
     let traffic = g.S.Surroundings.traffic in
     let sends = g.S.Surroundings.sends in
-    tries_begun sends (passed c.args.moment) (tick c.args.moment) (at_desk told traffic c.args.self.now) _ c.args.self.now.exchange c.begin.new.self
-    c.note_taken.new.exchange
+    let here : live c.args.self.now.play.gateway.value c.args.self.now.play.script (told c.args.self.now.play.teller)
+    (handed_by c.begin.new.self.network (traffic c.begin.new.self.around).sent) ≡ (at_desk told traffic c.args.self.now).live =
+    rw (c.begin.ensures.network, c.begin.ensures.around) refl in
+    tries_begun sends (passed c.args.moment) (tick c.args.moment) (at_desk told traffic c.args.self.now)
+    (standing_of told traffic c.tick-done.new.self c.note_taken.new.exchange) c.args.self.now.exchange c.begin.new.self c.note_taken.new.exchange
     (made_of c.begin.new.self _ _ _ _ _ _ _ c.begin.ensures.around c.begin.ensures.network c.begin.ensures.journal refl c.begin.ensures.read
     c.begin.ensures.faults c.begin.ensures.offering)
     (noted_now _ _ _ c.note_taken.ensures.notes
     ∙ same_now sends c.tick-done.result _ c.begin.new.self c.tick-done.new.out _ _ _ c.tick-done.ensures.outlet c.tick-done.ensures.untouched)
-    (tries sends _ _ c.tick-done.result (at_desk told traffic c.args.self.now) (standing_of told traffic c.tick-done.new.self c.tick-done.new.out) _
+    (tries sends (passed c.args.moment) (tick c.args.moment) c.tick-done.result (at_desk told traffic c.args.self.now) (standing_of told traffic c.tick-done.new.self c.tick-done.new.out) _
     c.begin.new.self c.tick-done.new.out c.note_taken.new.exchange
-    (rw (c.begin.ensures.network, c.begin.ensures.around) at c.tick-done.ensures.outlet)
+    (takes_from sends (passed c.args.moment) (tick c.args.moment) c.tick-done.result _ _ _ c.begin.new.self c.tick-done.new.out here c.tick-done.ensures.outlet)
     c.tick-done.ensures.untouched
     (rw (c.begin.ensures.network, c.begin.ensures.around) at c.tick-done.ensures.refused)
     (rw (c.is_ok.ensures.value) at c.note_taken.ensures.notes)
