@@ -56,5 +56,5 @@ returns-clause-rest g c = (
   ap (λ (n : Now). n.clock)
       (noted_now _ _ _ c.note_taken.ensures.notes
       ∙ same_now g.S.Surroundings.sends c.tick-done.result _ c.begin.new.self c.tick-done.new.out _ _ _ c.tick-done.ensures.outlet c.tick-done.ensures.untouched)
-  ∙ c.begin.ensures.clock,
+      ∙ c.begin.ensures.clock,
 )
