@@ -10,7 +10,7 @@ use Rattle.call_agent.specs.Hearing.{issues}
 use Rattle.call_agent.specs.Issuing.{IssueRefusal, no_more_ids, bad_command}
 use Rattle.switchboard.specs.declared.gateway.Gateway.{Gateway}
 use Rattle.switchboard.specs.declared.switchboard.Switchboard.{Switchboard}
-use Rattle.switchboard.specs.Issuing.{Fails, FailsBy, Flies, IssuesOrder, IssuesTo, IssuesUnder, SendsAlone}
+use Rattle.switchboard.specs.Issuing.{FailsBy, Flies, IssuesOrder, IssuesTo, IssuesUnder, SendsAlone}
 use Rattle.call_office.specs.Orders.{Shown}
 
 -- a command was issued under a name with what stands behind its line, by these texts
@@ -62,8 +62,3 @@ fails_so None fault ends = ends
 fails_so (Some no_more_ids) fault ends = inl (same_Some fault NoMoreIds ends)
 fails_so (Some bad_command) fault (inl ends) = inl (same_Some fault BadCommand ends)
 fails_so (Some bad_command) fault (inr ends) = inr (same_Some fault OutOfMemory ends)
-
--- under a name that was put together before
-pub fails_under : (verb given name rest : List ℕ) (fault : IssueFault) (gateway : Gateway) → given ≡ name → Fails verb given rest fault gateway
-    → Fails verb name rest fault gateway
-fails_under verb given name rest fault gateway name_is fails = subst (λ (text : List ℕ). Fails verb text rest fault gateway) name_is fails

@@ -1,4 +1,4 @@
-use Rattle.std.proofs.Common.{◌≡◌}
+use Rattle.std.proofs.Common.{◌≡◌, rules}
 use Rattle.std.specs.Prelude.{◌-◌}
 use Rattle.switchboard.specs.Steps.{line_behind}
 use Rattle.switchboard.proofs.AnnounceLemmas.{one_announced}
