@@ -136,9 +136,9 @@ pub fn what_an_outlet_is_told_and_handed()
 /// The page is asked for its next act where it is its turn, or nobody may have typed; behind a line that was typed it is its turn. Where it
 /// is asked, and no line is left, its next act is the next line.
 pub fn the_page_is_asked_by_turns()
-    ensures turn { (asked : Bool) → IsAsked (λ around told. ⊥) 5 true asked → asked ≡ true }
-    ensures typed { (asked : Bool) → IsAsked (λ around told. told.lines ≡ true) 5 false asked → asked ≡ false }
-    ensures untyped { (asked : Bool) → IsAsked (λ around told. told.lines ≡ false) 5 false asked → asked ≡ true }
+    ensures turn { (asked : Bool) → IsAsked {S = ℕ} (λ around told. ⊥) 5 true asked → asked ≡ true }
+    ensures typed { (asked : Bool) → IsAsked {S = ℕ} (λ around told. told.lines ≡ true) 5 false asked → asked ≡ false }
+    ensures untyped { (asked : Bool) → IsAsked {S = ℕ} (λ around told. told.lines ≡ false) 5 false asked → asked ≡ true }
     ensures takes { (was is : Journal) (lines left : Lines) (is_then : Bool) → TakesIf true was lines false is left is_then
         → TakesAct was lines is_then is left }
     ensures behind { (was is : Desk ℕ ℕ) (page : TakesFromPage (λ around told. ⊥) (not false) false was is) → page.asked ≡ true }
