@@ -35,10 +35,12 @@ worked was (call ∷ calls) is more =
       rest.0 ∙ more.1.site,
       rest.1 ∙ named,
       rest.2 ∙ more.1.same,
-      more.0.board.now,
-      more.1.answered,
-      subst (λ (site : SocketAddrV4). Chain (AnsweredAt site (names_of was.names.now)) more.0.board.now calls is.board.now) more.1.site
-          (subst (λ (names : List (List ℕ)). Chain (AnsweredAt more.0.site names) more.0.board.now calls is.board.now) named rest.3),
+      (
+        more.0.board.now,
+        more.1.answered,
+        subst (λ (site : SocketAddrV4). Chain (AnsweredAt site (names_of was.names.now)) more.0.board.now calls is.board.now) more.1.site
+            (subst (λ (names : List (List ℕ)). Chain (AnsweredAt more.0.site names) more.0.board.now calls is.board.now) named rest.3),
+      ),
     )
 
 -- nothing was asked

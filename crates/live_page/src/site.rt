@@ -147,11 +147,10 @@ fn serve_place(held: &mut Option<Box<Visitor>>, desk: &mut Desk<'_>, now: u64)
     ensures same_reference { desk.new.board.ghost_name ≡ desk.old.board.ghost_name }
     ensures served { ServesPlace desk.old.site (names_of desk.old.names.now) held.old desk.old.board.now held.new desk.new.board.now }
 {
-    let stays = match held {
-        Some(visitor) => visitor.turn(desk, now),
-        None => true,
+    let Some(visitor) = held else {
+        return;
     };
-    if !stays {
+    if !visitor.turn(desk, now) {
         *held = None;
     }
 }
