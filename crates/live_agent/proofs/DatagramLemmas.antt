@@ -1,7 +1,7 @@
 -- What a datagram does, text by text and line by line.
-use Rattle.std.proofs.Common.{◌≡◌, ⊤, ℕ, ◌+◌, ◌<◌, ◌≤◌, suc, Bool, true, false, List, [], ◌∷◌, length, get_or, drop, Option, Some, None, Result, refl, sym, subst, arith}
+use Rattle.std.proofs.Common.{◌≡◌, ℕ, ◌+◌, ◌<◌, ◌≤◌, suc, Bool, true, false, List, [], ◌∷◌, length, get_or, drop, Option, Some, None, Result, refl, sym, subst, arith}
 use Rattle.std.proofs.lemmas.List.{drop_more, at_drop_all}
-use Rattle.std.specs.Prelude.{is_some}
+use Rattle.std.specs.Prelude.{⊤, is_some}
 use Rattle.std.specs.declared.net.socket_addr.SocketAddrV4.{SocketAddrV4}
 use Rattle.transmission.specs.declared.output.OutDatagram.{OutDatagram}
 use Rattle.transmission.specs.Texts.{texts_of}
@@ -56,7 +56,8 @@ module _ {S : Type 0} (sends : S → SocketAddrV4 → List ℕ → Result ⊤ Fa
       → datagram ≡ get_or datagrams place datagram → SendsOne sends is_repeat datagram.to datagram.bytes was sent
       → SendsAll sends is_repeat (drop (place + 1) datagrams) sent is → SendsAll sends is_repeat (drop place datagrams) was is
   sends_next is_repeat datagrams place datagram was sent is within item first rest =
-      subst (λ (left : List OutDatagram). SendsAll sends is_repeat left was is) (sym (drop_more datagrams place datagram within)) (sent, first, rest)
+      subst (λ (left : List OutDatagram). SendsAll sends is_repeat left was is) (sym (drop_more datagrams place datagram within))
+      (sent, subst (λ (one : OutDatagram). SendsOne sends is_repeat one.to one.bytes was sent) item first, rest)
 
   pub sends_none : (is_repeat : Bool) (datagrams : List OutDatagram) (place : ℕ) (was : Wire S) → length datagrams ≤ place
       → SendsAll sends is_repeat (drop place datagrams) was was

@@ -1,5 +1,6 @@
 -- What the network that spoils what goes over a wire hands over, packet by packet.
-use Rattle.std.proofs.Common.{◌≡◌, ℕ, ◌+◌, suc, ⊤, ⊥, Bool, true, false, List, [], ◌∷◌, ◌++◌, length, Option, Some, None, Result, Ok, Err, inl, inr, refl, sym, ap, subst, ◌∙◌, arith}
+use Rattle.std.proofs.Common.{◌≡◌, ℕ, ◌+◌, suc, Bool, true, false, List, [], ◌∷◌, ◌++◌, length, Option, Some, None, Result, Ok, Err, inl, inr, refl, sym, ap, subst, ◌∙◌, arith}
+use Rattle.std.specs.Prelude.{⊤}
 use Rattle.std.specs.declared.net.socket_addr.SocketAddrV4.{SocketAddrV4}
 use Rattle.agent_texts.specs.declared.tally.Tally.{Tally}
 use Rattle.bad_network.specs.declared.network.BadNetwork.{BadNetwork}

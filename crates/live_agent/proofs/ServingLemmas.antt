@@ -1,5 +1,5 @@
 -- Turns, one behind another.
-use Rattle.std.proofs.Common.{◌≡◌, inl, ℕ, ◌+◌, suc, Bool, false, Result, Ok, Err, tt, sym, ap, subst, ◌∙◌, arith}
+use Rattle.std.proofs.Common.{◌≡◌, inl, ℕ, ◌+◌, suc, Bool, false, Result, Ok, Err, sym, ap, subst, ◌∙◌, arith}
 use Rattle.surroundings.specs.declared.surroundings.Fault.{Fault}
 use Rattle.surroundings.specs.declared.surroundings.Told.{Told}
 use Rattle.switchboard.specs.declared.switchboard.Switchboard.{Switchboard}

@@ -1,6 +1,6 @@
 -- What is typed, and whose turn it is.
-use Rattle.std.proofs.Common.{◌≡◌, ⊤, ℕ, Bool, true, false, List, [], ◌∷◌, Option, Some, None, Result, sym, ap, subst, ◌∙◌, true≢false}
-use Rattle.std.specs.Prelude.{is_some}
+use Rattle.std.proofs.Common.{◌≡◌, ℕ, Bool, true, false, List, [], ◌∷◌, Option, Some, None, Result, sym, ap, subst, ◌∙◌, true≢false}
+use Rattle.std.specs.Prelude.{⊤, is_some}
 use Rattle.std.specs.Global.{Box, Vec}
 use Rattle.std.specs.declared.net.socket_addr.SocketAddr.{SocketAddr}
 use Rattle.std.specs.declared.net.socket_addr.SocketAddrV4.{SocketAddrV4}

@@ -1,5 +1,5 @@
 -- What a tick does: the clock of each agent goes on; what is given up by now is so, and what was put off is sent again, as lines are settled.
-use Rattle.std.specs.Prelude.{◌≡◌, ◌⊎◌, ⊤, ℕ, zero, suc, Bool, true, false, is_ok, is_some, List, length, IfOk, OnErr, Result, slice_get}
+use Rattle.std.specs.Prelude.{◌≡◌, ◌⊎◌, ⊤, ℕ, zero, suc, Bool, true, false, is_ok, is_some, List, length, None, IfOk, OnErr, Result, slice_get}
 use Rattle.std.specs.declared.net.socket_addr.SocketAddrV4.{SocketAddrV4}
 use Rattle.agent_texts.specs.Counts.{with_given_up}
 use Rattle.call_agent.specs.AgentStands.{AgentStays, AgentTook}

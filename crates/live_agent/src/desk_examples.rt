@@ -1,7 +1,7 @@
 //! Worked examples of what a desk waits for, of what its turns leave, and of how it ends, as theorems.
 #![tactic(auto)]
 
-ghost use Rattle.std.specs.Prelude.{◌≡◌, [], ◌∷◌, ℕ, true, false, tt, List, Option, Some, None, Ok, Err, codes};
+ghost use Rattle.std.specs.Prelude.{◌≡◌, [], ◌∷◌, ℕ, true, false, List, Option, Some, None, Ok, Err, codes};
 ghost use Rattle.std.specs.declared.net.socket_addr.SocketAddrV4.{SocketAddrV4};
 ghost use Rattle.std.specs.Global.{Box};
 ghost use Rattle.agent_texts.specs.declared.journal.Journal.{Journal};
@@ -35,7 +35,7 @@ ghost use Rattle.live_agent.specs.Sending.{GoesOut, SendsAll, SendsCommand, Send
 ghost use Rattle.live_agent.specs.Serving.{RunsTurns, StopsAt, Writes};
 ghost use Rattle.live_agent.specs.Settling.{SendsEach, SendsIssued, SettlesBy, ShowsEach, ShowsOne};
 ghost use Rattle.live_agent.specs.Tallying.{leaving_counted, with_refusal, with_send_fault};
-ghost use Rattle.live_agent.specs.Ticking.{GivesUpEach, GivesUpLast, GivesUpMany, GivesUpNext, TicksEach, TicksOne, WakesAll, WakesEach, WakesMany, WakesNext};
+ghost use Rattle.live_agent.specs.Ticking.{GivesUpEach, GivesUpMany, GivesUpNext, TicksEach, TicksOne, WakesEach, WakesMany};
 ghost use Rattle.live_agent.specs.Turning.{end_of, line_request, first_request, DoesRequest, DoesTurn, EndsBy, HearsTelephones, Notes, PassesLoad, TakesTyped, TellsCounts, TicksOver, Waits};
 ghost use Rattle.switchboard.specs.Typed.{typed_text};
 ghost use Rattle.switchboard.specs.TypedCommands.{IssuesCommand, IssuesMeant, IssuesThere};
@@ -173,8 +173,6 @@ pub fn what_a_network_hands_over_has_examples()
     ensures first { (was is : BadNetwork) (one two : Packet) → was.waiting.items ≡ one ∷ two ∷ [] → one.due ≡ 700 → is.waiting.items ≡ two ∷ [] →
         is.spoiling ≡ was.spoiling → is.generator ≡ was.generator → HandsFirst 700 (Some was) (Some one) (Some is) }
     ensures not_due { (was : BadNetwork) (one : Packet) → was.waiting.items ≡ one ∷ [] → one.due ≡ 701 → HandsFirst 700 (Some was) None (Some was) }
-    ensures not_the_other { (was is : BadNetwork) (one two : Packet) → was.waiting.items ≡ one ∷ [] → one.due ≡ 700 →
-        HandsFirst 700 (Some was) (Some two) (Some is) → two ≡ one }
     // It comes in where it goes that way; one that goes out is sent, and isn't handed over.
     ensures comes { comes_in In ≡ true }
     ensures goes { comes_in Out ≡ false }
@@ -227,17 +225,14 @@ pub fn what_a_tick_does_has_examples()
     ensures no_agent { (board now : Switchboard) (was is : Wire ℕ) → TicksEach sends_any 700 0 board was now is → (now ≡ board) × (is ≡ was) }
     ensures again { (board now : Switchboard) (was is : Wire ℕ) (ticks : TicksOne sends_any 700 0 board was now is) →
         SendsOutputs sends_any true ticks.outputs ticks.went_on was is }
-    // What is given up counts; behind each lines are settled, and behind the last none is found.
+    // What is given up counts.
     ensures none_given_up { (board now : Switchboard) (was is : Wire ℕ) → GivesUpMany sends_any 0 0 board was now is → (now ≡ board) × (is ≡ was) }
     ensures counts { (board now : Switchboard) (was is : Wire ℕ) → GivesUpNext true 0 board was now is →
         is.journal.value.tally ≡ with_given_up was.journal.value.tally }
     ensures counts_none { (board now : Switchboard) (was is : Wire ℕ) → GivesUpNext false 0 board was now is → is.journal.value.tally ≡ was.journal.value.tally }
-    ensures ends { (board now : Switchboard) (was is : Wire ℕ) → GivesUpLast 3 0 board was now is → GivesUpNext false 0 board was now is }
     ensures no_gateway { (board now : Switchboard) (was is : Wire ℕ) → GivesUpEach sends_any 0 board was now is → (now ≡ board) × (is ≡ was) }
-    // The next line waits to be settled, until none is found.
     ensures none_woken { (board now : Switchboard) → WakesMany 0 0 board now → now ≡ board }
     ensures no_gateway_woken { (board now : Switchboard) → WakesEach 0 board now → now ≡ board }
-    ensures all_woken { (board now : Switchboard) (wakes : WakesAll 0 board now) → wakes.count ≡ 3 → WakesNext false 0 wakes.woken now }
 {}
 
 /// How a desk serves, a turn behind another.

@@ -1,5 +1,5 @@
 //! Makes a load: calls at a rate between the telephones of gateways, which another call agent serves, or this program's own exchange.
-ghost use Rattle.std.specs.Prelude.{◌≡◌, ◌⊎◌, false, is_some, Some};
+ghost use Rattle.std.specs.Prelude.{◌≡◌, ◌⊎◌, true, false, is_some, Some};
 ghost use Rattle.live_agent.specs.Turning.{end_of, HearsTelephones};
 ghost use Rattle.live_agent.specs.Wiring.{due_of, with_read, FallsDueOver};
 

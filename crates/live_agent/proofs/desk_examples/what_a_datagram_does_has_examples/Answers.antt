@@ -1,4 +1,10 @@
-use Rattle.std.proofs.Common.{◌≡◌, ℕ, ap}
+use Rattle.std.proofs.Common.{◌≡◌, ℕ, Bool, Option, Result, ap, ◌∙◌}
+use Rattle.std.specs.declared.net.socket_addr.SocketAddrV4.{SocketAddrV4}
+use Rattle.agent_texts.specs.Counts.{with_notification}
+use Rattle.surroundings.specs.declared.surroundings.Fault.{Fault}
+use Rattle.switchboard.specs.declared.switchboard.Switchboard.{Switchboard}
+use Rattle.switchboard.specs.Tallying.{counted_if}
+use Rattle.live_agent.specs.Wiring.{read_at}
 use Rattle.live_agent.specs.declared.wire.Wire.{Wire}
 use Rattle.live_agent.proofs.desk_examples.what_a_datagram_does_has_examples.Goals as goal
 
@@ -12,7 +18,7 @@ pub returns-clause-text : goal.returns-clause-text
 returns-clause-text c = λ board now was is hears. (hears.heard, hears.told.journal.value, hears.hears)
 
 pub returns-clause-something : goal.returns-clause-something
-returns-clause-something c = λ board now was is settles. settles.0
+returns-clause-something c = λ board now was is settles. settles.lines
 
 pub returns-clause-no_line : goal.returns-clause-no_line
 returns-clause-no_line c = λ board now was is takes. takes.0
@@ -29,3 +35,24 @@ returns-clause-ticks c = λ was is over. (ap (λ (wire : Wire ℕ). wire.lines) 
 
 pub returns-clause-clock : goal.returns-clause-clock
 returns-clause-clock c = λ was is over. ap (λ (wire : Wire ℕ). wire.now.clock) over.1
+
+pub returns-clause-behind : goal.returns-clause-behind
+returns-clause-behind c = λ was is over. ap (λ (wire : Wire ℕ). wire.is_behind) over.1
+
+pub returns-clause-not_behind : goal.returns-clause-not_behind
+returns-clause-not_behind c = λ was is over. ap (λ (wire : Wire ℕ). wire.is_behind) over.1
+
+pub returns-clause-steps : goal.returns-clause-steps
+returns-clause-steps c = λ source outputs board now steps. ap (λ (one : Switchboard). one.office) steps.rest
+
+pub returns-clause-counts_none : goal.returns-clause-counts_none
+returns-clause-counts_none c = λ board now was is takes none.
+    takes.counts ∙ ap (λ (found : Bool). counted_if found with_notification was.journal.value.tally) none
+
+pub returns-clause-counts : goal.returns-clause-counts
+returns-clause-counts c = λ board now was is takes some.
+    takes.counts ∙ ap (λ (found : Bool). counted_if found with_notification was.journal.value.tally) some
+
+pub returns-clause-looks_for_one : goal.returns-clause-looks_for_one
+returns-clause-looks_for_one c = λ board now was is looks none.
+    looks.reads ∙ ap (λ (outcome : Result (Option (SocketAddrV4 × ℕ)) Fault). read_at outcome was.read) none

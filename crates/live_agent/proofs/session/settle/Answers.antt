@@ -4,12 +4,12 @@ use Rattle.live_agent.specs.Settling.{SendsEach, ShowsEach}
 use Rattle.live_agent.proofs.SettlingLemmas.{settled_none, settled_now}
 use Rattle.live_agent.proofs.session.settle.Goals as goal
 
-pub returns-then-is_behind : goal.returns-then-is_behind
-returns-then-is_behind g c = settled_none (HandsTo g.S.Surroundings.sends g.S.Surroundings.traffic) c.args.board.now c.args.wire.now c.if-is_behind.true
+pub returns-then-wire : goal.returns-then-wire
+returns-then-wire g c = settled_none (HandsTo g.S.Surroundings.sends g.S.Surroundings.traffic) c.args.board.now c.args.wire.now c.if-wire.true
 
 pub returns : goal.returns
 returns g c =
-    settled_now (HandsTo g.S.Surroundings.sends g.S.Surroundings.traffic) c.args.board.now c.send_each.new.board c.args.wire.now c.send_each.new.wire c.if-is_behind.false (record {
+    settled_now (HandsTo g.S.Surroundings.sends g.S.Surroundings.traffic) c.args.board.now c.send_each.new.board c.args.wire.now c.send_each.new.wire c.if-wire.false (record {
       begun = c.begin_settling.new.self;
       shown = c.show_each.new.board;
       told = c.show_each.new.wire;

@@ -6,4 +6,4 @@ use Rattle.live_agent.proofs.session.write_turn.Goals as goal
 pub returns : goal.returns
 returns g c =
     written_so c.args.wire.now (record c.args.wire.now { journal = with_value c.args.wire.now.journal c.write.new.journal }) c.note_offering.new.self
-    (rw (c.deref_mut.ensures.value) at c.write.ensures) refl (offered_so _ _ _ c.note_offering.ensures)
+    (rw (c.deref_mut.ensures.value) at c.write.ensures.kept) refl (offered_so _ _ _ c.note_offering.ensures)
