@@ -1,9 +1,10 @@
-use Rattle.std.proofs.Common.{refl, ap, ◌∙◌}
+use Rattle.std.proofs.Common.{refl}
 use Rattle.std.specs.Box.{with_value}
 use Rattle.live_agent.proofs.ServingLemmas.{offered_so, written_so}
 use Rattle.live_agent.proofs.session.write_turn.Goals as goal
 
 pub returns : goal.returns
 returns g c =
-    written_so c.args.wire.now (record c.args.wire.now { journal = with_value c.args.wire.now.journal c.write.new.journal }) c.note_offering.new.self
-    (rw (c.deref_mut.ensures.value) at c.write.ensures.kept) refl (offered_so _ _ _ c.note_offering.ensures)
+    let written = record c.args.wire.now { journal = with_value c.args.wire.now.journal c.write.new.journal } in
+    written_so c.args.wire.now written c.note_offering.new.self (rw (c.deref_mut.ensures.value) at c.write.ensures.kept) refl
+    (offered_so written c.note_offering.new.self c.is_offering.result c.note_offering.ensures)
