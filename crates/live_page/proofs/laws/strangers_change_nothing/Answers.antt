@@ -4,6 +4,6 @@ use Rattle.page_access.specs.Naming.{names_of}
 use Rattle.page_access.proofs.AskingLaws.{acts_by_post}
 use Rattle.live_page.proofs.laws.strangers_change_nothing.Goals as goal
 
-pub returns-clause-unchanged : goal.returns-clause-unchanged
-returns-clause-unchanged c = λ old new request response h is.
+pub returns : goal.returns
+returns c = λ old new request response h is.
     h.answered.quiet (λ e. true≢false (sym (acts_by_post old.site (names_of old.names.now) (head_of request) e).1 ∙ is))
