@@ -11,13 +11,13 @@ ghost use Rattle.live_page.specs.Answering.{Answers};
 
 /// Nothing that the board has changes at what another page asks.
 pub fn strangers_change_nothing()
-    ensures unchanged { (old new : Desk) (request : Request (List ℕ)) (response : Response) → Answers old request response new
+    ensures { (old new : Desk) (request : Request (List ℕ)) (response : Response) → Answers old request response new
         → may_change old.site (head_of request) ≡ false → new.board.now ≡ old.board.now }
 {}
 
 /// Who asks another host is told nothing, unless by a further name.
 pub fn another_host_is_told_nothing()
-    ensures told { (old new : Desk) (request : Request (List ℕ)) (response : Response) → Answers old request response new
+    ensures { (old new : Desk) (request : Request (List ℕ)) (response : Response) → Answers old request response new
         → is_at_home old.site (head_of request) ≡ false → is_by_name (names_of old.names.now) (head_of request) ≡ false
         → IsResponse 421 [] [] response }
 {}
