@@ -126,7 +126,9 @@ impl Visitors<Machine<'_>> for Browsers {
         }
     }
 
-    fn next_deadline(&self) -> Option<u64> {
+    fn next_deadline(&self) -> Option<u64>
+        ensures { result ≡ next_of self.now.visits.items }
+    {
         self.next()
     }
 
