@@ -83,7 +83,7 @@ unfolding Leaves
 leaves_restart was is turn step kind left = subst (λ (k : Asks). leaves_by k was is turn step) (sym kind) left
 
 -- it is met at once, or isn't
-abbrev is_at_once : Asks → Bool
+abbrev pub is_at_once : Asks → Bool
 is_at_once steps.Send = false
 is_at_once steps.Answer = false
 is_at_once steps.AnswerIfDone = false

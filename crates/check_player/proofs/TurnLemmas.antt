@@ -7,6 +7,7 @@ use Rattle.check_matching.specs.Hearing.{response_to}
 use Rattle.check_player.specs.declared.player.Player.{Player}
 use Rattle.check_player.specs.declared.player.Turn.{Turn}
 use Rattle.check_player.specs.declared.player.Turn.TheVariants as turns
+use Rattle.check_player.specs.Awaiting.{Waits}
 use Rattle.check_player.specs.Leaving.{Leaves}
 use Rattle.check_player.specs.Playing.{ComesTo, outcome_of}
 use Rattle.check_player.specs.Turning.{TakesStep, TakesLast, AnswersLast, AnswersLeft, Further, FurtherTimes}
@@ -48,9 +49,9 @@ further_over now was taken left takes answers none =
 -- the step was played
 pub further_played : (now : ℕ) (was taken left is : Player) (turn : Option Turn) (step : Step) → TakesStep was taken
     → AnswersLeft taken left None → taken.step ≡ Some step → ComesTo left is turn (outcome_of left step now) → Leaves left is turn step
-    → Further now was is turn
+    → Waits left is turn step now → Further now was is turn
 unfolding Further AnswersLeft
-further_played now was taken left is turn step takes answers some comes leaves =
-    (taken, left, None, takes, answers, inr (refl, inr (step, ap (λ (player : Player). player.step) answers.0 ∙ some, comes, leaves)))
+further_played now was taken left is turn step takes answers some comes leaves waits =
+    (taken, left, None, takes, answers, inr (refl, inr (step, ap (λ (player : Player). player.step) answers.0 ∙ some, comes, leaves, waits)))
 
 pub ruleset steps_further = (further_left, further_over, further_played)

@@ -1,4 +1,5 @@
 pub mod Playing
 pub mod Leaving
+pub mod Awaiting
 pub mod Turning
 pub mod Responding

@@ -9,6 +9,7 @@ use Rattle.check_player.specs.declared.player.Player.{Player}
 use Rattle.check_player.specs.declared.player.TheConstants.{MOST_STEPS}
 use Rattle.check_player.specs.declared.player.Turn.{Turn}
 use Rattle.check_player.specs.declared.player.Turn.TheVariants as turns
+use Rattle.check_player.specs.Awaiting.{Waits}
 use Rattle.check_player.specs.Leaving.{Leaves}
 use Rattle.check_player.specs.Playing.{ComesTo, outcome_of}
 
@@ -79,11 +80,13 @@ AnswersLeft was is turn =
     × (needs_no_answer was ≡ true → (is ≡ was) × (turn ≡ None))
     × (needs_no_answer was ≡ false → AnswersLast was is turn)
 
--- the step that is to be played comes to what it expects, and leaves what it asked for; where none is left the check is over
+-- the step that is to be played comes to what it expects, leaves what it asked for, and asks for no more than it waits for; where none
+-- is left the check is over
 abbrev pub PlaysStep : ℕ → Player → Player → Option Turn → Type 0
 PlaysStep now was is turn =
     ((was.step ≡ None) × (is ≡ was) × (turn ≡ Some turns.Over))
-    ⊎ ((step : Step) × (was.step ≡ Some step) × ComesTo was is turn (outcome_of was step now) × Leaves was is turn step)
+    ⊎ ((step : Step) × (was.step ≡ Some step) × ComesTo was is turn (outcome_of was step now) × Leaves was is turn step
+    × Waits was is turn step now)
 
 -- one step further, or something is answered in its place
 unfoldable pub Further : ℕ → Player → Player → Option Turn → Type 0

@@ -2,6 +2,7 @@
 //! something is waited for, is given what came, and comes to a verdict. It has no socket and no clock.
 #![tactic(auto)]
 
+pub mod awaiting_examples;
 mod dialogue;
 pub mod examples;
 pub mod laws;

@@ -1,12 +1,13 @@
 //! Plays a check: what is to be sent, until when something is waited for, and what comes of it.
 ghost use Rattle.std.specs.Prelude.{◌≡◌, ◌⊎◌, ◌==◌, ◌++◌, [], length, map, not, true, false, Some, None};
-ghost use Rattle.std.specs.Prelude.{IfOk, OnOk, string_bytes, string_len, unwrap_or};
+ghost use Rattle.std.specs.Prelude.{IfOk, OnOk, string_bytes, string_len};
 ghost use Rattle.std.specs.Str.Lossy.{utf8_lossy};
 ghost use Rattle.piggyback.specs.Parts.{parts_of};
 ghost use Rattle.check_matching.specs.Hearing.{came_as, awaits_answer, kept_of, kept_in};
 ghost use Rattle.gateway_checks.specs.Judging.{verdict_of};
 ghost use Rattle.check_matching.specs.Matching.{last_text, left_for};
 ghost use Rattle.gateway_checks.specs.Naming.{id_in, names_kept, kept_with};
+ghost use Rattle.check_player.specs.Awaiting.{WaitsFor, begun_in, WaitsForAnswer, WaitsForAct, AsksNothing, Waits};
 ghost use Rattle.check_player.specs.Leaving.{OnlyWaits, Sends, AsksFor, TakesAnswer, TakesCopy, named_at_once, KeepsValue, Leaves};
 ghost use Rattle.check_player.specs.Playing.{counted, fault_unless, LeavesRest, ComesTo, due_until, passed_by, until_in, answer_until, answer_outcome};
 ghost use Rattle.check_player.specs.Playing.{answer_in, same_outcome, is_silent_in, silence_outcome, acted_by};
@@ -359,10 +360,11 @@ impl<'a> Player<'a> {
     }
 
     // Plays a step: what it asks for, or nothing where it is done.
-    #[tactic(auto, using(crate::proofs::PlayLemmas::comes_same, crate::proofs::LeaveLemmas::leaves))]
+    #[tactic(auto, using(crate::proofs::PlayLemmas::comes_same, crate::proofs::LeaveLemmas::leaves, crate::proofs::WaitLemmas::waits))]
     fn play(&mut self, step: Step<'a>, now: u64) -> Option<Turn>
         ensures comes { ComesTo self.old self.new result (outcome_of self.old step.entry now) }
         ensures leaves { Leaves self.old self.new result step.entry }
+        ensures waits { Waits self.old self.new result step.entry now }
     {
         let line = self.line;
         let (at, first, second) = (step.at, step.first, step.second);
@@ -410,6 +412,7 @@ impl<'a> Player<'a> {
     fn play_at_once(&mut self, step: Step<'a>) -> Option<Turn>
         ensures comes { ComesTo self.old self.new result (outcome_at_once self.old step.entry) }
         ensures keeps { KeepsValue self.old self.new step.entry }
+        ensures nothing { AsksNothing self.new result }
     {
         match self.met_at_once(step) {
             Ok(is_met) => self.finish_met(is_met),
@@ -479,7 +482,7 @@ impl<'a> Player<'a> {
     // Until when this step waits for an answer, which has begun now if it hasn't before, or begins anew.
     fn answer_deadline(&mut self, now: u64) -> u64
         ensures until { result ≡ answer_until self.old.until self.old.begun now }
-        ensures begun { self.old.until ≡ None → self.new.begun ≡ Some (unwrap_or self.old.begun now) }
+        ensures begun { self.new.begun ≡ begun_in self.old.until self.old.begun now }
         ensures stands { self.new.until ≡ Some result }
         ensures rest { self.new ≡ record self.old { begun = self.new.begun; until = self.new.until } }
     {
@@ -494,9 +497,10 @@ impl<'a> Player<'a> {
     }
 
     // Waits for an answer; where none came in time the step isn't met.
-    #[tactic(auto, using(crate::proofs::PlayLemmas::comes_in_time), unfolding(crate::specs::Leaving::OnlyWaits))]
+    #[tactic(auto, using(crate::proofs::PlayLemmas::comes_in_time, crate::proofs::WaitLemmas::waits_in_time), unfolding(crate::specs::Leaving::OnlyWaits))]
     fn await_answer(&mut self, now: u64) -> Option<Turn>
         ensures comes { ComesTo self.old self.new result (due_until (answer_until self.old.until self.old.begun now) now) }
+        ensures waits { WaitsForAnswer self.old self.new result (due_until (answer_until self.old.until self.old.begun now) now) now }
         ensures rest { OnlyWaits self.old self.new }
     {
         let until = self.answer_deadline(now);
@@ -517,10 +521,11 @@ impl<'a> Player<'a> {
     }
 
     // The answer with this id is to come, with one of these codes.
-    #[tactic(auto, using(crate::proofs::PlayLemmas::comes_on), unfolding(crate::specs::Leaving::TakesAnswer, crate::specs::Leaving::OnlyWaits))]
+    #[tactic(auto, using(crate::proofs::PlayLemmas::comes_on, crate::proofs::WaitLemmas::waits_on), unfolding(crate::specs::Leaving::TakesAnswer, crate::specs::Leaving::OnlyWaits))]
     fn answered(&mut self, codes: &str, id: &str, is_optional: bool, now: u64) -> Option<Turn>
         ensures comes { ComesTo self.old self.new result (answer_outcome self.old codes.now id.now is_optional now) }
         ensures takes { TakesAnswer self.old self.new (id_in self.old.names id.now) }
+        ensures waits { WaitsForAnswer self.old self.new result (answer_outcome self.old codes.now id.now is_optional now) now }
     {
         let Ok(id) = self.names.id_in(id) else {
             return self.refused();
@@ -538,10 +543,11 @@ impl<'a> Player<'a> {
     }
 
     // The answer with this id is to come again as it first came.
-    #[tactic(auto, using(crate::proofs::PlayLemmas::comes_on), unfolding(crate::specs::Leaving::TakesCopy, crate::specs::Leaving::OnlyWaits))]
+    #[tactic(auto, using(crate::proofs::PlayLemmas::comes_on, crate::proofs::WaitLemmas::waits_on), unfolding(crate::specs::Leaving::TakesCopy, crate::specs::Leaving::OnlyWaits))]
     fn answered_again(&mut self, id: &str, now: u64) -> Option<Turn>
         ensures comes { ComesTo self.old self.new result (same_outcome self.old id.now now) }
         ensures takes { TakesCopy self.old self.new (id_in self.old.names id.now) }
+        ensures waits { WaitsForAnswer self.old self.new result (same_outcome self.old id.now now) now }
     {
         let Ok(id) = self.names.id_in(id) else {
             return self.refused();
@@ -556,11 +562,13 @@ impl<'a> Player<'a> {
     }
 
     // It is waited for so long; then the step is met or not.
-    #[tactic(auto, using(crate::proofs::PlayLemmas::comes_in_time), unfolding(crate::specs::Leaving::OnlyWaits))]
+    #[tactic(auto, using(crate::proofs::PlayLemmas::comes_in_time, crate::proofs::WaitLemmas::waits_in_time), unfolding(crate::specs::Leaving::OnlyWaits))]
     fn waited(&mut self, ms: u64, is_met: bool, now: u64) -> Option<Turn>
         ensures rest { OnlyWaits self.old self.new }
         ensures passes { is_met ≡ true → ComesTo self.old self.new result (passed_by (until_in self.old.until ms now) now) }
         ensures is_due { is_met ≡ false → ComesTo self.old self.new result (due_until (until_in self.old.until ms now) now) }
+        ensures waits { is_met ≡ true → WaitsFor self.old self.new result (passed_by (until_in self.old.until ms now) now) ms now }
+        ensures waits_for_it { is_met ≡ false → WaitsFor self.old self.new result (due_until (until_in self.old.until ms now) now) ms now }
     {
         let until = self.deadline(ms, now);
         if now < until {
@@ -582,9 +590,10 @@ impl<'a> Player<'a> {
     }
 
     // No answer is to come for so long, or the gateway is to say nothing by itself.
-    #[tactic(auto, using(crate::proofs::PlayLemmas::comes), unfolding(crate::specs::Leaving::OnlyWaits))]
+    #[tactic(auto, using(crate::proofs::PlayLemmas::comes, crate::proofs::WaitLemmas::waits_or_not), unfolding(crate::specs::Leaving::OnlyWaits))]
     fn quiet(&mut self, ms: u64, is_unasked: bool, now: u64) -> Option<Turn>
         ensures comes { ComesTo self.old self.new result (silence_outcome self.old ms is_unasked now) }
+        ensures waits { WaitsFor self.old self.new result (silence_outcome self.old ms is_unasked now) ms now }
         ensures rest { OnlyWaits self.old self.new }
     {
         let until = self.deadline(ms, now);
@@ -602,10 +611,11 @@ impl<'a> Player<'a> {
     }
 
     // This is to be done at the line's telephone, or with the gateway.
-    #[tactic(auto, using(crate::proofs::PlayLemmas::comes), unfolding(crate::specs::Leaving::AsksFor))]
+    #[tactic(auto, using(crate::proofs::PlayLemmas::comes, crate::proofs::WaitLemmas::waits_for_act), unfolding(crate::specs::Leaving::AsksFor))]
     fn ask_for(&mut self, act: &'a str) -> Option<Turn>
         ensures comes { ComesTo self.old self.new result (acted_by self.old.acted) }
         ensures asks { AsksFor self.old self.new result act.now }
+        ensures waits { WaitsForAct self.old self.new result }
     {
         match self.acted {
             None => {
