@@ -1,8 +1,9 @@
 -- The definitions opened, so that worked examples compute.
 use Rattle.std.specs.Prelude.{⊤}
 use Rattle.check_matching.proofs.Computing.{on_examples as matching_examples}
+use Rattle.check_player.specs.Keeping.{left_in, until_after}
 use Rattle.check_player.specs.Responding.{responses_from}
 
 unfoldable pub on_examples : ⊤
-unfolding matching_examples responses_from
+unfolding matching_examples left_in until_after responses_from
 on_examples = tt

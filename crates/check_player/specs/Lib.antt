@@ -3,3 +3,4 @@ pub mod Leaving
 pub mod Awaiting
 pub mod Turning
 pub mod Responding
+pub mod Keeping

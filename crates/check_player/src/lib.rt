@@ -5,6 +5,7 @@
 pub mod awaiting_examples;
 mod dialogue;
 pub mod examples;
+pub mod keeping_examples;
 pub mod laws;
 pub mod leaving_examples;
 mod player;

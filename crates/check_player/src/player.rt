@@ -8,6 +8,7 @@ ghost use Rattle.gateway_checks.specs.Judging.{verdict_of};
 ghost use Rattle.check_matching.specs.Matching.{last_text, left_for};
 ghost use Rattle.gateway_checks.specs.Naming.{id_in, names_kept, kept_with};
 ghost use Rattle.check_player.specs.Awaiting.{WaitsFor, begun_in, WaitsForAnswer, WaitsForAct, AsksNothing, Waits};
+ghost use Rattle.check_player.specs.Keeping.{said_as, left_if, left_of, left_in, awaited_in, until_behind, until_of, until_after};
 ghost use Rattle.check_player.specs.Leaving.{OnlyWaits, Sends, AsksFor, TakesAnswer, TakesCopy, named_at_once, KeepsValue, Leaves};
 ghost use Rattle.check_player.specs.Playing.{counted, fault_unless, LeavesRest, ComesTo, due_until, passed_by, until_in, answer_until, answer_outcome};
 ghost use Rattle.check_player.specs.Playing.{answer_in, same_outcome, is_silent_in, silence_outcome, acted_by};
@@ -643,7 +644,9 @@ impl<'a> Player<'a> {
     }
 
     // The id of the command whose answer is waited for.
-    fn awaited_id(&self) -> Result<Option<u32>, OutOfMemory> {
+    fn awaited_id(&self) -> Result<Option<u32>, OutOfMemory>
+        ensures { IfOk result (λ id. id ≡ awaited_in self.now) }
+    {
         let Some(step) = self.step else {
             return Ok(None);
         };
@@ -658,6 +661,7 @@ impl<'a> Player<'a> {
     // A provisional response has come to a socket: behind one to the same command the answer is waited for anew.
     fn prolong(&mut self, at: Socket, id: u32) -> Result<(), OutOfMemory>
         ensures until { (self.new.until ≡ self.old.until) ⊎ (self.new.until ≡ None) }
+        ensures anew { OnOk result (self.new.until ≡ until_behind self.old at id self.old.until) }
         ensures rest { self.new ≡ record self.old { until = self.new.until } }
     {
         if is_prolonged(self.awaited_id()?, self.from, id, at) {
@@ -721,7 +725,10 @@ impl<'a> Player<'a> {
         id: u32,
         text: &[u8],
     ) -> Result<(), OutOfMemory>
-        ensures { self.new ≡ record self.old { mailbox = self.new.mailbox } }
+        ensures left { OnOk result (map said_as self.new.mailbox.waiting.items
+            ≡ map said_as self.old.mailbox.waiting.items ++ left_if (is_left_to_steps self.old text.now) at moment id text.now) }
+        ensures heard { self.new.mailbox.heard ≡ self.old.mailbox.heard }
+        ensures rest { self.new ≡ record self.old { mailbox = self.new.mailbox } }
     {
         if !self.is_for_steps(text)? {
             return Ok(());
@@ -739,7 +746,11 @@ impl<'a> Player<'a> {
     fn hear(&mut self, at: Socket, text: &[u8], moment: u64) -> Result<(), OutOfMemory>
         ensures waiting { OnOk result (map came_as self.new.inbox.waiting.items
             ≡ map came_as self.old.inbox.waiting.items ++ kept_of self.old.names.base (awaits_answer self.old.step) at text.now) }
+        ensures left { OnOk result (map said_as self.new.mailbox.waiting.items
+            ≡ map said_as self.old.mailbox.waiting.items ++ left_of self.old at moment text.now) }
+        ensures heard { self.new.mailbox.heard ≡ self.old.mailbox.heard }
         ensures until { (self.new.until ≡ self.old.until) ⊎ (self.new.until ≡ None) }
+        ensures anew { OnOk result (self.new.until ≡ until_of self.old at text.now self.old.until) }
         ensures rest { self.new ≡ record self.old {
           inbox = record self.old.inbox { waiting = self.new.inbox.waiting };
           mailbox = self.new.mailbox;
@@ -758,12 +769,16 @@ impl<'a> Player<'a> {
     }
 
     /// A datagram has come to a socket at this moment, in ms. Whatever it is, the step that waits began when it began.
-    #[tactic(auto, unfolding(check_matching::specs::Hearing::kept_in))]
+    #[tactic(auto, unfolding(check_matching::specs::Hearing::kept_in, crate::specs::Keeping::left_in, crate::specs::Keeping::until_after))]
     pub fn take(&mut self, at: Socket, datagram: &[u8], moment: u64) -> Result<(), OutOfMemory>
         ensures begun { self.new.begun ≡ self.old.begun }
         ensures waiting { OnOk result (map came_as self.new.inbox.waiting.items ≡ map came_as self.old.inbox.waiting.items
             ++ kept_in self.old.names.base (awaits_answer self.old.step) at (parts_of datagram.now)) }
+        ensures left { OnOk result (map said_as self.new.mailbox.waiting.items
+            ≡ map said_as self.old.mailbox.waiting.items ++ left_in self.old at moment (parts_of datagram.now)) }
+        ensures heard { self.new.mailbox.heard ≡ self.old.mailbox.heard }
         ensures until { (self.new.until ≡ self.old.until) ⊎ (self.new.until ≡ None) }
+        ensures anew { OnOk result (self.new.until ≡ until_after self.old at (parts_of datagram.now) self.old.until) }
         ensures rest { self.new ≡ record self.old {
           inbox = record self.old.inbox { waiting = self.new.inbox.waiting };
           mailbox = self.new.mailbox;
