@@ -1,6 +1,13 @@
 -- What an answer does to a gateway and an exchange's office of which so much is known.
-use Rattle.std.proofs.Common.{◌≡◌, ℕ, List, sym, ap, subst, ◌∙◌}
-use Rattle.std.specs.Prelude.{slice_get}
+use Rattle.std.proofs.Common.{◌≡◌, ℕ, List, Option, sym, ap, subst, ◌∙◌}
+use Rattle.std.specs.Prelude.{is_none, slice_get}
+use Rattle.gateway_rules.specs.declared.refusal.Refusal.{Refusal}
+use Rattle.plain_machine.specs.Event.{tick}
+use Rattle.plain_machine.specs.Refusing.{ends, tick_refusal}
+use Rattle.outbound.specs.Flight.{InFlight}
+use Rattle.call_agent.specs.Agent.{AgentMachine}
+use Rattle.call_agent.specs.Flying.{first_flight, if_due}
+use Rattle.call_agent.specs.Hearing.{AgentEnds}
 use Rattle.call_routing.specs.Exchange.{ExchangeState}
 use Rattle.call_office.specs.declared.care.Care.{Care}
 use Rattle.switchboard.specs.declared.gateway.Gateway.{Gateway}
@@ -39,3 +46,19 @@ pub behind_so : (gateway : Gateway) (now : ℕ) (wakes : List Wake) → gateway.
     → behind_woken gateway.ticked gateway.wakes.items ≡ behind_woken now wakes
 behind_so gateway now wakes clock wakes_so =
     ap (λ (n : ℕ). behind_woken n gateway.wakes.items) clock ∙ ap (λ (list : List Wake). behind_woken now list) wakes_so
+
+-- how an agent ends at a tick of which so much is known
+abbrev pub EndsTick : ℕ → ℕ → List InFlight → Option Refusal → Type 0
+EndsTick now to flights given = ends (tick_refusal now to) (is_none (if_due to (first_flight flights))) given
+
+pub agent_ends : (m : AgentMachine) (now to : ℕ) (flights : List InFlight) (given : Option Refusal) → m.now ≡ now → m.flights ≡ flights
+    → EndsTick now to flights given → AgentEnds m (tick to) given
+agent_ends m now to flights given now_is flights_are so =
+    subst (λ (n : ℕ). EndsTick n to m.flights given) (sym now_is)
+    (subst (λ (list : List InFlight). EndsTick now to list given) (sym flights_are) so)
+
+pub agent_ended : (m : AgentMachine) (now to : ℕ) (flights : List InFlight) (given : Option Refusal) → m.now ≡ now → m.flights ≡ flights
+    → AgentEnds m (tick to) given → EndsTick now to flights given
+agent_ended m now to flights given now_is flights_are so =
+    subst (λ (list : List InFlight). EndsTick now to list given) flights_are
+    (subst (λ (n : ℕ). EndsTick n to m.flights given) now_is so)

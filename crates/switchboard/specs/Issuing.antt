@@ -1,5 +1,5 @@
 -- What a line of a board is sent: which command its duty and the exchange make of that, and who issues it.
-use Rattle.std.specs.Prelude.{◌≡◌, ◌⊎◌, ℕ, false, List, [], ◌∷◌, ◌++◌, Option, Some, None, IsSomeAnd, Result, Ok, IfOk, is_ok, slice_get, take}
+use Rattle.std.specs.Prelude.{◌≡◌, ◌⊎◌, ℕ, List, [], ◌∷◌, ◌++◌, Option, Some, None, IsSomeAnd, Result, Ok, Err, slice_get, take}
 use Rattle.std.specs.Global.{Box}
 use Rattle.endpoint_names.specs.declared.route.Route.TheVariants.{One}
 use Rattle.outbound.specs.Flight.{sent_first}
@@ -7,7 +7,7 @@ use Rattle.transmission.specs.Texts.{largest_datagram}
 use Rattle.call_agent.specs.declared.issuing.Issued.{Issued}
 use Rattle.call_agent.specs.declared.issuing.IssueFault.{IssueFault}
 use Rattle.call_agent.specs.declared.issuing.IssueFault.TheVariants.{OutOfMemory, NoMoreIds, BadCommand}
-use Rattle.call_agent.specs.AgentStands.{AgentStands, AgentTook}
+use Rattle.call_agent.specs.AgentStands.{AgentStands, AgentStays, AgentTook}
 use Rattle.call_agent.specs.Hearing.{AgentEvent, issues, plain_agent}
 use Rattle.call_agent.specs.Issuing.{IssueRefusal, no_more_ids, bad_command, issue_refusal}
 use Rattle.agent_texts.specs.declared.station.Station.{Station}
@@ -43,35 +43,45 @@ Fails verb name rest fault gateway =
     (events : List AgentEvent) → AgentStands gateway.agent.value events
     → FailsBy (issue_refusal (plain_agent gateway.agent.value.setup events) verb name rest) fault
 
--- the agent of a gateway issues a command under a name, with this verb and this behind its line; it is in flight to this line
+-- The agent of a gateway issues a command under a name, with this verb and this behind its line; it is in flight to this line. Or it
+-- doesn't, for its reason: then it stands for what it did before, and nothing of the command is in flight.
 abbrev pub IssuesUnder : List ℕ → Shown → ℕ → Result Issued IssueFault → Gateway → Gateway → Type 0
-IssuesUnder name order line result was is =
-    IfOk result (λ issued. AgentTook was.agent.value (issues order.0 name order.1) is.agent.value (issued.datagram ∷ []))
-    × IfOk result (λ issued. Flies (Some line) issued was is)
+IssuesUnder name order line (Ok issued) was is =
+    AgentTook was.agent.value (issues order.0 name order.1) is.agent.value (issued.datagram ∷ []) × Flies (Some line) issued was is
+IssuesUnder name order line (Err fault) was is =
+    Fails order.0 name order.1 fault was × AgentStays was.agent.value is.agent.value × (is.flights.items ≡ was.flights.items)
 
--- A command is issued to a line with this station: by the agent of its gateway, and under its name. None is issued to a line that there
--- isn't, nor to one whose gateway there isn't.
+-- A command is issued to a line with this station: by the agent of its gateway, and under its name. To a line that there isn't, or whose
+-- gateway there isn't, any is a bad one.
 abbrev pub IssuesIn : List ℕ → Shown → ℕ → Result Issued IssueFault → Option Gateway → Option Gateway → Type 0
-IssuesIn name order line result None is = is_ok result ≡ false
+IssuesIn name order line result None is = result ≡ Err BadCommand
 IssuesIn name order line result (Some was) is = IsSomeAnd is (λ gateway. IssuesUnder name order line result was gateway)
 
 abbrev pub IssuesTo : ℕ → Shown → Result Issued IssueFault → Option Station → List Gateway → List Gateway → Type 0
-IssuesTo line order result None were are = is_ok result ≡ false
+IssuesTo line order result None were are = result ≡ Err BadCommand
 IssuesTo line order result (Some station) were are =
     IssuesIn station.name order line result (slice_get were station.gateway) (slice_get are station.gateway)
 
--- what a line is sent is issued to it; where it is sent nothing, nothing is
-abbrev pub IssuesOrder : ℕ → Option Shown → Option Issued → Option Station → List Gateway → List Gateway → Type 0
-IssuesOrder line None None station were are = are ≡ were
-IssuesOrder line None (Some issued) station were are = ⊥
-IssuesOrder line (Some order) None station were are = ⊥
-IssuesOrder line (Some order) (Some issued) station were are = IssuesTo line order (Ok issued) station were are
+-- memory is refused before anything is issued: no gateway has changed
+abbrev pub RefusedBefore : IssueFault → List Gateway → List Gateway → Type 0
+RefusedBefore fault were are = (fault ≡ OutOfMemory) × (are ≡ were)
 
--- so it is at the line that is settled, if one is
-abbrev pub IssuesSettled : Option ℕ → Option Issued → Switchboard → Switchboard → Type 0
-IssuesSettled None issued was is = (issued ≡ None) × (is.gateways.items ≡ was.gateways.items)
-IssuesSettled (Some line) issued was is =
-    IssuesOrder line (ordered_in line was.dialling.value.map was.office) issued (slice_get was.stations.items line) was.gateways.items is.gateways.items
+-- What a line is sent is issued to it, or it isn't, for the reason of its agent; where it is sent nothing, nothing is. Whatever it is sent,
+-- memory may be refused for that before.
+abbrev pub IssuesOrder : ℕ → Option Shown → Result (Option Issued) IssueFault → Option Station → List Gateway → List Gateway → Type 0
+IssuesOrder line None (Ok None) station were are = are ≡ were
+IssuesOrder line None (Ok (Some issued)) station were are = ⊥
+IssuesOrder line None (Err fault) station were are = RefusedBefore fault were are
+IssuesOrder line (Some order) (Ok None) station were are = ⊥
+IssuesOrder line (Some order) (Ok (Some issued)) station were are = IssuesTo line order (Ok issued) station were are
+IssuesOrder line (Some order) (Err fault) station were are =
+    IssuesTo line order (Err fault) station were are ⊎ RefusedBefore fault were are
+
+-- so it is at the line that is settled; where none is, nothing is issued, and nothing is refused
+abbrev pub IssuesSettled : Option ℕ → Result (Option Issued) IssueFault → Switchboard → Switchboard → Type 0
+IssuesSettled None result was is = (result ≡ Ok None) × (is.gateways.items ≡ was.gateways.items)
+IssuesSettled (Some line) result was is =
+    IssuesOrder line (ordered_in line was.dialling.value.map was.office) result (slice_get was.stations.items line) was.gateways.items is.gateways.items
 
 -- Of the gateways that of a line alone may have issued something; all others are as they were.
 abbrev pub SendsAlone : Option Station → List Gateway → List Gateway → Type 0

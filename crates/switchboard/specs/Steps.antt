@@ -5,6 +5,10 @@ use Rattle.endpoint_names.specs.declared.name.Pattern.{Pattern}
 use Rattle.endpoint_names.specs.declared.name.Pattern.TheVariants.{One, All, Any}
 use Rattle.endpoint_names.specs.declared.name.NameFault.{NameFault}
 use Rattle.endpoint_names.specs.Name.{name_of}
+use Rattle.gateway_rules.specs.declared.refusal.Refusal.{Refusal}
+use Rattle.plain_machine.specs.Event.{GatewayEvent}
+use Rattle.call_agent.specs.AgentStands.{AgentStands}
+use Rattle.call_agent.specs.Hearing.{AgentEnds, AgentEvent, plain_agent}
 use Rattle.call_routing.specs.Exchange.{ExchangeState}
 use Rattle.call_office.specs.declared.care.Care.{Care}
 use Rattle.switchboard.specs.declared.gateway.Gateway.{Gateway}
@@ -111,6 +115,13 @@ OthersStay place were are = are ≡ with_gateway place (slice_get are place) wer
 -- a command may have been issued: its agent took that, and what is in flight may be more; all else of it is as it was
 abbrev pub Sends : Gateway → Gateway → Type 0
 Sends was is = is ≡ record was { agent = is.agent; flights = is.flights }
+
+-- Why the agent of a gateway refuses what comes to it, if it does: for its own reason; or memory is refused for what takes any. So it is by
+-- each list of events that it stands for.
+abbrev pub Refuses : GatewayEvent → Option Refusal → Gateway → Type 0
+Refuses event reason gateway =
+    (events : List AgentEvent) → AgentStands gateway.agent.value events
+    → AgentEnds (plain_agent gateway.agent.value.setup events) event reason
 
 -- its clock went on, or the tick was refused
 abbrev pub Ticks : Bool → ℕ → Gateway → Gateway → Type 0

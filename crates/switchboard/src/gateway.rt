@@ -1,6 +1,7 @@
 //! A gateway that a call agent works with.
 ghost use Rattle.std.specs.Prelude.{◌≡◌, ◌<◌, ◌≤◌, [], ◌∷◌, ◌++◌, None, IfErr, IfOk, OnOk, OnErr, length, remove, slice_get, vec_len};
 ghost use Rattle.std.specs.Vec.{vec_capacity};
+ghost use Rattle.std.specs.Result.{result_err};
 ghost use Rattle.endpoint_names.specs.declared.route.Route.TheVariants as routes;
 ghost use Rattle.plain_machine.specs.Event.{tick};
 ghost use Rattle.call_agent.specs.Hearing.{hears, issues};
@@ -11,6 +12,7 @@ ghost use Rattle.switchboard.specs.Announcing.{is_new, last_new};
 ghost use Rattle.switchboard.specs.Dues.{FallsDueAt};
 ghost use Rattle.switchboard.specs.Ended.{asked_in, first_ended, is_ended_in, still_flying};
 ghost use Rattle.switchboard.specs.Issuing.{Fails, Flies};
+ghost use Rattle.switchboard.specs.Steps.{Refuses};
 ghost use Rattle.switchboard.specs.Wakes.{first_moment, first_woken, behind_woken};
 
 use crate::flight::Flight;
@@ -257,10 +259,12 @@ impl Gateway {
         Ok(issued)
     }
 
-    /// The clock goes on to this moment (in ms), but by no more than a second: what is sent.
+    /// The clock goes on to this moment (in ms), but by no more than a second: what is sent. It stands still where its agent refuses that,
+    /// for its reason.
     pub(crate) fn tick(&mut self, moment: u64) -> Result<Outputs, Refusal>
         ensures ok { IfOk result (λ outputs.
             AgentTook self.old.agent.value (hears (tick (tick_to self.old.ticked moment))) self.new.agent.value outputs) }
+        ensures ends { Refuses (tick (tick_to self.old.ticked moment)) (result_err result) self.old }
         ensures ticked { OnOk result (self.new.ticked ≡ tick_to self.old.ticked moment) }
         ensures err { OnErr result (AgentStays self.old.agent.value self.new.agent.value) }
         ensures not_ticked { OnErr result (self.new.ticked ≡ self.old.ticked) }

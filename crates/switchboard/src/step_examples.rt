@@ -1,7 +1,7 @@
 //! Worked examples of what a step of a board does, as theorems.
 #![tactic(auto, unfolding(crate::proofs::Computing::on_examples))]
 
-ghost use Rattle.std.specs.Prelude.{◌≡◌, [], ◌∷◌, ℕ, Bool, true, false, List, Option, Some, None, Err, take};
+ghost use Rattle.std.specs.Prelude.{◌≡◌, [], ◌∷◌, ℕ, Bool, true, false, List, Option, Some, None, Ok, Err, take};
 ghost use Rattle.std.specs.Global.{Box};
 ghost use Rattle.call_routing.specs.Exchange.{told};
 ghost use Rattle.switchboard.specs.declared.gateway.Gateway.{Gateway};
@@ -16,20 +16,22 @@ ghost use Rattle.transmission.specs.Texts.{largest_datagram};
 ghost use Rattle.call_agent.specs.declared.issuing.Issued.{Issued};
 ghost use Rattle.call_agent.specs.declared.issuing.IssueFault.{IssueFault};
 ghost use Rattle.call_agent.specs.declared.issuing.IssueFault.TheVariants as faults;
-ghost use Rattle.call_agent.specs.Issuing.{no_more_ids, bad_command};
-ghost use Rattle.call_agent.specs.AgentStands.{AgentStands};
+ghost use Rattle.call_agent.specs.Issuing.{no_more_ids, bad_command, issue_refusal};
+ghost use Rattle.call_agent.specs.AgentStands.{AgentStands, AgentStays};
+ghost use Rattle.gateway_rules.specs.declared.refusal.Refusal.TheVariants as refusals;
+ghost use Rattle.plain_machine.specs.Event.{tick};
 ghost use Rattle.call_agent.specs.Hearing.{AgentEvent, plain_agent};
 ghost use Rattle.agent_texts.specs.declared.station.Station.{Station};
 ghost use Rattle.switchboard.specs.Boards.{Answers};
 ghost use Rattle.switchboard.specs.Dues.{FallsDue, FallsDueAt};
 ghost use Rattle.call_office.specs.Duties.{announced, begun, fixed_order, lost, new_care, outlived, owed};
-ghost use Rattle.switchboard.specs.Issuing.{ordered_in, FailsBy, Flies, IssuesOrder, IssuesSettled, IssuesTo, SendsAlone, SendsAtMost};
+ghost use Rattle.switchboard.specs.Issuing.{ordered_in, FailsBy, Flies, IssuesOrder, IssuesSettled, IssuesTo, IssuesUnder, SendsAlone, SendsAtMost};
 ghost use Rattle.call_office.specs.Orders.{Shown, routed};
 ghost use Rattle.call_office.specs.Steps.{Forgets};
-ghost use Rattle.switchboard.specs.Steps.{has_line, Announces, AnnouncesTo, IssuesAt, OfOffice, OthersStay, Ticks, Wakens, settled_in};
+ghost use Rattle.switchboard.specs.Steps.{has_line, Announces, AnnouncesTo, IssuesAt, OfOffice, OthersStay, Refuses, Ticks, Wakens, settled_in};
 ghost use Rattle.switchboard.specs.TypedCommands.{typed_fault, IssuesCommand, IssuesMeant, IssuesThere};
 ghost use Rattle.call_office.specs.Example.{audited, creating, deleted_later, deleted_now};
-ghost use Rattle.switchboard.specs.Example.{wake_at};
+ghost use Rattle.switchboard.specs.Example.{wake_at, HasAgent};
 
 use crate::typed::TypedFault;
 use call_routing::Told;
@@ -107,26 +109,70 @@ pub fn what_a_line_is_sent_has_examples()
         ordered_in 1 [] (Some office) ≡ fixed_order duties.Clear }
     ensures exchange { (office : Box Office) (map : List ℕ) → office.value.cares.items ≡ audited ∷ [] →
         ordered_in 0 map (Some office) ≡ routed office.value.exchange 0 map }
-    // It is issued where it is sent, and nothing else is; to a line that there isn't, or whose gateway there isn't, nothing can be.
-    ensures nothing { (station : Option Station) (gateways : List Gateway) → IssuesOrder 0 None None station gateways gateways }
+    // It is issued where it is sent, and nothing else is.
+    ensures nothing { (station : Option Station) (gateways : List Gateway) → IssuesOrder 0 None (Ok None) station gateways gateways }
     ensures unsent { (station : Option Station) (order : Shown) (gateways : List Gateway) →
-        IssuesOrder 0 (Some order) None station gateways gateways → ⊥ }
+        IssuesOrder 0 (Some order) (Ok None) station gateways gateways → ⊥ }
     ensures unasked { (station : Option Station) (issued : Issued) (gateways : List Gateway) →
-        IssuesOrder 0 None (Some issued) station gateways gateways → ⊥ }
-    ensures no_station { (order : Shown) (fault : IssueFault) (gateways : List Gateway) →
-        IssuesTo 0 order (Err fault) None gateways gateways }
-    ensures no_gateway { (order : Shown) (fault : IssueFault) (station : Station) → IssuesTo 0 order (Err fault) (Some station) [] [] }
+        IssuesOrder 0 None (Ok (Some issued)) station gateways gateways → ⊥ }
     // It is in flight to its line, behind the others.
     ensures in_flight { (issued : Issued) (flight other : Flight) (was is : Gateway) → flight.line ≡ Some 3 →
         flight.pending ≡ sent_first issued.id (routes.One was.address) (take largest_datagram issued.datagram.bytes) was.ticked →
         was.flights.items ≡ other ∷ [] → is.flights.items ≡ other ∷ flight ∷ [] → Flies (Some 3) issued was is }
-    ensures none_settled { (board : Switchboard) → IssuesSettled None None board board }
+    ensures none_settled { (board : Switchboard) → IssuesSettled None (Ok None) board board }
+    ensures none_settled_none_refused { (fault : IssueFault) (board now : Switchboard) → IssuesSettled None (Err fault) board now → ⊥ }
     // All other gateways are as they were.
     ensures none_sent { (board : Switchboard) → SendsAtMost None board board }
     ensures no_station_sends { (gateways : List Gateway) → SendsAlone None gateways gateways }
     ensures none_issued { (station : Station) (gateways : List Gateway) → SendsAlone (Some station) gateways gateways }
     ensures others { (one two three other : Gateway) → OthersStay 1 (one ∷ two ∷ three ∷ []) (one ∷ other ∷ three ∷ []) }
     ensures none_there { (one : Gateway) → OthersStay 1 (one ∷ []) (one ∷ []) }
+    ensures none_comes { (one other : Gateway) → OthersStay 1 (one ∷ []) (one ∷ other ∷ []) → ⊥ }
+{}
+
+/// Why a line isn't sent what it is to be sent.
+pub fn why_nothing_is_issued_has_examples()
+    // Its agent refuses no command without a reason of its own, but for want of memory.
+    ensures without_reason { (order : Shown) (was is : Gateway) (events : List AgentEvent) → AgentStands was.agent.value events →
+        issue_refusal (plain_agent was.agent.value.setup events) order.0 [] order.1 ≡ None →
+        IssuesUnder [] order 0 (Err faults.BadCommand) was is → ⊥ }
+    ensures ids_are_left { (order : Shown) (was is : Gateway) (events : List AgentEvent) → AgentStands was.agent.value events →
+        issue_refusal (plain_agent was.agent.value.setup events) order.0 [] order.1 ≡ Some bad_command →
+        IssuesUnder [] order 0 (Err faults.NoMoreIds) was is → ⊥ }
+    // Then it stands for what it did before, and nothing of the command is in flight.
+    ensures stays { (order : Shown) (fault : IssueFault) (was is : Gateway) → IssuesUnder [] order 0 (Err fault) was is →
+        AgentStays was.agent.value is.agent.value }
+    ensures none_flies { (order : Shown) (fault : IssueFault) (was is : Gateway) → IssuesUnder [] order 0 (Err fault) was is →
+        is.flights.items ≡ was.flights.items }
+    // To a line that there isn't, or whose gateway there isn't, any command is a bad one.
+    ensures no_station { (order : Shown) (gateways : List Gateway) → IssuesTo 0 order (Err faults.BadCommand) None gateways gateways }
+    ensures no_gateway { (order : Shown) (station : Station) → IssuesTo 0 order (Err faults.BadCommand) (Some station) [] [] }
+    ensures no_line_for_want_of_ids { (order : Shown) (gateways : List Gateway) →
+        IssuesTo 0 order (Err faults.NoMoreIds) None gateways gateways → ⊥ }
+    // Memory may be refused before it is known what a line is sent: then no gateway has changed. There is no other reason where it is sent
+    // nothing.
+    ensures before { (station : Option Station) (order : Shown) (gateways : List Gateway) →
+        IssuesOrder 0 (Some order) (Err faults.OutOfMemory) station gateways gateways }
+    ensures before_nothing { (station : Option Station) (gateways : List Gateway) →
+        IssuesOrder 0 None (Err faults.OutOfMemory) station gateways gateways }
+    ensures before_anything { (station : Option Station) (were are : List Gateway) → IssuesOrder 0 None (Err faults.OutOfMemory) station were are →
+        are ≡ were }
+    ensures no_other { (station : Option Station) (were are : List Gateway) → IssuesOrder 0 None (Err faults.BadCommand) station were are → ⊥ }
+    ensures not_given_up { (order : Shown) (were are : List Gateway) → IssuesOrder 0 (Some order) (Err faults.NoMoreIds) None were are → ⊥ }
+{}
+
+/// Why an agent refuses what comes to its gateway.
+pub fn why_an_agent_refuses_has_examples()
+    // A tick, where its clock would go back, or on too far, for that; else it goes on, or memory is refused for what falls due by then.
+    ensures goes_back { (gateway : Gateway) → HasAgent 700 [] gateway → Refuses (tick 600) (Some refusals.ClockBack) gateway }
+    ensures too_far { (gateway : Gateway) → HasAgent 700 [] gateway → Refuses (tick 1701) (Some refusals.TickTooFar) gateway }
+    ensures goes_on { (gateway : Gateway) → HasAgent 700 [] gateway → Refuses (tick 1700) None gateway }
+    ensures without_memory { (gateway : Gateway) (flight : InFlight) → flight.due ≡ 900 → HasAgent 700 (flight ∷ []) gateway →
+        Refuses (tick 1700) (Some refusals.OutOfMemory) gateway }
+    ensures without_reason { (gateway : Gateway) (events : List AgentEvent) → AgentStands gateway.agent.value events →
+        HasAgent 700 [] gateway → Refuses (tick 1700) (Some refusals.TickTooFar) gateway → ⊥ }
+    ensures nothing_falls_due { (gateway : Gateway) (events : List AgentEvent) → AgentStands gateway.agent.value events →
+        HasAgent 700 [] gateway → Refuses (tick 1700) (Some refusals.OutOfMemory) gateway → ⊥ }
 {}
 
 /// Who issues a command that was typed, and why it isn't.

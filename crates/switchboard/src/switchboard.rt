@@ -1,9 +1,9 @@
 //! The gateways that a call agent works with, and their lines.
-ghost use Rattle.std.specs.Prelude.{◌≡◌, ◌∷◌, ◌++◌, true, false, List, IfOk, OnErr, is_err, is_ok, is_some, length, option_map, position, slice_get};
+ghost use Rattle.std.specs.Prelude.{◌≡◌, [], ◌∷◌, ◌++◌, true, false, IfNone, IfOk, Ok, OnErr, is_err, is_ok, is_some, length, option_map, position, slice_get};
 ghost use Rattle.std.specs.Result.{result_err};
 ghost use Rattle.plain_machine.specs.Event.{datagram, tick};
-ghost use Rattle.call_agent.specs.Hearing.{AgentEnds, AgentEvent, hears, plain_agent};
-ghost use Rattle.call_agent.specs.AgentStands.{AgentStands, AgentStays, AgentTook};
+ghost use Rattle.call_agent.specs.Hearing.{hears};
+ghost use Rattle.call_agent.specs.AgentStands.{AgentStays, AgentTook};
 ghost use Rattle.agent_texts.specs.Counts.{with_given_up, with_notification, with_strange_name};
 ghost use Rattle.switchboard.specs.AgentClock.{tick_to};
 ghost use Rattle.switchboard.specs.Boards.{is_at, settling_in, SettlesIn, taking_in, woken_at, WakesIn};
@@ -16,7 +16,7 @@ ghost use Rattle.switchboard.specs.Meaning.{has_domain, meant};
 ghost use Rattle.call_office.specs.Orders.{shown};
 ghost use Rattle.call_office.specs.Showing.{ShowsIn};
 ghost use Rattle.call_office.specs.Steps.{Begins, Forgets, HearsSome};
-ghost use Rattle.switchboard.specs.Steps.{settled_in, AnnouncesTo, AtPlace, Issues, IssuesAt, OfOffice, OthersStay, Ticks, ToldAt, Wakens};
+ghost use Rattle.switchboard.specs.Steps.{settled_in, AnnouncesTo, AtPlace, Issues, IssuesAt, OfOffice, OthersStay, Refuses, Ticks, ToldAt, Wakens};
 ghost use Rattle.switchboard.specs.Taking.{first_of, taken_place, TakesOf, TakesTold};
 ghost use Rattle.switchboard.specs.Tallying.{counted_if};
 ghost use Rattle.switchboard.specs.TypedCommands.{IssuesThere, IssuesTyped};
@@ -222,7 +222,8 @@ impl Switchboard {
         }
     }
 
-    /// The agent of the gateway at this place hears a datagram: what is sent. After an error it stands for what it did before.
+    /// The agent of the gateway at this place hears a datagram: what is sent; nothing, where there is no such gateway. After an error it
+    /// stands for what it did before.
     pub fn step(
         &mut self,
         place: usize,
@@ -234,9 +235,9 @@ impl Switchboard {
             self.old.gateways.items self.new.gateways.items }
         ensures err { AtPlace place (λ was is. OnErr result (AgentStays was.agent.value is.agent.value))
             self.old.gateways.items self.new.gateways.items }
-        ensures ends { AtPlace place (λ was is. (events : List AgentEvent) → AgentStands was.agent.value events
-            → AgentEnds (plain_agent was.agent.value.setup events) (datagram source bytes.now) (result_err result))
+        ensures ends { AtPlace place (λ was is. Refuses (datagram source bytes.now) (result_err result) was)
             self.old.gateways.items self.new.gateways.items }
+        ensures nobody { IfNone (slice_get self.old.gateways.items place) (result ≡ Ok []) }
         ensures own { AtPlace place (λ was is. is ≡ record was { agent = is.agent }) self.old.gateways.items self.new.gateways.items }
         ensures office { self.new.office ≡ self.old.office }
         ensures others { OthersStay place self.old.gateways.items self.new.gateways.items }
@@ -248,14 +249,17 @@ impl Switchboard {
         }
     }
 
-    /// The clock of the agent of the gateway at this place goes on to this moment (in ms), but by no more than a second: what is sent.
-    /// After an error it stands still, and the agent stands for what it did before.
+    /// The clock of the agent of the gateway at this place goes on to this moment (in ms), but by no more than a second: what is sent;
+    /// nothing, where there is no such gateway. After an error it stands still, and the agent stands for what it did before.
     pub fn tick(&mut self, place: usize, moment: u64) -> Result<Outputs, Refusal>
         ensures took { AtPlace place (λ was is. IfOk result (λ outputs.
             AgentTook was.agent.value (hears (tick (tick_to was.ticked moment))) is.agent.value outputs))
             self.old.gateways.items self.new.gateways.items }
         ensures err { AtPlace place (λ was is. OnErr result (AgentStays was.agent.value is.agent.value))
             self.old.gateways.items self.new.gateways.items }
+        ensures ends { AtPlace place (λ was is. Refuses (tick (tick_to was.ticked moment)) (result_err result) was)
+            self.old.gateways.items self.new.gateways.items }
+        ensures nobody { IfNone (slice_get self.old.gateways.items place) (result ≡ Ok []) }
         ensures clock { AtPlace place (Ticks (is_ok result) moment) self.old.gateways.items self.new.gateways.items }
         ensures own { AtPlace place (λ was is. is ≡ record was { agent = is.agent; ticked = is.ticked })
             self.old.gateways.items self.new.gateways.items }
@@ -400,8 +404,8 @@ impl Switchboard {
     // Issues what a line is to be sent now: what is to be sent, if anything is. Where it can't be issued it counts as given up.
     fn issue_to(&mut self, line: usize) -> Result<Option<Issued>, IssueFault>
         ensures office { Issues (is_err result) line self.old.office self.new.office }
-        ensures issued { IfOk result (λ issued. IssuesOrder line (ordered_in line self.old.dialling.value.map self.old.office) issued
-            (slice_get self.old.stations.items line) self.old.gateways.items self.new.gateways.items) }
+        ensures issued { IssuesOrder line (ordered_in line self.old.dialling.value.map self.old.office) result
+            (slice_get self.old.stations.items line) self.old.gateways.items self.new.gateways.items }
         ensures alone { SendsAlone (slice_get self.old.stations.items line) self.old.gateways.items self.new.gateways.items }
         ensures rest { self.new ≡ record self.old { gateways = self.new.gateways; office = self.new.office } }
     {
@@ -426,7 +430,7 @@ impl Switchboard {
     /// can't be issued it counts as given up.
     pub fn issue_next(&mut self, index: usize) -> Result<Option<Issued>, IssueFault>
         ensures office { IssuesAt (settled_in index self.old.office) (is_err result) self.old.office self.new.office }
-        ensures issued { IfOk result (λ issued. IssuesSettled (settled_in index self.old.office) issued self.old self.new) }
+        ensures issued { IssuesSettled (settled_in index self.old.office) result self.old self.new }
         ensures alone { SendsAtMost (settled_in index self.old.office) self.old self.new }
         ensures rest { self.new ≡ record self.old { gateways = self.new.gateways; office = self.new.office } }
     {

@@ -1,10 +1,16 @@
-use Rattle.std.proofs.Common.{List, [], ◌∷◌, ◌++◌, inl, refl, sym, ap, ◌∙◌}
+use Rattle.std.proofs.Common.{◌≡◌, List, [], ◌∷◌, ◌++◌, Option, None, Result, Ok, Err, inl, refl, sym, ap, ◌∙◌}
 use Rattle.std.specs.Prelude.{slice_get}
+use Rattle.call_agent.specs.declared.issuing.Issued.{Issued}
+use Rattle.call_agent.specs.declared.issuing.IssueFault.{IssueFault}
 use Rattle.call_office.specs.declared.care.Care.{Care}
 use Rattle.switchboard.specs.declared.flight.Flight.{Flight}
 use Rattle.call_office.specs.Orders.{ordered}
 use Rattle.switchboard.proofs.Computing.{on_examples}
 use Rattle.switchboard.proofs.step_examples.what_a_line_is_sent_has_examples.Goals as goal
+
+-- nothing is issued, for this
+abbrev no_more : IssueFault → Result (Option Issued) IssueFault
+no_more fault = Err fault
 
 pub returns-clause-no_line : goal.returns-clause-no_line
 unfolding on_examples
@@ -30,6 +36,14 @@ returns-clause-in_flight c = λ issued flight other was is line pending were are
 
 pub returns-clause-none_settled : goal.returns-clause-none_settled
 returns-clause-none_settled c = λ board. (refl, refl)
+
+pub returns-clause-none_settled_none_refused : goal.returns-clause-none_settled_none_refused
+returns-clause-none_settled_none_refused c = λ fault board now refused.
+    let none : no_more fault ≡ Ok None = refused.0 in absurd cc
+
+pub returns-clause-none_comes : goal.returns-clause-none_comes
+returns-clause-none_comes c = λ one other stay.
+    let none : one ∷ other ∷ [] ≡ one ∷ [] = stay in absurd cc
 
 pub returns-clause-none_issued : goal.returns-clause-none_issued
 returns-clause-none_issued c = λ station gateways. inl refl
