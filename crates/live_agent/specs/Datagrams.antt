@@ -7,8 +7,8 @@ use Rattle.agent_texts.specs.Counts.{one_more, with_notification, with_received}
 use Rattle.bad_network.specs.declared.network.BadNetwork.{BadNetwork}
 use Rattle.bad_network.specs.declared.packet.Packet.{Packet}
 use Rattle.bad_network.specs.declared.packet.Way.TheVariants.{In}
-use Rattle.call_agent.specs.AgentStands.{AgentStands, AgentStays, AgentTook}
-use Rattle.call_agent.specs.Hearing.{AgentEnds, AgentEvent, hears, plain_agent}
+use Rattle.call_agent.specs.AgentStands.{AgentStays, AgentTook}
+use Rattle.call_agent.specs.Hearing.{hears}
 use Rattle.plain_machine.specs.Event.{datagram}
 use Rattle.gateway_rules.specs.declared.refusal.Refusal.{Refusal}
 use Rattle.surroundings.specs.declared.surroundings.Fault.{Fault}
@@ -21,7 +21,7 @@ use Rattle.switchboard.specs.Hearing.{HearsText}
 use Rattle.live_agent.specs.Handing.{HandsOver, OffersTo}
 use Rattle.live_agent.specs.Sending.{SendsOver, SendsOutputs}
 use Rattle.live_agent.specs.Settling.{SettlesAll}
-use Rattle.switchboard.specs.Steps.{AtPlace, OthersStay}
+use Rattle.switchboard.specs.Steps.{AtPlace, OthersStay, Refuses}
 use Rattle.switchboard.specs.Taking.{taken_place, TakesOf}
 use Rattle.switchboard.specs.Tallying.{counted_if}
 use Rattle.live_agent.specs.Tallying.{looked_counted}
@@ -88,8 +88,7 @@ pub record StepsAt (place : ℕ) (source : SocketAddrV4) (bytes : List ℕ) (out
   pub took : AtPlace place (λ before behind. IfOk outputs (λ sent. AgentTook before.agent.value (hears (datagram source bytes)) behind.agent.value sent))
       was.gateways.items is.gateways.items
   pub stays : AtPlace place (λ before behind. OnErr outputs (AgentStays before.agent.value behind.agent.value)) was.gateways.items is.gateways.items
-  pub ends : AtPlace place (λ before behind. (events : List AgentEvent) → AgentStands before.agent.value events
-      → AgentEnds (plain_agent before.agent.value.setup events) (datagram source bytes) (result_err outputs)) was.gateways.items is.gateways.items
+  pub ends : AtPlace place (λ before behind. Refuses (datagram source bytes) (result_err outputs) before) was.gateways.items is.gateways.items
   pub own : AtPlace place (λ before behind. behind ≡ record before { agent = behind.agent }) was.gateways.items is.gateways.items
   pub others : OthersStay place was.gateways.items is.gateways.items
   pub rest : is ≡ record was { gateways = is.gateways }

@@ -1,5 +1,5 @@
 -- How lines to which something has happened are settled: each is shown, then each is sent what it is to be sent.
-use Rattle.std.specs.Prelude.{◌≡◌, ⊤, ℕ, zero, suc, Bool, true, false, is_err, List, Option, Some, None, IfOk, Result, Ok, Err}
+use Rattle.std.specs.Prelude.{◌≡◌, ⊤, ℕ, zero, suc, Bool, true, false, is_err, List, Option, Some, None, Result, Ok, Err}
 use Rattle.std.specs.declared.net.socket_addr.SocketAddrV4.{SocketAddrV4}
 use Rattle.call_agent.specs.declared.issuing.Issued.{Issued}
 use Rattle.call_agent.specs.declared.issuing.IssueFault.{IssueFault}
@@ -38,13 +38,13 @@ SendsIssued sends (Ok (Some issued)) was is = SendsCommand sends issued.datagram
 SendsIssued sends (Err fault) was is =
     (is ≡ record was { journal = is.journal }) × (is.journal.value.tally ≡ with_refusal was.journal.value.tally)
 
--- the line that is settled so many behind the first is sent what it is to be sent
+-- the line that is settled so many behind the first is sent what it is to be sent, or it isn't, for the reason of its agent
 pub record SendsNext {S : Type 0} (sends : S → SocketAddrV4 → List ℕ → Result ⊤ Fault → S → Type 0) (index : ℕ) (board : Switchboard) (was : Wire S)
     (now : Switchboard) (is : Wire S)
     : Type 0 where
   pub issued : Result (Option Issued) IssueFault
   pub office : IssuesAt (settled_in index board.office) (is_err issued) board.office now.office
-  pub issues : IfOk issued (λ one. IssuesSettled (settled_in index board.office) one board now)
+  pub issues : IssuesSettled (settled_in index board.office) issued board now
   pub alone : SendsAtMost (settled_in index board.office) board now
   pub rest : now ≡ record board { gateways = now.gateways; office = now.office }
   pub goes : SendsIssued sends issued was is

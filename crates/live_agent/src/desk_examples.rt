@@ -4,6 +4,7 @@
 ghost use Rattle.std.specs.Prelude.{◌≡◌, [], ◌∷◌, ℕ, true, false, List, Option, Some, None, Ok, Err, codes};
 ghost use Rattle.std.specs.declared.net.socket_addr.SocketAddrV4.{SocketAddrV4};
 ghost use Rattle.std.specs.Global.{Box};
+ghost use Rattle.std.specs.Result.{result_err};
 ghost use Rattle.agent_texts.specs.declared.journal.Journal.{Journal};
 ghost use Rattle.agent_texts.specs.declared.tally.Tally.{Tally};
 ghost use Rattle.agent_texts.specs.Counts.{with_given_up, with_notification};
@@ -11,6 +12,8 @@ ghost use Rattle.bad_network.specs.declared.network.BadNetwork.{BadNetwork};
 ghost use Rattle.bad_network.specs.declared.packet.Packet.{Packet};
 ghost use Rattle.bad_network.specs.declared.packet.Way.TheVariants.{In, Out};
 ghost use Rattle.bad_network.specs.Drawing.{after_draws};
+ghost use Rattle.call_agent.specs.AgentStands.{AgentStands};
+ghost use Rattle.call_agent.specs.Hearing.{AgentEvent};
 ghost use Rattle.call_agent.specs.declared.issuing.Issued.{Issued};
 ghost use Rattle.call_agent.specs.declared.issuing.IssueFault.{IssueFault};
 ghost use Rattle.gateway_rules.specs.declared.refusal.Refusal.{Refusal};
@@ -29,11 +32,13 @@ ghost use Rattle.live_agent.specs.AnyAround.{no_sockets, sends_any, receives_any
 ghost use Rattle.live_agent.specs.Datagrams.{with_stranger, DealsIf, HearsBy, HearsDatagram, HearsOne, HearsPacket, HearsTexts, SettlesIf, StepsAt, TakesEach, TakesElse, TakesFound, TakesLooked, TakesNext, TakesReceived};
 ghost use Rattle.switchboard.specs.Hearing.{HearsText};
 ghost use Rattle.switchboard.specs.Dues.{FallsDueAt};
+ghost use Rattle.switchboard.specs.Example.{HasAgent};
+ghost use Rattle.switchboard.specs.Steps.{settled_in};
 ghost use Rattle.live_agent.specs.Ending.{counted_in, EndsWith};
 ghost use Rattle.live_agent.specs.Handing.{comes_in, HandsFirst, HandsLast, Leaves, Offers, OffersTo, SendsEachOn, SendsOn, TakesOffer};
 ghost use Rattle.live_agent.specs.Sending.{GoesOut, SendsAll, SendsCommand, SendsOne, SendsOutputs, SendsOver, SettlesLines};
 ghost use Rattle.live_agent.specs.Serving.{RunsTurns, StopsAt, Writes};
-ghost use Rattle.live_agent.specs.Settling.{SendsEach, SendsIssued, SettlesBy, ShowsEach, ShowsOne};
+ghost use Rattle.live_agent.specs.Settling.{SendsEach, SendsIssued, SendsNext, SettlesBy, ShowsEach, ShowsOne};
 ghost use Rattle.live_agent.specs.Tallying.{leaving_counted, with_refusal, with_send_fault};
 ghost use Rattle.live_agent.specs.Ticking.{GivesUpEach, GivesUpMany, GivesUpNext, TicksEach, TicksOne, WakesEach, WakesMany};
 ghost use Rattle.live_agent.specs.Turning.{end_of, line_request, first_request, DoesRequest, DoesTurn, EndsBy, HearsTelephones, Notes, PassesLoad, TakesTyped, TellsCounts, TicksOver, Waits};
@@ -215,6 +220,8 @@ pub fn what_is_sent_has_examples()
         × (shown ≡ board) × (told ≡ was) × ShowsOne 0 shown told now is }
     ensures none_sent { (board now : Switchboard) (was is : Wire ℕ) → SendsEach sends_any 0 board was now is → (now ≡ board) × (is ≡ was) }
     ensures not_issued { (was is : Wire ℕ) → SendsIssued sends_any (Ok None) was is → is ≡ was }
+    ensures none_settled { (board now : Switchboard) (was is : Wire ℕ) (sends : SendsNext sends_any 0 board was now is) →
+        settled_in 0 board.office ≡ None → sends.issued ≡ Ok None }
     ensures refused_too { (fault : IssueFault) (was is : Wire ℕ) → SendsIssued sends_any (Err fault) was is →
         is.journal.value.tally ≡ with_refusal was.journal.value.tally }
     ensures issued { (issued : Issued) (was is : Wire ℕ) → SendsIssued sends_any (Ok (Some issued)) was is → SendsCommand sends_any issued.datagram was is }
@@ -225,6 +232,10 @@ pub fn what_a_tick_does_has_examples()
     ensures no_agent { (board now : Switchboard) (was is : Wire ℕ) → TicksEach sends_any 700 0 board was now is → (now ≡ board) × (is ≡ was) }
     ensures again { (board now : Switchboard) (was is : Wire ℕ) (ticks : TicksOne sends_any 700 0 board was now is) →
         SendsOutputs sends_any true ticks.outputs ticks.went_on was is }
+    // A clock that may go on does, where nothing falls due by then.
+    ensures goes_on { (gateway after : Gateway) (events : List AgentEvent) (board now : Switchboard) (was is : Wire ℕ)
+        (ticks : TicksOne sends_any 700 0 board was now is) → board.gateways.items ≡ gateway ∷ [] → now.gateways.items ≡ after ∷ [] →
+        gateway.ticked ≡ 500 → AgentStands gateway.agent.value events → HasAgent 500 [] gateway → result_err ticks.outputs ≡ None }
     // What is given up counts.
     ensures none_given_up { (board now : Switchboard) (was is : Wire ℕ) → GivesUpMany sends_any 0 0 board was now is → (now ≡ board) × (is ≡ was) }
     ensures counts { (board now : Switchboard) (was is : Wire ℕ) → GivesUpNext true 0 board was now is →

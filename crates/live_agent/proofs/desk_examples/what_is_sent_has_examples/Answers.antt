@@ -3,6 +3,7 @@ use Rattle.std.specs.Prelude.{⊤, codes}
 use Rattle.std.specs.declared.net.socket_addr.SocketAddrV4.{SocketAddrV4}
 use Rattle.bad_network.specs.declared.network.BadNetwork.{BadNetwork}
 use Rattle.surroundings.specs.declared.surroundings.Fault.{Fault}
+use Rattle.switchboard.specs.Issuing.{IssuesSettled}
 use Rattle.live_agent.specs.declared.wire.Wire.{Wire}
 use Rattle.live_agent.specs.Handing.{Leaves}
 use Rattle.live_agent.specs.Sending.{GoesOut}
@@ -39,6 +40,12 @@ returns-clause-command c = λ datagram was is command. (command.counted, command
 
 pub returns-clause-one_shown : goal.returns-clause-one_shown
 returns-clause-one_shown c = λ board now was is shows. (shows.0, shows.1, shows.2.0, shows.2.1, shows.3)
+
+pub returns-clause-none_settled : goal.returns-clause-none_settled
+returns-clause-none_settled c = λ board now was is sends none.
+    let issues : IssuesSettled None sends.issued board now
+    = subst (λ (line : Option ℕ). IssuesSettled line sends.issued board now) none sends.issues in
+    issues.0
 
 pub returns-clause-refused_too : goal.returns-clause-refused_too
 returns-clause-refused_too c = λ fault was is refused. refused.1

@@ -6,6 +6,7 @@ returns g c = record {
   went_on = c.send_outputs.result;
   took = c.tick-outputs.ensures.took;
   stays = c.tick-outputs.ensures.err;
+  ends = c.tick-outputs.ensures.ends;
   own = c.tick-outputs.ensures.own;
   clock = c.tick-outputs.ensures.clock;
   others = c.tick-outputs.ensures.others;
