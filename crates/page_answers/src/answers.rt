@@ -42,9 +42,11 @@ pub fn events_of(alloc: Global, board: &Board, after: u64) -> Result<String, All
 /// the board is as it was.
 pub fn act_on(alloc: Global, board: &mut Board, body: &[u8]) -> Result<ActOutcome, AllocError>
     ensures outcome { IfOk result (λ outcome. Becomes board.old body.now outcome board.new) }
-    ensures few { length board.old.acts ≤ MOST_ACTS → length board.new.acts ≤ MOST_ACTS }
+    ensures few { length board.new.acts ≤ MOST_ACTS }
     ensures err { OnErr result (board.new ≡ board.old) }
 {
+    // Where the board stays as it is no more wait either.
+    board.few_wait();
     let Some(queued) = read_act(alloc, body)? else {
         return Ok(ActOutcome::Unreadable);
     };

@@ -171,6 +171,11 @@ impl Board {
         metrics_text(self.alloc, &self.picture)
     }
 
+    /// No more acts wait than may, whatever was asked of the board. A law: calling it does nothing.
+    pub fn few_wait(&self)
+        ensures { length self.now.acts ≤ MOST_ACTS }
+    {}
+
     /// Takes an act: it waits behind the others, where fewer wait than may, and else nothing changes. Says whether it waits. After an
     /// error, which is for want of memory, the board is as it was.
     pub fn queue(&mut self, queued: QueuedAct) -> Result<bool, AllocError>
