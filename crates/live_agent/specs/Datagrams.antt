@@ -52,7 +52,7 @@ abbrev pub SettlesIf : {S : Type 0} → (S → SocketAddrV4 → List ℕ → Res
 SettlesIf sends false board was now is = (now ≡ board) × (is ≡ was)
 SettlesIf sends true board was now is = SettlesAll sends board was now is
 
--- of the line that is taken so many behind the first; it counts where there was anything
+-- of the line that is taken so many behind the first; it counts where there was anything, and is told
 pub record TakesNext {S : Type 0} (sends : S → SocketAddrV4 → List ℕ → Result ⊤ Fault → S → Type 0) (place index : ℕ) (board : Switchboard) (was : Wire S)
     (now : Switchboard) (is : Wire S)
     : Type 0 where
@@ -63,6 +63,7 @@ pub record TakesNext {S : Type 0} (sends : S → SocketAddrV4 → List ℕ → R
   pub rest : taken ≡ record board { stations = taken.stations; office = taken.office }
   pub counts : told.journal.value.tally ≡ counted_if found with_notification was.journal.value.tally
   pub leaves : told ≡ record was { journal = told.journal }
+  pub journal : told.journal.value ≡ record was.journal.value { tally = told.journal.value.tally; told = told.journal.value.told }
   pub settles : SettlesIf sends found taken told now is
 
 -- of so many lines, one behind another
@@ -111,14 +112,14 @@ pub record HearsAt {S : Type 0} (sends : S → SocketAddrV4 → List ℕ → Res
   pub goes : SendsOutputs sends false outputs went_on was sent
   pub deals : DealsIf sends went_on place bytes stepped sent now is
 
--- a stranger's counts, and does nothing
+-- a stranger's counts, and does nothing: nothing is told of it, nor noted
 abbrev pub with_stranger : Tally → Tally
 with_stranger tally = record tally { strange = one_more tally.strange }
 
 abbrev pub HearsBy : {S : Type 0} → (S → SocketAddrV4 → List ℕ → Result ⊤ Fault → S → Type 0) → Option ℕ → SocketAddrV4 → List ℕ → Switchboard → Wire S → Switchboard → Wire S → Type 0
 HearsBy sends None source bytes board was now is =
     (now ≡ board) × (is ≡ record was { journal = is.journal })
-    × (is.journal.value.tally ≡ with_stranger was.journal.value.tally)
+    × (is.journal.value ≡ record was.journal.value { tally = with_stranger was.journal.value.tally })
 HearsBy sends (Some place) source bytes board was now is = HearsAt sends place source bytes board was now is
 
 -- a datagram came from here: that counts; it is of the gateway at that address, or a stranger's

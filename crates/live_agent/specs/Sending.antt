@@ -54,7 +54,7 @@ abbrev pub SendsOutputs : {S : Type 0} → (S → SocketAddrV4 → List ℕ → 
 SendsOutputs sends is_repeat (Ok outputs) went_on was is = (went_on ≡ true) × SendsAll sends is_repeat outputs was is
 SendsOutputs sends is_repeat (Err refusal) went_on was is =
     (went_on ≡ false) × (is ≡ record was { journal = is.journal })
-    × (is.journal.value.tally ≡ with_refusal was.journal.value.tally)
+    × (is.journal.value ≡ record was.journal.value { tally = with_refusal was.journal.value.tally })
 
 -- a command was issued: that counts, and what it is goes out for the first time
 pub record SendsCommand {S : Type 0} (sends : S → SocketAddrV4 → List ℕ → Result ⊤ Fault → S → Type 0) (datagram : OutDatagram) (was is : Wire S)

@@ -132,7 +132,8 @@ pub fn what_turns_leave_has_examples()
 pub fn what_a_datagram_does_has_examples()
     // A stranger's counts, and does nothing.
     ensures stranger { (source : SocketAddrV4) (board now : Switchboard) (was is : Wire ℕ) → HearsBy sends_any None source [] board was now is →
-        (now ≡ board) × (is.journal.value.tally ≡ with_stranger was.journal.value.tally) }
+        (now ≡ board) × (is.journal.value.tally ≡ with_stranger was.journal.value.tally) × (is.journal.value.log ≡ was.journal.value.log)
+        × (is.journal.value.told ≡ was.journal.value.told) }
     // What has no text is heard so; of two the first is heard before the other.
     ensures no_text { (board now : Switchboard) (was is : Wire ℕ) → HearsTexts sends_any 0 [] board was now is → (now ≡ board) × (is ≡ was) }
     ensures two { (board now : Switchboard) (was is : Wire ℕ) → HearsTexts sends_any 0 (codes "a" ∷ codes "b" ∷ []) board was now is →
@@ -150,6 +151,8 @@ pub fn what_a_datagram_does_has_examples()
         takes.told.journal.value.tally ≡ was.journal.value.tally }
     ensures counts { (board now : Switchboard) (was is : Wire ℕ) (takes : TakesNext sends_any 0 0 board was now is) → takes.found ≡ true →
         takes.told.journal.value.tally ≡ with_notification was.journal.value.tally }
+    ensures logs_nothing { (board now : Switchboard) (was is : Wire ℕ) (takes : TakesNext sends_any 0 0 board was now is) →
+        (takes.told.journal.value.log ≡ was.journal.value.log) × (takes.told.journal.value.capture ≡ was.journal.value.capture) }
     ensures no_line { (board now : Switchboard) (was is : Wire ℕ) → TakesEach sends_any 0 0 board was now is → now ≡ board }
     // Where the network handed one over the sockets aren't looked for one; where it handed over none, nothing is heard.
     ensures handed { (board now : Switchboard) (was is : Wire ℕ) → TakesElse sends_any receives_any true board was now is → is ≡ was }
@@ -210,7 +213,8 @@ pub fn what_is_sent_has_examples()
         (sent : Wire ℕ) × SendsOne sends_any true datagram.to datagram.bytes was sent }
     ensures went_on { (was is : Wire ℕ) (went_on : _) → SendsOutputs sends_any true (Ok []) went_on was is → (went_on ≡ true) × (is ≡ was) }
     ensures refused { (refusal : Refusal) (was is : Wire ℕ) (went_on : _) → SendsOutputs sends_any true (Err refusal) went_on was is →
-        (went_on ≡ false) × (is.journal.value.tally ≡ with_refusal was.journal.value.tally) }
+        (went_on ≡ false) × (is.journal.value.tally ≡ with_refusal was.journal.value.tally) × (is.journal.value.log ≡ was.journal.value.log)
+        × (is.journal.value.told ≡ was.journal.value.told) }
     ensures command { (datagram : OutDatagram) (was is : Wire ℕ) → SendsCommand sends_any datagram was is →
         (counted : Wire ℕ) × SendsOne sends_any false datagram.to datagram.bytes counted is }
     // Lines are settled one behind another, each is shown before any is sent something; while the clock is behind none is.

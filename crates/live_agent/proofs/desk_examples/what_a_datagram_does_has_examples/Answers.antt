@@ -1,5 +1,6 @@
 use Rattle.std.proofs.Common.{◌≡◌, ℕ, Bool, Option, Result, ap, ◌∙◌}
 use Rattle.std.specs.declared.net.socket_addr.SocketAddrV4.{SocketAddrV4}
+use Rattle.agent_texts.specs.declared.journal.Journal.{Journal}
 use Rattle.agent_texts.specs.Counts.{with_notification}
 use Rattle.surroundings.specs.declared.surroundings.Fault.{Fault}
 use Rattle.switchboard.specs.declared.switchboard.Switchboard.{Switchboard}
@@ -9,7 +10,12 @@ use Rattle.live_agent.specs.declared.wire.Wire.{Wire}
 use Rattle.live_agent.proofs.desk_examples.what_a_datagram_does_has_examples.Goals as goal
 
 pub returns-clause-stranger : goal.returns-clause-stranger
-returns-clause-stranger c = λ source board now was is hears. (hears.0, hears.2)
+returns-clause-stranger c = λ source board now was is hears. (
+  hears.0,
+  ap (λ (journal : Journal). journal.tally) hears.2,
+  ap (λ (journal : Journal). journal.log) hears.2,
+  ap (λ (journal : Journal). journal.told) hears.2,
+)
 
 pub returns-clause-two : goal.returns-clause-two
 returns-clause-two c = λ board now was is hears. (hears.0, hears.1, hears.2)
@@ -52,6 +58,10 @@ returns-clause-counts_none c = λ board now was is takes none.
 pub returns-clause-counts : goal.returns-clause-counts
 returns-clause-counts c = λ board now was is takes some.
     takes.counts ∙ ap (λ (found : Bool). counted_if found with_notification was.journal.value.tally) some
+
+pub returns-clause-logs_nothing : goal.returns-clause-logs_nothing
+returns-clause-logs_nothing c = λ board now was is takes.
+    (ap (λ (journal : Journal). journal.log) takes.journal, ap (λ (journal : Journal). journal.capture) takes.journal)
 
 pub returns-clause-looks_for_one : goal.returns-clause-looks_for_one
 returns-clause-looks_for_one c = λ board now was is looks none.

@@ -1,6 +1,7 @@
 use Rattle.std.proofs.Common.{◌≡◌, ℕ, [], List, Option, None, Result, ap, subst}
 use Rattle.std.specs.Prelude.{⊤, codes}
 use Rattle.std.specs.declared.net.socket_addr.SocketAddrV4.{SocketAddrV4}
+use Rattle.agent_texts.specs.declared.journal.Journal.{Journal}
 use Rattle.bad_network.specs.declared.network.BadNetwork.{BadNetwork}
 use Rattle.surroundings.specs.declared.surroundings.Fault.{Fault}
 use Rattle.switchboard.specs.Issuing.{IssuesSettled}
@@ -33,7 +34,12 @@ pub returns-clause-all : goal.returns-clause-all
 returns-clause-all c = λ datagram was is all. (all.0, all.1)
 
 pub returns-clause-refused : goal.returns-clause-refused
-returns-clause-refused c = λ refusal was is went_on refused. (refused.0, refused.2)
+returns-clause-refused c = λ refusal was is went_on refused. (
+  refused.0,
+  ap (λ (journal : Journal). journal.tally) refused.2,
+  ap (λ (journal : Journal). journal.log) refused.2,
+  ap (λ (journal : Journal). journal.told) refused.2,
+)
 
 pub returns-clause-command : goal.returns-clause-command
 returns-clause-command c = λ datagram was is command. (command.counted, command.goes)

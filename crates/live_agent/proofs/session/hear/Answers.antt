@@ -14,7 +14,8 @@ returns-in_default g c = record {
     refl,
     refl,
     rw (c.deref_mut-in_default.ensures.value) (
-        ap (λ (strange : ℕ). record c.came.new.self.tally { strange = strange }) (rw (c.deref_mut-in_default.ensures.value) at c.count.ensures)
+        ap (λ (strange : ℕ). record c.came.new.self { tally = record c.came.new.self.tally { strange = strange } })
+        (rw (c.deref_mut-in_default.ensures.value) at c.count.ensures)
         ),
   );
 }
