@@ -1,5 +1,5 @@
 //! The play.
-ghost use Rattle.std.specs.Prelude.{◌≡◌, ◌∷◌, [], List, Option, Some, None, IfOk, IfErr, OnOk, OnErr};
+ghost use Rattle.std.specs.Prelude.{◌≡◌, ◌∷◌, [], List, Option, Some, None, IfOk, IfErr, IfSome, OnOk, OnErr};
 ghost use Rattle.std.specs.Result.{result_err};
 ghost use Rattle.surroundings.specs.Sending.{Sent, Grows};
 ghost use Rattle.mg_bytes.specs.Words.{words};
@@ -10,7 +10,7 @@ ghost use Rattle.gateway_core.specs.Stands.{Stands, Took};
 ghost use Rattle.rgw_scripts.specs.declared.step.ScriptStep.TheVariants.{Phone, Show};
 ghost use Rattle.rgw_scripts.specs.declared.step.ScriptLine.TheVariants.{Whole};
 ghost use Rattle.rgw_scripts.specs.Script.{line_in};
-ghost use Rattle.traces.specs.Writing.{arrived, typed, passed, clock_text, opening_script};
+ghost use Rattle.traces.specs.Writing.{arrived, typed, passed, at_clock, clock_text, opening_script};
 ghost use Rattle.live_play.specs.Running.{live, Ran, RanOf, HandsFrom, Takes, TakesBy, Refuses, Asked, IsAnswer};
 
 use crate::ends::Outlet;
@@ -86,6 +86,7 @@ impl<T: Teller + Drop> LivePlay<T> {
         ensures gateway { result.gateway ≡ gateway }
         ensures teller { result.teller ≡ teller }
         ensures script { result.script ≡ opening_script }
+        ensures printed { result.printed.items ≡ [] }
     {
         LivePlay {
             alloc,
@@ -109,13 +110,15 @@ impl<T: Teller + Drop> LivePlay<T> {
             (live self.old.gateway.value self.old.script (T.told self.old.teller) (O.handed out.old)) out.old datagrams.now
             (live self.new.gateway.value self.new.script (T.told self.new.teller) (O.handed out.new)) out.new }
         ensures came { O.came out.new ≡ O.came out.old }
+        ensures printed { self.new.printed ≡ self.old.printed }
     {
         out.turned(&self.gateway);
         let messages = self.gateway.sent();
         hand_all(self.alloc, &mut self.teller, out, datagrams, messages, told);
     }
 
-    /// The clock goes to this moment, in ms: what the gateway sends at it is handed out. A refused tick changes nothing.
+    /// The clock goes to this moment, in ms: what the gateway sends at it is handed out. A refused tick changes nothing. What was answered
+    /// last stays.
     #[tactic(auto, using(crate::proofs::RunLemmas::goes_on_quietly))]
     pub fn tick<O: Outlet>(&mut self, out: &mut O, moment: u64) -> Result<(), Refusal>
         ensures ran { RanOf (λ input. input ≡ passed moment)
@@ -134,6 +137,7 @@ impl<T: Teller + Drop> LivePlay<T> {
         ensures untouched { OnErr result (out.new ≡ out.old) }
         ensures ends { (before : List GatewayEvent) → Stands self.old.gateway.value before →
             Ends (plain self.old.gateway.value.setup before) (tick moment) (result_err result) }
+        ensures printed { self.new.printed ≡ self.old.printed }
     {
         match take(&mut self.gateway, Event::Tick { moment }) {
             Ok(outputs) => {
@@ -146,7 +150,8 @@ impl<T: Teller + Drop> LivePlay<T> {
         }
     }
 
-    /// A datagram came from there: what the gateway sends at it is handed out. Where memory is refused for it nothing is changed.
+    /// A datagram came from there: what the gateway sends at it is handed out. Where memory is refused for it nothing is changed. What was
+    /// answered last stays.
     #[tactic(auto, using(crate::proofs::RunLemmas::goes_on_quietly))]
     pub fn datagram<O: Outlet>(
         &mut self,
@@ -171,6 +176,7 @@ impl<T: Teller + Drop> LivePlay<T> {
         ensures untouched { OnErr result (out.new ≡ out.old) }
         ensures ends { (before : List GatewayEvent) → Stands self.old.gateway.value before →
             Ends (plain self.old.gateway.value.setup before) (datagram source bytes.now) (result_err result) }
+        ensures printed { self.new.printed ≡ self.old.printed }
     {
         match take(&mut self.gateway, Event::Datagram { source, bytes }) {
             Ok(outputs) => {
@@ -218,6 +224,7 @@ impl<T: Teller + Drop> LivePlay<T> {
         ensures ends { (before : List GatewayEvent) → Stands self.old.gateway.value before
             → refusal_of (plain self.old.gateway.value.setup before) (phone line act) ≡ None
             → Ends (plain self.old.gateway.value.setup before) (phone line act) (result_err result) }
+        ensures printed { OnOk result (self.new.printed ≡ self.old.printed) }
     {
         match take(&mut self.gateway, Event::Phone { line, act }) {
             Ok(outputs) => {
@@ -237,11 +244,13 @@ impl<T: Teller + Drop> LivePlay<T> {
         }
     }
 
-    /// Nothing comes any more: the trace is told to which moment its gateway has come.
+    /// Nothing comes any more: the trace is told to which moment its gateway has come, and nothing else changes.
     #[tactic(auto, using(crate::proofs::RunLemmas::ends_all, crate::proofs::RunLemmas::if_none))]
     pub fn end(&mut self)
         ensures told { Grows (T.told self.old.teller) (clock_text self.old.script) (T.told self.new.teller) }
         ensures gateway { self.new.gateway ≡ self.old.gateway }
+        ensures script { IfSome (T.told self.new.teller) (λ text. self.new.script ≡ at_clock self.old.script) }
+        ensures rest { self.new ≡ record self.old { script = self.new.script; teller = self.new.teller } }
     {
         if self.teller.is_telling() {
             let mut text = Draft::new(self.alloc);
