@@ -1,5 +1,5 @@
 //! Tells what changed, a line for each change.
-ghost use Rattle.std.specs.Prelude.{◌≡◌, ◌++◌, [], OnOk};
+ghost use Rattle.std.specs.Prelude.{◌≡◌, ◌++◌, ℕ, [], take, OnOk, OnErr};
 ghost use Rattle.connections.specs.Numbers.{number_text};
 ghost use Rattle.line_changes.specs.Telling.{remote_text, ends_text, media_text, mode_part, connection_text, what_text, head_text, change_line, with_change, with_changes, watching_line};
 
@@ -188,7 +188,8 @@ impl ChangeText {
         line: u16,
         change: Change,
     ) -> Result<(), OutOfMemory>
-        ensures { OnOk result (self.new ≡ with_change moment line self.old change) }
+        ensures ok { OnOk result (self.new ≡ with_change moment line self.old change) }
+        ensures err { OnErr result (self.new ≡ self.old) }
     {
         let mut told = Draft::new(alloc);
         put_head(&mut told, self.number, moment, line);
@@ -199,7 +200,8 @@ impl ChangeText {
         Ok(())
     }
 
-    /// Tells changes of a line at this moment, in ms, each under a number of its own. After an error some of them may be told.
+    /// Tells changes of a line at this moment, in ms, each under a number of its own. After an error, which is for want of memory, only so
+    /// many of them are told, from the first.
     pub fn put_all(
         &mut self,
         alloc: Global,
@@ -207,7 +209,8 @@ impl ChangeText {
         line: u16,
         changes: &[Change],
     ) -> Result<(), OutOfMemory>
-        ensures { OnOk result (self.new ≡ with_changes moment line self.old changes.now) }
+        ensures ok { OnOk result (self.new ≡ with_changes moment line self.old changes.now) }
+        ensures err { OnErr result ((count : ℕ) × (self.new ≡ with_changes moment line self.old (take count changes.now))) }
     {
         for change in changes {
             self.put(alloc, moment, line, *change)?;
