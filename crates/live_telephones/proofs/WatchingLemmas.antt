@@ -1,6 +1,7 @@
 -- How those who watch are told something one behind the other.
-use Rattle.std.proofs.Common.{◌≡◌, ℕ, true, zero, suc, ◌+◌, ◌<◌, length, take, get_or, List, [], ◌∷◌, ◌++◌, Option, refl, ap, ◌∙◌, subst, Result, Ok, Err, IfErr, arith}
+use Rattle.std.proofs.Common.{◌≡◌, ℕ, true, zero, suc, ◌+◌, ◌-◌, ◌<◌, length, take, get_or, List, [], ◌∷◌, ◌++◌, Option, Some, inl, inr, refl, sym, ap, ◌∙◌, subst, Result, Ok, Err, IfErr, arith}
 use Rattle.std.proofs.lemmas.List.{take_more}
+use Rattle.std.specs.Prelude.{slice_get}
 use Rattle.std.specs.declared.net.socket_addr.SocketAddr.{SocketAddr}
 use Rattle.line_changes.specs.declared.watchers.Watcher.{Watcher}
 use Rattle.line_changes.specs.declared.watchers.Watchers.{Watchers}
@@ -13,7 +14,10 @@ use Rattle.plain_machine.specs.Event.{GatewayEvent}
 use Rattle.plain_machine.specs.Lists.{plain}
 use Rattle.plain_machine.specs.Machine.{Machine}
 use Rattle.live_telephones.specs.declared.watch.Watch.{Watch}
-use Rattle.live_telephones.specs.Watching.{sender_at, TellsEach, TellsLine, TellsLines, IsUnasked}
+use Rattle.line_changes.specs.Seen.{SeenLine}
+use Rattle.line_changes.specs.Telling.{Told, with_changes}
+use Rattle.live_telephones.specs.Seeing.{seen_of}
+use Rattle.live_telephones.specs.Watching.{changes_behind, sender_at, RefusesLine, TellsEach, TellsLine, TellsLines, TellsSome, IsUnasked}
 
 tells_behind : {S : Type 0} (answers : S → SocketAddr → List ℕ → S → Type 0) (now : ℕ) (places : List (Option Watcher)) (held : Option Watcher)
     (text : List ℕ) (was mid is : S) → TellsEach answers now places was text mid → AnswersTo answers (sender_at now held) mid text is
@@ -62,6 +66,36 @@ unfolding TellsLines
 still_watch answers setup m zero before was after is (around, same) = ap (λ (w : Watch). w.watchers) same
 still_watch answers setup m (suc line) before was after is (between, mid, some, one) =
     one.watchers ∙ still_watch answers setup m line before was between mid some
+
+-- memory is refused before anything of a line is told
+pub refuses_all : (setup : Setup) (m : Machine) (line : ℕ) (was : Watch) → RefusesLine setup m line was was
+refuses_all setup m line was = record { kept = refl; number = inl refl }
+
+-- or behind some of what changed there
+pub refuses_some : (setup : Setup) (m : Machine) (line moment count : ℕ) (was is : Watch) (seen : SeenLine) → moment ≡ m.now
+    → seen_of setup m line ≡ Some seen → is.seen ≡ was.seen
+    → is.told ≡ with_changes moment line (record was.told { text = [] }) (take count (changes_behind (slice_get was.seen.items (line - 1)) seen))
+    → RefusesLine setup m line was is
+refuses_some setup m line moment count was is seen now so kept told = record {
+  kept = kept;
+  number = inr (seen, count, so, ap (λ (t : Told). t.number) (subst
+      (λ (n : ℕ). is.told ≡ with_changes n line (record was.told { text = [] }) (take count (changes_behind (slice_get was.seen.items (line - 1)) seen)))
+      now told));
+}
+
+-- the line behind so many
+pub refuses_next : (setup : Setup) (m : Machine) (line : ℕ) (was is : Watch) → RefusesLine setup m (line + 1) was is
+    → RefusesLine setup m (suc line) was is
+refuses_next setup m line was is refuses =
+    let same : line + 1 ≡ suc line = omega arith in
+    subst (λ (n : ℕ). RefusesLine setup m n was is) same refuses
+
+-- who watched does so no more
+pub refused_and_over : {S : Type 0} (answers : S → SocketAddr → List ℕ → S → Type 0) (setup : Setup) (m : Machine) (before : S) (was : Watch) (after : S)
+    (left : Watch) (watchers : Watchers) → TellsSome answers setup m before was after left
+    → TellsSome answers setup m before was after (record left { watchers = watchers })
+refused_and_over answers setup m before was after left watchers (line, mid, few, lines, refuses) =
+    (line, mid, few, lines, record { kept = refuses.kept; number = refuses.number })
 
 -- ---- memory is refused for a watch
 

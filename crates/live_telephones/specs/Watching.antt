@@ -1,5 +1,5 @@
 -- What who watches is told of a line, and who that is.
-use Rattle.std.specs.Prelude.{◌≡◌, ◌⊎◌, ◌<◌, ℕ, zero, suc, ◌-◌, true, false, slice_get, slice_set, codes, decimal, List, [], ◌∷◌, ◌++◌, map, Option, Some, None, option_map}
+use Rattle.std.specs.Prelude.{◌≡◌, ◌⊎◌, ◌<◌, ℕ, zero, suc, ◌-◌, true, false, slice_get, slice_set, codes, decimal, List, [], ◌∷◌, ◌++◌, map, take, Option, Some, None, option_map}
 use Rattle.std.specs.declared.net.socket_addr.SocketAddr.{SocketAddr}
 use Rattle.std.specs.declared.net.socket_addr.SocketAddr.TheVariants.{V4}
 use Rattle.std.specs.declared.net.socket_addr.SocketAddrV4.{SocketAddrV4}
@@ -70,19 +70,30 @@ TellsLines answers setup m zero before was after is = (after ≡ before) × (is 
 TellsLines {S} answers setup m (suc line) before was after is = (between : S) × (mid : Watch)
     × TellsLines answers setup m line before was between mid × TellsLine answers setup m (suc line) between mid after is
 
+-- Memory is refused for a line. It is still seen as it was seen last. So many of its changes, from the first, have used up their numbers,
+-- if any have: no number is used again.
+pub record RefusesLine (setup : Setup) (m : Machine) (line : ℕ) (was is : Watch) : Type 0 where
+  pub kept : is.seen ≡ was.seen
+  pub number : (is.told.number ≡ was.told.number)
+      ⊎ ((seen : SeenLine) × (count : ℕ) × (seen_of setup m line ≡ Some seen)
+      × (is.told.number ≡ (with_changes m.now line (record was.told { text = [] })
+      (take count (changes_behind (slice_get was.seen.items (line - 1)) seen))).number))
+
 -- so it is told of lines before one for which memory is refused
-abbrev pub TellsSome : {S : Type 0} → (S → SocketAddr → List ℕ → S → Type 0) → Setup → Machine → S → Watch → S → Type 0
-TellsSome answers setup m before was after =
-    (line : ℕ) × (is : Watch) × (line < setup.names.lines) × TellsLines answers setup m line before was after is
+abbrev pub TellsSome : {S : Type 0} → (S → SocketAddr → List ℕ → S → Type 0) → Setup → Machine → S → Watch → S → Watch → Type 0
+TellsSome answers setup m before was after is =
+    (line : ℕ) × (mid : Watch) × (line < setup.names.lines) × TellsLines answers setup m line before was after mid
+    × RefusesLine setup m (suc line) mid is
 
 -- Where nobody watches at this moment nothing is told, and all stays. Else what changed at each line is told. Or memory is refused: each
--- who watches is told that, behind what changed at the lines before, and nobody watches any more.
+-- who watches is told that, behind what changed at the lines before, and nobody watches any more; what was seen and which number comes
+-- next stay as they were told last.
 abbrev pub WatchesOn : {S : Type 0} → (S → SocketAddr → List ℕ → S → Type 0) → Setup → Machine → S → Watch → S → Watch → Type 0
 WatchesOn {S} answers setup m before was after is =
     ((is_watched m.now was.watchers.places ≡ false) × (after ≡ before) × (is ≡ was))
     ⊎ ((is_watched m.now was.watchers.places ≡ true) × TellsLines answers setup m setup.names.lines before was after is)
     ⊎ ((is_watched m.now was.watchers.places ≡ true) × (is.watchers.places ≡ nobody) × (between : S)
-    × TellsSome answers setup m before was between × TellsEach answers m.now was.watchers.places between (codes "! 1 OutOfMemory\n") after)
+    × TellsSome answers setup m before was between is × TellsEach answers m.now was.watchers.places between (codes "! 1 OutOfMemory\n") after)
 
 -- nobody watches, and nothing was seen or told yet: the first change has the number 1
 abbrev pub IsUnwatched : Watch → Type 0

@@ -1,5 +1,5 @@
 //! Who watches is told what changes at the lines.
-ghost use Rattle.std.specs.Prelude.{◌≡◌, ◌≤◌, ◌-◌, ◌⊎◌, [], codes, List, true, false, None, Some, IfOk, IfErr, OnOk, slice_get, map};
+ghost use Rattle.std.specs.Prelude.{◌≡◌, ◌≤◌, ◌-◌, ◌⊎◌, ℕ, [], codes, List, true, false, None, Some, IfOk, IfErr, OnOk, OnErr, slice_get, map, take};
 ghost use Rattle.plain_machine.specs.Event.{GatewayEvent};
 ghost use Rattle.plain_machine.specs.Lists.{plain};
 ghost use Rattle.gateway_core.specs.Stands.{Stands};
@@ -7,7 +7,7 @@ ghost use Rattle.line_changes.specs.Telling.{with_changes, watching_line};
 ghost use Rattle.line_changes.specs.Watching.{longest_watch, nobody, is_watched, with_watcher};
 ghost use Rattle.surroundings.specs.Hearing.{AnswersTo};
 ghost use Rattle.live_telephones.specs.Asking.{usage};
-ghost use Rattle.live_telephones.specs.Watching.{changes_behind, sender_at, with_seen, lines_seen, BeginsToSee, IsUnasked, IsUnwatched, TellsEach, TellsLine, TellsLines, TellsSome, WatchesOn, AnswersWatch};
+ghost use Rattle.live_telephones.specs.Watching.{changes_behind, sender_at, with_seen, lines_seen, BeginsToSee, IsUnasked, IsUnwatched, RefusesLine, TellsEach, TellsLine, TellsLines, TellsSome, WatchesOn, AnswersWatch};
 
 use crate::answering::{UNKNOWN, full_answer};
 use crate::seeing::seen_line;
@@ -176,6 +176,8 @@ impl Watch {
         requires { 1 ≤ line }
         ensures told { OnOk result (self.new.told ≡ with_changes moment line (record self.old.told { text = [] })
             (changes_behind (slice_get self.old.seen.items (line - 1)) is.now)) }
+        ensures told_some { OnErr result ((count : ℕ) × (self.new.told ≡ with_changes moment line (record self.old.told { text = [] })
+            (take count (changes_behind (slice_get self.old.seen.items (line - 1)) is.now)))) }
         ensures seen { self.new.seen ≡ self.old.seen }
         ensures watchers { self.new.watchers ≡ self.old.watchers }
     {
@@ -201,7 +203,7 @@ impl Watch {
         }
     }
 
-    // What changed at a line is told. After an error nobody was told anything.
+    // What changed at a line is told. After an error nobody was told anything, and the line is still seen as it was.
     fn tell_line<S: Surroundings>(
         &mut self,
         alloc: Global,
@@ -214,6 +216,8 @@ impl Watch {
         ensures told { (events : List GatewayEvent) → Stands gateway.now events → IfOk result (λ _. TellsLine S.answers
             gateway.now.setup (plain gateway.now.setup events) line around.old self.old around.new self.new) }
         ensures refused { IfErr result (λ _. around.new ≡ around.old) }
+        ensures left { (events : List GatewayEvent) → Stands gateway.now events → IfErr result (λ _. RefusesLine
+            gateway.now.setup (plain gateway.now.setup events) line self.old self.new) }
         ensures traffic { S.traffic around.new ≡ S.traffic around.old }
         ensures watchers { self.new.watchers ≡ self.old.watchers }
     {
@@ -238,7 +242,7 @@ impl Watch {
         ensures told { (events : List GatewayEvent) → Stands gateway.now events → IfOk result (λ _. TellsLines S.answers
             gateway.now.setup (plain gateway.now.setup events) gateway.now.setup.names.lines around.old self.old around.new self.new) }
         ensures refused { (events : List GatewayEvent) → Stands gateway.now events → IfErr result (λ _. TellsSome S.answers
-            gateway.now.setup (plain gateway.now.setup events) around.old self.old around.new) }
+            gateway.now.setup (plain gateway.now.setup events) around.old self.old around.new self.new) }
         ensures traffic { S.traffic around.new ≡ S.traffic around.old }
         ensures watchers { self.new.watchers ≡ self.old.watchers }
     {
@@ -248,7 +252,8 @@ impl Watch {
         Ok(())
     }
 
-    /// Who watches is told what changed since that was told last. Where memory is refused all are told that, and watch no more.
+    /// Who watches is told what changed since that was told last. Where memory is refused all are told that, and watch no more; no number
+    /// is used again.
     pub fn tell<S: Surroundings>(&mut self, alloc: Global, around: &mut S, gateway: &Gateway)
         ensures traffic { S.traffic around.new ≡ S.traffic around.old }
         ensures watch { (events : List GatewayEvent) → Stands gateway.now events → WatchesOn S.answers gateway.now.setup

@@ -1,7 +1,7 @@
 //! What who watches is told, and what the page is shown of a gateway, at worked examples, as theorems.
 #![tactic(auto, unfolding(crate::proofs::Computing::on_examples))]
 
-ghost use Rattle.std.specs.Prelude.{◌≡◌, ◌<◌, ◌++◌, ℕ, None, Some, codes, List, [], ◌∷◌, map};
+ghost use Rattle.std.specs.Prelude.{◌≡◌, ◌<◌, ◌++◌, ◌⊎◌, ℕ, None, Some, codes, List, [], ◌∷◌, map};
 ghost use Rattle.plain_machine.specs.Example.{two_lines};
 ghost use Rattle.plain_machine.specs.Lists.{plain};
 ghost use Rattle.plain_machine.specs.Machine.{Machine};
@@ -16,7 +16,7 @@ ghost use Rattle.live_telephones.specs.declared.watch.Watch.{Watch};
 ghost use Rattle.live_telephones.specs.Paging.{IsOf};
 ghost use Rattle.live_telephones.specs.Picturing.{by_name};
 ghost use Rattle.live_telephones.specs.Viewing.{lines_in, viewed};
-ghost use Rattle.live_telephones.specs.Watching.{with_seen, TellsText, TellsLine, TellsLines, TellsSome, WatchesOn, BeginsToSee, IsUnasked, IsUnwatched};
+ghost use Rattle.live_telephones.specs.Watching.{with_seen, TellsText, RefusesLine, TellsLine, TellsLines, TellsSome, WatchesOn, BeginsToSee, IsUnasked, IsUnwatched};
 ghost use Rattle.live_telephones.specs.WatchExample.{Heard, hears, somebody, heard_once};
 
 /// Who watches is told what there is to tell, up to the moment before their time ends. A line is seen so at its place, where it has one.
@@ -52,7 +52,19 @@ pub fn who_watches_has_examples()
     ensures refused { (was is : Watch) (after : Heard) → was.watchers.places ≡ somebody
         → WatchesOn hears two_lines (plain two_lines []) [] was after is → is.watchers.places ≡ nobody
         → (between : Heard) × (after ≡ between ++ heard_once (codes "! 1 OutOfMemory\n")) }
-    ensures fewer { (was : Watch) (after : Heard) (some : TellsSome hears two_lines (plain two_lines []) [] was after) → some.0 < 2 }
+    ensures fewer { (was is : Watch) (after : Heard) (some : TellsSome hears two_lines (plain two_lines []) [] was after is) → some.0 < 2 }
+    ensures at_once { (was is : Watch) (after : Heard) (some : TellsSome hears two_lines (plain two_lines []) [] was after is) → some.0 ≡ 0
+        → is.seen ≡ was.seen }
+{}
+
+/// Where memory is refused for a line it is still seen as it was seen last, and the next change has the number that it would have had, or one
+/// behind what changed there.
+pub fn what_is_refused_for_a_line_has_examples()
+    ensures seen { (was is : Watch) → RefusesLine two_lines (plain two_lines []) 1 was is → is.seen ≡ was.seen }
+    ensures numbers { (was is : Watch) → was.seen.items ≡ lifted ∷ [] → was.told ≡ record { number = 7; text = codes "old" }
+        → RefusesLine two_lines (plain two_lines []) 1 was is → (is.told.number ≡ 7) ⊎ (is.told.number ≡ 8) }
+    ensures unchanged { (was is : Watch) → was.seen.items ≡ resting ∷ [] → was.told ≡ record { number = 7; text = codes "old" }
+        → RefusesLine two_lines (plain two_lines []) 1 was is → is.told.number ≡ 7 }
 {}
 
 /// Who asks to watch where nobody does begins with the lines as they are; else what was seen stays, also where memory is refused. The next

@@ -1,4 +1,4 @@
-use Rattle.std.proofs.Common.{◌≡◌, false, true, codes, List, [], ◌++◌, Option, inl, inr, refl, sym, ap, ◌∙◌, true≢false}
+use Rattle.std.proofs.Common.{◌≡◌, ℕ, zero, suc, false, true, codes, List, [], ◌++◌, Option, inl, inr, refl, sym, ap, ◌∙◌, true≢false}
 use Rattle.line_changes.specs.Watching.{is_watched, nobody}
 use Rattle.line_changes.specs.declared.watchers.Watcher.{Watcher}
 use Rattle.line_changes.specs.declared.watchers.Watchers.{Watchers}
@@ -7,7 +7,7 @@ use Rattle.plain_machine.specs.Lists.{plain}
 use Rattle.plain_machine.specs.Machine.{Machine}
 use Rattle.live_telephones.specs.declared.watch.Watch.{Watch}
 use Rattle.live_telephones.specs.WatchExample.{Heard, hears, somebody, heard_once}
-use Rattle.live_telephones.specs.Watching.{TellsEach, WatchesOn}
+use Rattle.live_telephones.specs.Watching.{RefusesLine, TellsEach, TellsLines, WatchesOn}
 use Rattle.live_telephones.proofs.Computing.{on_examples}
 use Rattle.live_telephones.proofs.WatchExampleLemmas.{heard}
 use Rattle.live_telephones.proofs.WatchingLemmas.{still_watch}
@@ -44,4 +44,13 @@ returns-clause-refused c = λ was is after places on over. refused (plain two_li
 
 pub returns-clause-fewer : goal.returns-clause-fewer
 unfolding on_examples
-returns-clause-fewer c = λ was after some. some.2
+returns-clause-fewer c = λ was is after some. some.2
+
+seen_before : (line : ℕ) (was mid is : Watch) (after : Heard) → line ≡ 0 → TellsLines hears two_lines (plain two_lines []) line [] was after mid
+    → RefusesLine two_lines (plain two_lines []) (suc line) mid is → is.seen ≡ was.seen
+unfolding TellsLines
+seen_before zero was mid is after none lines refuses = refuses.kept ∙ ap (λ (w : Watch). w.seen) lines.1
+seen_before (suc line) was mid is after none lines refuses = absurd cc
+
+pub returns-clause-at_once : goal.returns-clause-at_once
+returns-clause-at_once c = λ was is after some none. seen_before some.0 was some.1 is after none some.3 some.4

@@ -1,5 +1,6 @@
 use Rattle.std.proofs.Common.{◌≡◌, false, true, inl, inr, refl, sym, ◌∙◌}
 use Rattle.line_changes.specs.Watching.{is_watched}
+use Rattle.live_telephones.proofs.WatchingLemmas.{refused_and_over}
 use Rattle.live_telephones.proofs.watch.Watch.tell.Goals as goal
 
 pub returns-then-not-is_watched-clause-watch : goal.returns-then-not-is_watched-clause-watch
@@ -22,6 +23,6 @@ returns-in-Err-clause-watch g c = λ events stands.
       rw (c.now-now.ensures.value events stands) at watched,
       c.clear.ensures,
       c.tell_lines.new.around,
-      c.in-Err.ensures.refused events stands,
+      refused_and_over g.S.Surroundings.answers _ _ _ _ _ _ _ (c.in-Err.ensures.refused events stands),
       rw (c.tell_lines.ensures.watchers, c.now-now.ensures.value events stands) at c.tell_all.ensures.told,
     ))

@@ -1,5 +1,5 @@
 use Rattle.std.proofs.Common.{refl, ◌∙◌, arith}
-use Rattle.live_telephones.proofs.WatchingLemmas.{refused_so, tells_none_yet, tells_next_line}
+use Rattle.live_telephones.proofs.WatchingLemmas.{refused_so, refuses_next, tells_none_yet, tells_next_line}
 use Rattle.live_telephones.proofs.watch.Watch.tell_lines.Goals as goal
 
 pub loop-before-init : goal.loop-before-init
@@ -28,4 +28,5 @@ returns-in_err-tell_line-clause-refused g c = λ events stands.
       c.loop-before.self,
       omega (arith, end, before),
       rw (c.in_err-tell_line.ensures.refused) (c.loop-before.invariant.told events stands),
+      refuses_next _ _ c.loop-before.before _ _ (c.in_err-tell_line.ensures.left events stands),
     )
