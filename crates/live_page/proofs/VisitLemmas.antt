@@ -1,5 +1,7 @@
 -- What is answered to visitors, from what a connection says of its calls.
-use Rattle.std.proofs.Common.{◌≡◌, ℕ, List, [], ◌∷◌, ◌++◌, Option, Some, Bor, refl, sym, ◌∙◌, ap, subst, append_assoc, append-nil}
+use Rattle.std.proofs.Common.{◌≡◌, ℕ, zero, suc, Bool, true, false, not, List, [], ◌∷◌, ◌++◌, map, slice_get, slice_set, Option, Some, None, Bor, refl, sym, ◌∙◌, ap, subst, append_assoc, append-nil}
+use Rattle.std.specs.Global.{Box}
+use Rattle.std.specs.Option.{unwrap_or}
 use Rattle.std.specs.declared.net.socket_addr.SocketAddrV4.{SocketAddrV4}
 use Rattle.http.specs.declared.request.Request.{Request}
 use Rattle.http_server.specs.declared.response.Response.{Response}
@@ -11,7 +13,7 @@ use Rattle.live_page.specs.declared.site.Site.{Site}
 use Rattle.live_page.specs.declared.visitor.Visitor.{Visitor}
 use Rattle.live_page.specs.Answering.{Answers}
 use Rattle.page_access.specs.Naming.{names_of}
-use Rattle.live_page.specs.Visiting.{calls_of, AnsweredAt, AnswersBy, AnswersVisitor, ServesAt, ServesNext}
+use Rattle.live_page.specs.Visiting.{calls_of, who, AnsweredAt, AnswersBy, AnswersVisitor, Comes, ServesAt, ServesNext}
 
 -- calls behind others are calls of both
 chain_on : {S : Type 0} (answers : S → Request (List ℕ) → Response → S → Type 0) (first second : List Call) (a b c : S)
@@ -82,3 +84,15 @@ pub serves_here : (site : SocketAddrV4) (place : ℕ) (address : Option SocketAd
 serves_here site place address next was is board shown known turn serves =
     subst (λ (a : Option SocketAddrV4). ServesNext a next was board is shown) (sym known)
     (subst (λ (n : Option ℕ). ServesNext (Some site) n was board is shown) (sym turn) serves)
+
+-- what isn't so is so
+pub so_behind : (is : Bool) → not is ≡ false → is ≡ true
+so_behind true none = refl
+so_behind false none = absurd cc
+
+-- one of these is looked at, and stays who they are
+pub stays_there : (places : List (Option (Box Visitor))) (place : ℕ) (was is : Option (Box Visitor)) → slice_get places place ≡ Some was → who is ≡ who was
+    → map who (slice_set places place is) ≡ map who places
+stays_there [] place was is at same = absurd cc
+stays_there (first ∷ more) zero was is at same = ap (λ (one : Option Visitor). one ∷ map who more) (same ∙ ap (λ (o : Option (Option (Box Visitor))). who (unwrap_or o was)) (sym at))
+stays_there (first ∷ more) (suc place) was is at same = ap (λ (l : List (Option Visitor)). who first ∷ l) (stays_there more place was is at same)

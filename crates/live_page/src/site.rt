@@ -2,7 +2,7 @@
 ghost use Rattle.std.specs.Prelude.{◌≡◌, ◌||◌, None, IfSome, IsSomeAnd, false, is_some, map, replicate, slice_get};
 ghost use Rattle.live_ends.specs.Looking.{no_visit};
 ghost use Rattle.page_access.specs.Naming.{names_of};
-ghost use Rattle.live_page.specs.Visiting.{ServesPlace, with_place, ServesNext};
+ghost use Rattle.live_page.specs.Visiting.{who, Comes, LetsIn, ServesPlace, with_place, ServesNext};
 ghost use Rattle.live_page.specs.Waiting.{deadline_of, sooner, soonest_from, is_late, stays_at, has_more, is_behind, turn_from, next_turn};
 
 use crate::desk::Desk;
@@ -133,11 +133,23 @@ fn turn_behind(places: &[Option<Box<Visitor>>], last: Option<usize>) -> Option<u
     None
 }
 
-// What was told of each visitor's socket.
-fn note_visits(places: &mut [Option<Box<Visitor>>], visits: &[Visit; MOST_VISITORS]) {
+// What was told of the socket of whoever has the place.
+fn note_visit(place: &mut Option<Box<Visitor>>, visit: Visit)
+    ensures { who place.new ≡ who place.old }
+{
+    if let Some(visitor) = place {
+        visitor.note(visit);
+    }
+}
+
+// What was told of each visitor's socket. Who is there stays.
+#[tactic(auto, using(crate::proofs::VisitLemmas::stays_there))]
+fn note_visits(places: &mut [Option<Box<Visitor>>], visits: &[Visit; MOST_VISITORS])
+    ensures { map who places.new ≡ map who places.old }
+{
     for place in 0..MOST_VISITORS {
-        if let Some(Some(visitor)) = places.get_mut(place) {
-            visitor.note(visits[place]);
+        if let Some(held) = places.get_mut(place) {
+            note_visit(held, visits[place]);
         }
     }
 }
@@ -230,6 +242,8 @@ impl Site {
         ensures address { self.new.address ≡ self.old.address }
         ensures names { names_of self.new.names ≡ names_of self.old.names }
         ensures last { self.new.last ≡ self.old.last }
+        ensures same { map who self.new.places.items ≡ map who self.old.places.items }
+        ensures accepting { self.new.may_accept ≡ (self.old.may_accept || ready.old.listener) }
         ensures forgotten { ready.new ≡ record ready.old { listener = false; visits = replicate MOST_VISITORS no_visit } }
     {
         self.may_accept = self.may_accept || ready.listener;
@@ -266,6 +280,8 @@ impl Site {
         ensures address { self.new.address ≡ self.old.address }
         ensures names { names_of self.new.names ≡ names_of self.old.names }
         ensures last { self.new.last ≡ self.old.last }
+        ensures comes { Comes host now self.old.places.items self.new.places.items }
+        ensures accepting { self.new.may_accept ≡ self.old.may_accept }
     {
         let Some(place) = self.place_for(host) else {
             return Ok(());
@@ -283,6 +299,7 @@ impl Site {
         ensures address { self.new.address ≡ self.old.address }
         ensures names { names_of self.new.names ≡ names_of self.old.names }
         ensures last { self.new.last ≡ self.old.last }
+        ensures lets { LetsIn now self.old self.new }
     {
         if !self.may_accept {
             return;
@@ -334,7 +351,7 @@ impl Reception for Site {
 
     ghost closes = { λ site. soonest_from None site.places.items };
 
-    ghost serves = { λ was told board now is after shown. ServesOne was told board is after shown };
+    ghost serves = { λ was told board now is after shown. ServesOne was told board now is after shown };
 
     fn at<R: Net>(
         rt: &R,

@@ -1,7 +1,7 @@
 //! A visitor: a browser's connection, with the moment until which it is waited for.
-ghost use Rattle.std.specs.Prelude.{◌≡◌, IsTrue};
+ghost use Rattle.std.specs.Prelude.{◌≡◌, true, false, IsTrue, IfOk};
 ghost use Rattle.page_access.specs.Naming.{names_of};
-ghost use Rattle.live_page.specs.Visiting.{calls_of, AnswersVisitor, IsAnswered};
+ghost use Rattle.live_page.specs.Visiting.{calls_of, AnswersVisitor, Goes, IsAnswered};
 
 use crate::desk::Desk;
 use http_server::{Config, Connection};
@@ -60,7 +60,9 @@ impl Visitor {
         host: Ipv4Addr,
         keys: RandomState,
         now: u64,
-    ) -> Result<Box<Visitor>, AllocError> {
+    ) -> Result<Box<Visitor>, AllocError>
+        ensures { IfOk result (λ visitor. visitor.value.seat ≡ record { host = host; active = now }) }
+    {
         boxed(
             alloc,
             Visitor {
@@ -83,7 +85,9 @@ impl Visitor {
     }
 
     /// Its socket can be read or written, as far as was told.
-    pub(crate) fn note(&mut self, visit: Visit) {
+    pub(crate) fn note(&mut self, visit: Visit)
+        ensures { self.new ≡ record self.old { may_read = self.new.may_read; may_write = self.new.may_write; has_turn = self.new.has_turn } }
+    {
         if visit.is_readable || visit.is_writable {
             self.may_read = self.may_read || visit.is_readable;
             self.may_write = self.may_write || visit.is_writable;
@@ -93,7 +97,9 @@ impl Visitor {
 
     // Reads once, where there is something. Gives whether the visitor stays.
     fn read(&mut self, now: u64) -> bool
-        ensures { calls_of self.new ≡ calls_of self.old }
+        ensures calls { calls_of self.new ≡ calls_of self.old }
+        ensures failed { result ≡ false → (self.old.may_read ≡ true) × (self.new.may_read ≡ false) }
+        ensures writes { self.new.may_write ≡ self.old.may_write }
     {
         if !self.may_read || !self.connection.wants_read() {
             return true;
@@ -112,13 +118,18 @@ impl Visitor {
 
     // Writes once, where something waits. Gives whether the visitor stays.
     fn write(&mut self, now: u64) -> bool
-        ensures { calls_of self.new ≡ calls_of self.old }
+        ensures calls { calls_of self.new ≡ calls_of self.old }
+        ensures failed { result ≡ false → (self.old.may_write ≡ true) × (self.new.may_write ≡ false) }
     {
         if !self.may_write || !self.connection.wants_write() {
             return true;
         }
         match self.connection.write_to(&mut self.stream) {
-            Ok(0) => false,
+            // It takes nothing any more.
+            Ok(0) => {
+                self.may_write = false;
+                false
+            }
             Ok(_) => {
                 self.seat.active = now;
                 if !self.connection.wants_write() {
@@ -148,6 +159,7 @@ impl Visitor {
         ensures answered { AnswersVisitor desk.old.site (names_of desk.old.names.now) self.old desk.old.board.now
             self.new desk.new.board.now }
         ensures all { IsAnswered self.new }
+        ensures rest { self.new ≡ record self.old { connection = self.new.connection } }
     {
         self.connection.advance(desk);
     }
@@ -160,6 +172,7 @@ impl Visitor {
         ensures answered { AnswersVisitor desk.old.site (names_of desk.old.names.now) self.old desk.old.board.now
             self.new desk.new.board.now }
         ensures all { IsTrue result → IsAnswered self.new }
+        ensures goes { result ≡ false → Goes self.old self.new }
     {
         if !self.read(now) {
             return false;

@@ -1,4 +1,8 @@
 use Rattle.live_page.proofs.site.serve_place.Goals as goal
 
 pub returns-then-not-turn-clause-served : goal.returns-then-not-turn-clause-served
-returns-then-not-turn-clause-served c = rw (c.in-Some.is) (c.turn.new.self, rw (c.deref_mut.ensures.value) at c.turn.ensures.answered)
+returns-then-not-turn-clause-served c = rw (c.in-Some.is) (
+  c.turn.new.self,
+  rw (c.deref_mut.ensures.value) at c.turn.ensures.answered,
+  rw (c.deref_mut.ensures.value) at (c.turn.ensures.goes c.if-not-turn.true),
+)

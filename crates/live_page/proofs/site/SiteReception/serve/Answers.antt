@@ -5,6 +5,13 @@ use Rattle.live_page.proofs.site.SiteReception.serve.Goals as goal
 
 pub returns : goal.returns
 returns g c = record {
+  closed = c.close_late.new.self;
+  late = c.close_late.ensures.places;
+  waiting = c.close_late.ensures.accepting;
+  looked = c.look.new.self;
+  same = c.look.ensures.same;
+  accepting = c.look.ensures.accepting;
+  lets = c.accept.ensures.lets;
   there = c.accept.new.self;
   address = c.accept.ensures.address ∙ c.look.ensures.address ∙ c.close_late.ensures.address;
   names = c.accept.ensures.names ∙ c.look.ensures.names ∙ ap (λ (n : HostNames). names_of n) c.close_late.ensures.names;
