@@ -1,17 +1,22 @@
 //! Worked examples of the definitions, as theorems: each sentence of a definition has one that a slip in it breaks.
 #![tactic(auto, unfolding(crate::proofs::Computing::on_examples))]
 
-ghost use Rattle.std.specs.Prelude.{◌≡◌, codes, map, true, false, [], ◌∷◌, Some, None};
+ghost use Rattle.std.specs.Prelude.{◌≡◌, ◌⊎◌, codes, map, true, false, List, [], ◌∷◌, Option, Some, None};
 ghost use Rattle.std.specs.Global.{Box};
+ghost use Rattle.std.specs.declared.net.ipv4_addr.Ipv4Addr.{Ipv4Addr};
+ghost use Rattle.http_server.specs.Connection.{history};
+ghost use Rattle.http_server.specs.History.{IsDone};
 ghost use Rattle.live_ends.specs.declared.readiness.TheConstants.{MOST_VISITORS};
 ghost use Rattle.page_access.specs.declared.asked.Asked.TheVariants.{Strange, Reading, Acting, Forbidden, Unsuited, Missing};
 ghost use Rattle.page_access.specs.declared.route.Route.TheVariants.{Page, Style, Script, State, Metrics, Health, Ready, Events, Phone, Nothing};
 ghost use Rattle.page_answers.specs.declared.answers.ActOutcome.TheVariants.{Queued, NoRoom, Unreadable};
 ghost use Rattle.live_page.specs.declared.fields.Content.TheVariants as contents;
+ghost use Rattle.live_page.specs.declared.site.Site.{Site};
 ghost use Rattle.live_page.specs.declared.visitor.Visitor.{Visitor};
 ghost use Rattle.live_page.specs.Fields.{kind_of, policy, kind_fields, fields_at};
 ghost use Rattle.live_page.specs.Health.{alive_text, ready_text};
 ghost use Rattle.live_page.specs.Statuses.{is_refused, reading_status, refusal_status, refusal_fields, outcome_status};
+ghost use Rattle.live_page.specs.Visiting.{who, Comes, Goes, LetsIn};
 ghost use Rattle.live_page.specs.Waiting.{sooner, soonest_from, is_late, stays_at, next_turn};
 
 /// Each sentence at an example.
@@ -65,6 +70,20 @@ pub fn further_sentences_have_examples()
     ensures itself { (one : Box Visitor) → one.value.has_turn ≡ true → next_turn 1 (None ∷ Some one ∷ None ∷ []) ≡ Some 1 }
     ensures visitors_have_their_turns_nobody { (one : Box Visitor) → one.value.has_turn ≡ false → next_turn 0 (None ∷ Some one ∷ [])
         ≡ None }
+{}
+
+/// Who is done goes, or whose socket was ready and failed; nobody else. Who comes has a place, and nobody else's is another's. Where nobody
+/// may come nobody does. Who is looked at stays who they are.
+pub fn who_goes_and_who_comes_has_examples()
+    ensures not_ready { (was gone : Visitor) → was.may_read ≡ false → was.may_write ≡ false → Goes was gone → IsDone (history gone.connection) }
+    ensures not_failed { (was gone : Visitor) → gone.may_read ≡ true → gone.may_write ≡ true → Goes was gone → IsDone (history gone.connection) }
+    ensures one_place { (host : Ipv4Addr) (one : Box Visitor) (are : List (Option (Box Visitor))) → Comes host 5 (Some one ∷ []) are
+        → (are ≡ Some one ∷ []) ⊎ ((visitor : Box Visitor) × (visitor.value.seat.active ≡ 5) × (are ≡ Some visitor ∷ [])) }
+    ensures nobody_comes { (was is : Site) → was.may_accept ≡ false → LetsIn 5 was is
+        → (is.places.items ≡ was.places.items) × (is.may_accept ≡ false) }
+    ensures somebody { (one other : Box Visitor) → who (Some one) ≡ who (Some other) → (one.value.seat ≡ other.value.seat)
+        × (one.value.deadline ≡ other.value.deadline) × (one.value.connection ≡ other.value.connection) }
+    ensures no_visitor { who None ≡ None }
 {}
 
 /// What is read says of what kind it is, and what a browser may make of it; what isn't there says nothing.
