@@ -2,10 +2,7 @@ use Rattle.std.proofs.Common.{◌≡◌, ◌⊎◌, ℕ, zero, suc, [], take, So
 use Rattle.std.specs.Option.{unwrap_or}
 use Rattle.line_changes.specs.Example.{resting, lifted}
 use Rattle.line_changes.specs.Telling.{Told, with_changes}
-use Rattle.plain_machine.specs.Example.{two_lines}
-use Rattle.plain_machine.specs.Lists.{plain}
-use Rattle.live_telephones.specs.declared.watch.Watch.{Watch}
-use Rattle.live_telephones.specs.Watching.{changes_behind, RefusesLine}
+use Rattle.live_telephones.specs.Watching.{changes_behind}
 use Rattle.live_telephones.proofs.Computing.{on_examples}
 use Rattle.live_telephones.proofs.watch_examples.what_is_refused_for_a_line_has_examples.Goals as goal
 
