@@ -1,7 +1,8 @@
 -- What is answered to visitors, from what a connection says of its calls.
-use Rattle.std.proofs.Common.{◌≡◌, ℕ, zero, suc, Bool, true, false, not, List, [], ◌∷◌, ◌++◌, map, slice_get, slice_set, Option, Some, Bor, refl, sym, ◌∙◌, ap, subst, append_assoc, append-nil}
+use Rattle.std.proofs.Common.{◌≡◌, ℕ, zero, suc, Bool, true, false, not, List, [], ◌∷◌, ◌++◌, map, slice_get, slice_set, Option, Some, Bor, inl, inr, refl, sym, ◌∙◌, ap, subst, append_assoc, append-nil}
 use Rattle.std.specs.Global.{Box}
 use Rattle.std.specs.Option.{unwrap_or}
+use Rattle.std.specs.declared.net.ipv4_addr.Ipv4Addr.{Ipv4Addr}
 use Rattle.std.specs.declared.net.socket_addr.SocketAddrV4.{SocketAddrV4}
 use Rattle.http.specs.declared.request.Request.{Request}
 use Rattle.http_server.specs.declared.response.Response.{Response}
@@ -13,7 +14,7 @@ use Rattle.live_page.specs.declared.site.Site.{Site}
 use Rattle.live_page.specs.declared.visitor.Visitor.{Visitor}
 use Rattle.live_page.specs.Answering.{Answers}
 use Rattle.page_access.specs.Naming.{names_of}
-use Rattle.live_page.specs.Visiting.{calls_of, who, AnsweredAt, AnswersBy, AnswersVisitor, ServesAt, ServesNext}
+use Rattle.live_page.specs.Visiting.{calls_of, who, AnsweredAt, AnswersBy, AnswersVisitor, Comes, LetsIn, ServesAt, ServesNext}
 
 -- calls behind others are calls of both
 chain_on : {S : Type 0} (answers : S → Request (List ℕ) → Response → S → Type 0) (first second : List Call) (a b c : S)
@@ -96,3 +97,21 @@ pub stays_there : (places : List (Option (Box Visitor))) (place : ℕ) (was is :
 stays_there [] place was is at same = absurd cc
 stays_there (first ∷ more) zero was is at same = ap (λ (one : Option Visitor). one ∷ map who more) (same ∙ ap (λ (o : Option (Option (Box Visitor))). who (unwrap_or o was)) (sym at))
 stays_there (first ∷ more) (suc place) was is at same = ap (λ (l : List (Option Visitor)). who first ∷ l) (stays_there more place was is at same)
+
+-- who comes is turned away
+pub turned_away : (host : Ipv4Addr) (now : ℕ) (places : List (Option (Box Visitor))) → Comes host now places places
+turned_away host now places = inl refl
+
+-- or has a place from then on
+pub has_a_place : (host : Ipv4Addr) (now place : ℕ) (visitor : Box Visitor) (were are : List (Option (Box Visitor)))
+    → visitor.value.seat ≡ record { host = host; active = now } → are ≡ slice_set were place (Some visitor) → Comes host now were are
+has_a_place host now place visitor were are seat set = inr (place, visitor, seat, set)
+
+-- nobody came
+pub nobody_came : (now : ℕ) (was is : Site) → is.places.items ≡ was.places.items → is.may_accept ≡ false → LetsIn now was is
+nobody_came now was is same none = inl (same, none)
+
+-- somebody did
+pub somebody_came : (now : ℕ) (host : Ipv4Addr) (was is : Site) → was.may_accept ≡ true → is.may_accept ≡ true
+    → Comes host now was.places.items is.places.items → LetsIn now was is
+somebody_came now host was is may still comes = inr (may, still, host, comes)

@@ -269,6 +269,7 @@ impl Site {
     }
 
     // Serves somebody who came from this address; who has the place gives way, and their connection is closed.
+    #[tactic(auto, using(crate::proofs::VisitLemmas::turned_away, crate::proofs::VisitLemmas::has_a_place))]
     fn welcome<R: RandomSource>(
         &mut self,
         rt: &R,
@@ -295,6 +296,7 @@ impl Site {
     }
 
     /// Takes somebody who has come, if anybody has.
+    #[tactic(auto, using(crate::proofs::VisitLemmas::nobody_came, crate::proofs::VisitLemmas::somebody_came))]
     pub fn accept<R: RandomSource>(&mut self, rt: &R, ready: &Readiness, now: u64)
         ensures address { self.new.address ≡ self.old.address }
         ensures names { names_of self.new.names ≡ names_of self.old.names }
