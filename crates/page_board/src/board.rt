@@ -174,7 +174,10 @@ impl Board {
     /// No more acts wait than may, whatever was asked of the board. A law: calling it does nothing.
     pub fn few_wait(&self)
         ensures { length self.now.acts ≤ MOST_ACTS }
-    {}
+    {
+        // Of a board whose fields are looked at it is known how many wait.
+        let _ = &self.acts;
+    }
 
     /// Takes an act: it waits behind the others, where fewer wait than may, and else nothing changes. Says whether it waits. After an
     /// error, which is for want of memory, the board is as it was.
