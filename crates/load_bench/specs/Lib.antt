@@ -16,3 +16,4 @@ pub mod Watched
 pub mod Asked
 pub mod Success
 pub mod Due
+pub mod Over

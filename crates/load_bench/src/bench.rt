@@ -1,6 +1,8 @@
 //! A bench: its gateways and lines, from the first question to the end.
 ghost use Rattle.std.specs.Prelude.{◌≡◌, [], true, is_some, Option, Some};
 ghost use Rattle.load_bench.specs.Due.{behind_start, bench_due, due_at_line, sooner};
+ghost use Rattle.load_bench.specs.declared.settings.LoadFault.TheVariants.{OutOfMemory};
+ghost use Rattle.load_bench.specs.Over.{bench_over, given_up};
 ghost use Rattle.load_bench.specs.Success.{is_success};
 
 use crate::boxing::boxed;
@@ -240,14 +242,18 @@ impl Bench {
 
     // It is given up for this, where it hasn't been for something else.
     pub(crate) fn give_up(&mut self, fault: LoadFault)
-        ensures { is_some self.new.course.value.fault ≡ true }
+        ensures given_up { is_some self.new.course.value.fault ≡ true }
+        ensures course { self.new.course.value ≡ given_up fault self.old.course.value }
+        ensures rest { self.new ≡ record self.old { course = self.new.course } }
     {
         self.course.fault = Some(self.course.fault.unwrap_or(fault));
     }
 
     /// Memory was refused.
     pub fn refuse(&mut self)
-        ensures { is_some self.new.course.value.fault ≡ true }
+        ensures given_up { is_some self.new.course.value.fault ≡ true }
+        ensures course { self.new.course.value ≡ given_up OutOfMemory self.old.course.value }
+        ensures rest { self.new ≡ record self.old { course = self.new.course } }
     {
         self.give_up(LoadFault::OutOfMemory);
     }
@@ -268,7 +274,8 @@ impl Bench {
 
     /// All that was said.
     pub fn clear_said(&mut self)
-        ensures { self.new.said.items ≡ [] }
+        ensures none { self.new.said.items ≡ [] }
+        ensures rest { self.new ≡ record self.old { said = self.new.said } }
     {
         self.said.clear();
     }
@@ -407,7 +414,9 @@ impl Bench {
     }
 
     /// Whether it is given up, or all calls are over, or the last ones were waited for long enough.
-    pub fn is_over(&self, now: u64) -> bool {
+    pub fn is_over(&self, now: u64) -> bool
+        ensures { result ≡ bench_over now self.now }
+    {
         let course = &*self.course;
         if course.fault.is_some() {
             return true;

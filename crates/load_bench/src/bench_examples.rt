@@ -1,7 +1,7 @@
 //! Worked examples of the definitions, as theorems: each sentence of a definition has one that a slip in it breaks.
 #![tactic(auto, unfolding(crate::proofs::Computing::on_examples))]
 
-ghost use Rattle.std.specs.Prelude.{◌≡◌, ◌^◌, ◌-◌, codes, [], ◌∷◌, map, true, false, Some, None};
+ghost use Rattle.std.specs.Prelude.{◌≡◌, ◌^◌, ◌-◌, codes, [], ◌∷◌, map, true, false, is_some, Some, None};
 ghost use Rattle.connections.specs.declared.mode.Mode.TheVariants as modes;
 ghost use Rattle.load_bench.specs.declared.phone.Heard.TheVariants as heard;
 ghost use Rattle.mg_packages.specs.declared.signal.Signal.TheVariants as signals;
@@ -9,9 +9,12 @@ ghost use Rattle.load_bench.specs.Heard.{heard_of, signal_heard, goes_both_ways,
 ghost use Rattle.load_bench.specs.Watched.{missing_before, next_behind, better_of, here_at, place_of};
 ghost use Rattle.load_bench.specs.declared.said.Order.TheVariants as orders;
 ghost use Rattle.load_bench.specs.Asked.{is_due, is_to_be_asked, order_text};
+ghost use Rattle.load_bench.specs.declared.bench.Bench.{Bench};
 ghost use Rattle.load_bench.specs.declared.bench.Course.{Course};
 ghost use Rattle.load_bench.specs.declared.stage.Stage.TheVariants as stages;
 ghost use Rattle.load_bench.specs.Due.{behind_start, due_among, due_begun, sooner};
+ghost use Rattle.load_bench.specs.declared.settings.LoadFault.TheVariants as faults;
+ghost use Rattle.load_bench.specs.Over.{given_up, is_at_end, is_past, last_moment, bench_over};
 ghost use Rattle.load_bench.specs.Planning.{due_after};
 ghost use Rattle.load_bench.specs.Success.{success_of, is_success};
 
@@ -104,4 +107,25 @@ pub fn what_is_due_has_examples()
         }) ∷ []) ≡ 740 }
     ensures no_call { due_among 3000 (None ∷ []) 800 ≡ 800 }
     ensures talks { due_among 90 (None ∷ Some (record { called = 1; call = record { stage = stages.Talking; since = 700; why = None } }) ∷ []) 800 ≡ 790 }
+{}
+
+/// When a load is over.
+pub fn when_a_load_is_over_has_examples()
+    // Not before calls began; then once the last ones were waited for long enough, or none goes on and none is attempted any more.
+    ensures not_begun { (course : Course) → is_past None 900000 course ≡ false }
+    ensures last { (course : Course) → course.settings.length ≡ 10000 → course.settings.hold ≡ 3000 → last_moment 500 course ≡ 73500 }
+    ensures waited { (course : Course) → last_moment 500 course ≡ 73500 → is_past (Some 500) 73500 course ≡ true }
+    ensures waits { (course : Course) → last_moment 500 course ≡ 73500 → is_at_end course ≡ false → is_past (Some 500) 73499 course ≡ false }
+    ensures at_end { (course : Course) → last_moment 500 course ≡ 73500 → is_at_end course ≡ true → is_past (Some 500) 600 course ≡ true }
+    ensures none_is_left { (course : Course) → course.active ≡ 0 → due_after course.plan.rate course.plan.length course.plan.begun ≡ None →
+        is_at_end course ≡ true }
+    ensures one_goes_on { (course : Course) → course.active ≡ 1 → is_at_end course ≡ false }
+    ensures one_is_attempted { (course : Course) → due_after course.plan.rate course.plan.length course.plan.begun ≡ Some 250 →
+        is_at_end course ≡ false }
+    // At once, where it is given up; it stays so, for its first reason.
+    ensures first { (course : Course) → course.fault ≡ None → (given_up faults.NoLines course).fault ≡ Some faults.NoLines }
+    ensures stays { (course : Course) → course.fault ≡ Some faults.NoLines → (given_up faults.OutOfMemory course).fault ≡ Some faults.NoLines }
+    ensures given_up { (bench : Bench) → is_some bench.course.value.fault ≡ true → bench_over 0 bench ≡ true }
+    ensures goes_on { (bench : Bench) → is_some bench.course.value.fault ≡ false → bench.course.value.started ≡ None →
+        bench_over 900000 bench ≡ false }
 {}
