@@ -6,4 +6,5 @@ pub mod SettlingLemmas
 pub mod TickingLemmas
 pub mod ServingLemmas
 pub mod DatagramLemmas
+pub mod TelephoneLemmas
 pub mod TypedCommandLemmas

@@ -1,6 +1,7 @@
 -- What goes over a wire leaves the rest of it, however much that is.
 use Rattle.std.proofs.Common.{◌≡◌, ◌⊎◌, inl, inr, ℕ, Bool, true, false, List, [], ◌∷◌, Option, Some, None, Result, Ok, Err, refl, sym, ap, subst, ◌∙◌}
 use Rattle.std.specs.Prelude.{⊤, is_some}
+use Rattle.std.specs.declared.net.socket_addr.SocketAddr.{SocketAddr}
 use Rattle.std.specs.declared.net.socket_addr.SocketAddrV4.{SocketAddrV4}
 use Rattle.std.specs.Global.{Box}
 use Rattle.call_agent.specs.declared.issuing.Issued.{Issued}
@@ -16,13 +17,18 @@ use Rattle.live_agent.specs.Clock.{is_behind}
 use Rattle.live_agent.specs.Handing.{Leaves, OffersTo}
 use Rattle.live_agent.specs.Sending.{GoesOut, SendsAll, SendsCommand, SendsOne, SendsOutputs, SendsOver}
 use Rattle.live_agent.specs.Settling.{SendsIssued}
-use Rattle.live_agent.specs.Turning.{EndsBy, PassesLoad, TickedOver, TicksOver}
+use Rattle.live_agent.specs.Telephones.{end_of, load_over, PassesLoad}
+use Rattle.live_agent.specs.Turning.{EndsBy, TickedOver, TicksOver}
 
 -- when it ends, where a load is over or none is made
 pub ends_by : (load before : Option (Box Load)) (was is : Option ℕ) → is_some load ≡ is_some before → (is_some load ≡ false → is ≡ was)
     → (is ≡ was) ⊎ (is ≡ Some 0) → EndsBy before was is
 ends_by load None was is same none ends = none same
 ends_by load (Some before) was is same none ends = ends
+
+ends_so : (is_over : Bool) (was is : Option ℕ) → is ≡ end_of is_over was → (is ≡ was) ⊎ (is ≡ Some 0)
+ends_so true was is ends = inr ends
+ends_so false was is ends = inl ends
 
 end_so : (was ticked is : Option ℕ) → ticked ≡ was → (is ≡ ticked) ⊎ (is ≡ Some 0) → (is ≡ was) ⊎ (is ≡ Some 0)
 end_so was ticked is same (inl stays) = inl (stays ∙ same)
@@ -93,10 +99,21 @@ module _ {S : Type 0} where
       ∙ ap (λ (is_behind : Bool). record was { now = record was.now { time = begun.now.time }; is_behind = is_behind }) known_is
 
   -- what is due of a load was done, where one is made
-  pub passed_so : (load : Option (Box Load)) (was is : Wire S) → (is_some load ≡ false → is ≡ was) → (is.end ≡ was.end) ⊎ (is.end ≡ Some 0)
-      → is ≡ record was { around = is.around; journal = is.journal; load = is.load; end = is.end } → PassesLoad load was is
-  passed_so None was is none ends rest = none refl
-  passed_so (Some load) was is none ends rest = (ends, rest)
+  pub passed_none : (answers : S → SocketAddr → List ℕ → S → Type 0) (moment : ℕ) (load : Option (Box Load)) (was is : Wire S)
+      → PassesLoad answers moment load was is → is_some load ≡ false → is ≡ was
+  passed_none answers moment None was is passes lacks = passes
+  passed_none answers moment (Some load) was is passes lacks = absurd cc
+
+  pub passed_ends : (answers : S → SocketAddr → List ℕ → S → Type 0) (moment : ℕ) (load : Option (Box Load)) (was is : Wire S)
+      → PassesLoad answers moment load was is → (is.end ≡ was.end) ⊎ (is.end ≡ Some 0)
+  passed_ends answers moment None was is passes = inl (ap (λ (one : Wire S). one.end) passes)
+  passed_ends answers moment (Some load) was is passes = ends_so (load_over moment is.load) was.end is.end passes.ends
+
+  pub passed_rest : (answers : S → SocketAddr → List ℕ → S → Type 0) (moment : ℕ) (load : Option (Box Load)) (was is : Wire S)
+      → PassesLoad answers moment load was is → is ≡ record was { around = is.around; journal = is.journal; load = is.load; end = is.end }
+  passed_rest answers moment None was is passes =
+      passes ∙ ap (λ (one : Wire S). record was { around = one.around; journal = one.journal; load = one.load; end = one.end }) (sym passes)
+  passed_rest answers moment (Some load) was is passes = passes.rest
 
   pub ticks_over : (was ticked is : Wire S) (moment to : ℕ) → TickedOver moment to was ticked
       → is ≡ record ticked { around = is.around; journal = is.journal; load = is.load; end = is.end }

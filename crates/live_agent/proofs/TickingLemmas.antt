@@ -1,6 +1,7 @@
 -- What a tick leaves of a board and of a wire, gateway by gateway.
-use Rattle.std.proofs.Common.{◌≡◌, ◌⊎◌, inl, inr, ℕ, ◌+◌, zero, suc, Bool, true, false, List, length, Some, Result, refl, sym, ap, subst, ◌∙◌, arith}
-use Rattle.std.specs.Prelude.{⊤, is_some}
+use Rattle.std.proofs.Common.{◌≡◌, ◌⊎◌, inl, inr, ℕ, ◌+◌, zero, suc, Bool, true, false, List, length, Result, sym, subst, ◌∙◌, arith}
+use Rattle.std.specs.Prelude.{⊤}
+use Rattle.std.specs.declared.net.socket_addr.SocketAddr.{SocketAddr}
 use Rattle.std.specs.declared.net.socket_addr.SocketAddrV4.{SocketAddrV4}
 use Rattle.agent_texts.specs.declared.tally.Tally.{Tally}
 use Rattle.agent_texts.specs.Counts.{with_given_up}
@@ -11,8 +12,9 @@ use Rattle.live_agent.specs.declared.wire.Wire.{Wire}
 use Rattle.live_agent.specs.Clock.{is_behind}
 use Rattle.live_agent.specs.Sending.{SendsOver, SettlesLines}
 use Rattle.live_agent.specs.Ticking.{GivesUpAll, GivesUpEach, GivesUpLast, GivesUpMany, GivesUpNext, GivesUpOne, TicksAll, TicksEach, TicksOne, WakesAll, WakesEach, WakesMany, WakesNext}
+use Rattle.live_agent.specs.Telephones.{PassesLoad}
 use Rattle.live_agent.specs.Turning.{DoesTick, TickedOver}
-use Rattle.live_agent.proofs.SendingLemmas.{outputs_over, over_journal, over_none, passed_so, sent_more, ticked_over, ticks_over}
+use Rattle.live_agent.proofs.SendingLemmas.{outputs_over, over_journal, over_none, passed_ends, passed_none, passed_rest, sent_more, ticked_over, ticks_over}
 use Rattle.live_agent.proofs.TypingLemmas.{by_gateways, gives_up, same_lines, settled_more}
 
 -- whether a command was given up
@@ -177,13 +179,16 @@ module _ {S : Type 0} (sends : S → SocketAddrV4 → List ℕ → Result ⊤ Fa
       (told.load ∙ said.load, ticked_over was ticks.said is to (is_behind moment to) said told)
 
   -- then what is due of a load was done
-  pub did_tick : (moment to : ℕ) (board now : Switchboard) (was ticked is : Wire S) → TicksAll sends moment to board was now ticked
-      → (is_some ticked.load ≡ false → is ≡ ticked) → (is.end ≡ ticked.end) ⊎ (is.end ≡ Some 0)
-      → is ≡ record ticked { around = is.around; journal = is.journal; load = is.load; end = is.end } → DoesTick sends moment to board now was is
-  did_tick moment to board now was ticked is ticks none ends rest = record {
+  pub did_tick : (answers : S → SocketAddr → List ℕ → S → Type 0) (moment to : ℕ) (board now : Switchboard) (was ticked is : Wire S)
+      → TicksAll sends moment to board was now ticked → PassesLoad answers moment ticked.load ticked is
+      → DoesTick sends answers moment to board now was is
+  did_tick answers moment to board now was ticked is ticks passes = record {
     ticked = ticked;
     ticks = ticks;
-    passes = passed_so ticked.load ticked is none ends rest;
+    passes = passes;
     lines = tick_lines moment to board now was ticked ticks;
-    over = ticks_over was ticked is moment to (tick_over moment to board now was ticked ticks) rest none ends;
+    over = ticks_over was ticked is moment to (tick_over moment to board now was ticked ticks)
+        (passed_rest answers moment ticked.load ticked is passes)
+        (passed_none answers moment ticked.load ticked is passes)
+        (passed_ends answers moment ticked.load ticked is passes);
   }

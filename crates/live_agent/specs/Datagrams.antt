@@ -1,5 +1,5 @@
 -- What a datagram does at a board and over a wire.
-use Rattle.std.specs.Prelude.{◌≡◌, ⊤, ℕ, zero, suc, Bool, true, false, is_some, position, List, [], ◌∷◌, take, Option, Some, None, IfOk, OnErr, Result, slice_get}
+use Rattle.std.specs.Prelude.{◌≡◌, ⊤, ℕ, zero, suc, Bool, true, false, is_some, position, List, [], ◌∷◌, take, Option, Some, None, IfNone, IfOk, OnErr, Result, Ok, slice_get}
 use Rattle.std.specs.Result.{result_err}
 use Rattle.std.specs.declared.net.socket_addr.SocketAddrV4.{SocketAddrV4}
 use Rattle.agent_texts.specs.declared.tally.Tally.{Tally}
@@ -83,13 +83,14 @@ pub record TakesAll {S : Type 0} (sends : S → SocketAddrV4 → List ℕ → Re
 
 -- Whose it is
 
--- The agent of the gateway at this place takes it, or refuses it for a reason of its own, and stands for what it did before then. Nothing else
--- of that gateway has changed, nor another one, nor anything else of the board.
+-- The agent of the gateway at this place takes it, or refuses it for a reason of its own, and stands for what it did before then. Where there
+-- is no such gateway nothing is said. Nothing else of that gateway has changed, nor another one, nor anything else of the board.
 pub record StepsAt (place : ℕ) (source : SocketAddrV4) (bytes : List ℕ) (outputs : Result (List OutDatagram) Refusal) (was is : Switchboard) : Type 0 where
   pub took : AtPlace place (λ before behind. IfOk outputs (λ sent. AgentTook before.agent.value (hears (datagram source bytes)) behind.agent.value sent))
       was.gateways.items is.gateways.items
   pub stays : AtPlace place (λ before behind. OnErr outputs (AgentStays before.agent.value behind.agent.value)) was.gateways.items is.gateways.items
   pub ends : AtPlace place (λ before behind. Refuses (datagram source bytes) (result_err outputs) before) was.gateways.items is.gateways.items
+  pub nobody : IfNone (slice_get was.gateways.items place) (outputs ≡ Ok [])
   pub own : AtPlace place (λ before behind. behind ≡ record before { agent = behind.agent }) was.gateways.items is.gateways.items
   pub others : OthersStay place was.gateways.items is.gateways.items
   pub rest : is ≡ record was { gateways = is.gateways }

@@ -1,5 +1,6 @@
 pub mod Clock
 pub mod Wiring
+pub mod Telephones
 pub mod Turning
 pub mod AnyAround
 pub mod Ending

@@ -1,5 +1,5 @@
 -- What a tick does: the clock of each agent goes on; what is given up by now is so, and what was put off is sent again, as lines are settled.
-use Rattle.std.specs.Prelude.{◌≡◌, ◌⊎◌, ⊤, ℕ, zero, suc, Bool, true, false, is_ok, is_some, List, length, None, IfOk, OnErr, Result, slice_get}
+use Rattle.std.specs.Prelude.{◌≡◌, ◌⊎◌, ⊤, ℕ, zero, suc, Bool, true, false, is_ok, is_some, List, [], length, None, IfNone, IfOk, OnErr, Result, Ok, slice_get}
 use Rattle.std.specs.Result.{result_err}
 use Rattle.std.specs.declared.net.socket_addr.SocketAddrV4.{SocketAddrV4}
 use Rattle.agent_texts.specs.Counts.{with_given_up}
@@ -23,7 +23,8 @@ use Rattle.live_agent.specs.Settling.{SettlesAll}
 
 -- The clocks of agents
 
--- that of the agent of the gateway at this place goes on, and what it says by that is sent, again; or it refuses that, for its reason
+-- That of the agent of the gateway at this place goes on, and what it says by that is sent, again; or it refuses that, for its reason. Where
+-- there is no such gateway nothing is said.
 pub record TicksOne {S : Type 0} (sends : S → SocketAddrV4 → List ℕ → Result ⊤ Fault → S → Type 0) (to place : ℕ) (board : Switchboard) (was : Wire S)
     (now : Switchboard) (is : Wire S)
     : Type 0 where
@@ -34,6 +35,7 @@ pub record TicksOne {S : Type 0} (sends : S → SocketAddrV4 → List ℕ → Re
   pub stays : AtPlace place (λ before behind. OnErr outputs (AgentStays before.agent.value behind.agent.value)) board.gateways.items now.gateways.items
   pub ends : AtPlace place (λ before behind. Refuses (tick (tick_to before.ticked to)) (result_err outputs) before)
       board.gateways.items now.gateways.items
+  pub nobody : IfNone (slice_get board.gateways.items place) (outputs ≡ Ok [])
   pub own : AtPlace place (λ before behind. behind ≡ record before { agent = behind.agent; ticked = behind.ticked })
       board.gateways.items now.gateways.items
   pub clock : AtPlace place (Ticks (is_ok outputs) to) board.gateways.items now.gateways.items

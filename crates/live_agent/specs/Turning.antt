@@ -30,6 +30,7 @@ use Rattle.live_agent.specs.Datagrams.{TakesDatagram}
 use Rattle.live_agent.specs.Sending.{SettlesLines}
 use Rattle.live_agent.specs.Settling.{SettlesAll}
 use Rattle.live_agent.specs.Tallying.{with_receive_fault}
+use Rattle.live_agent.specs.Telephones.{HearsTelephones, PassesLoad}
 use Rattle.live_agent.specs.Ticking.{TicksAll}
 use Rattle.live_agent.specs.TypedCommands.{DoesCommand}
 use Rattle.live_agent.specs.Wiring.{with_read, IsSituation}
@@ -96,23 +97,13 @@ HearsTyped sockets hears was is =
     (taken : Bool) × Hears sockets hears was.around was.lines taken is.around is.lines × (is.read ≡ with_read taken was.read)
     × (is ≡ record was { around = is.around; lines = is.lines; read = is.read })
 
--- where a load is over the end has come
-abbrev pub end_of : Bool → Option ℕ → Option ℕ
-end_of is_over end = if is_over then Some 0 else end
-
--- A datagram of telephones is taken, if one has come: what is around the wire may have changed by that, and the load, which may be over.
-pub record HearsTelephones {S : Type 0} (was is : Wire S) : Type 0 where
-  pub reads : (taken : Bool) × (is.read ≡ with_read taken was.read)
-  pub ends : (is_over : Bool) × (is.end ≡ end_of is_over was.end)
-  pub rest : is ≡ record was { around = is.around; read = is.read; end = is.end; load = is.load }
-
 -- where a load is made, its telephones are heard, and the board stays as it was; else the line that is answered next is answered
 abbrev pub TakesTyped :
     {S : Type 0} → (S → List SocketAddrV4) → (S → SocketAddrV4 → List ℕ → Result ⊤ Fault → S → Type 0)
     → (S → Option (SocketAddr × ℕ) → List ℕ → S → Type 0)
-    → (S → SocketAddr → List ℕ → S → Type 0) → Option (Box Load) → Switchboard → Switchboard → Wire S → Wire S → Type 0
-TakesTyped sockets sends hears answers (Some load) board now was is = (now ≡ board) × HearsTelephones was is
-TakesTyped {S} sockets sends hears answers None board now was is =
+    → (S → SocketAddr → List ℕ → S → Type 0) → ℕ → Option (Box Load) → Switchboard → Switchboard → Wire S → Wire S → Type 0
+TakesTyped sockets sends hears answers moment (Some load) board now was is = (now ≡ board) × HearsTelephones hears answers moment was is
+TakesTyped {S} sockets sends hears answers moment None board now was is =
     (heard : Wire S) × HearsTyped sockets hears was heard × AnswersFirst sends answers board now heard is
 
 -- a wait changes what is around a wire; that it failed counts, and nothing else of the journal has changed
@@ -145,12 +136,6 @@ abbrev pub EndsBy : Option (Box Load) → Option ℕ → Option ℕ → Type 0
 EndsBy None was is = is ≡ was
 EndsBy (Some load) was is = (is ≡ was) ⊎ (is ≡ Some 0)
 
--- what is due of it is done, and it is logged how far it is
-abbrev pub PassesLoad : {S : Type 0} → Option (Box Load) → Wire S → Wire S → Type 0
-PassesLoad None was is = is ≡ was
-PassesLoad (Some load) was is =
-    EndsBy (Some load) was.end is.end × (is ≡ record was { around = is.around; journal = is.journal; load = is.load; end = is.end })
-
 -- behind a tick
 abbrev pub TicksOver : {S : Type 0} → ℕ → ℕ → Wire S → Wire S → Type 0
 TicksOver moment to was is =
@@ -165,11 +150,12 @@ TicksOver moment to was is =
     })
 
 -- all that it does: what the agents' clocks do, what is given up and what was put off; then what is due of a load
-pub record DoesTick {S : Type 0} (sends : S → SocketAddrV4 → List ℕ → Result ⊤ Fault → S → Type 0) (moment to : ℕ) (board now : Switchboard) (was is : Wire S)
+pub record DoesTick {S : Type 0} (sends : S → SocketAddrV4 → List ℕ → Result ⊤ Fault → S → Type 0) (answers : S → SocketAddr → List ℕ → S → Type 0)
+    (moment to : ℕ) (board now : Switchboard) (was is : Wire S)
     : Type 0 where
   pub ticked : Wire S
   pub ticks : TicksAll sends moment to board was now ticked
-  pub passes : PassesLoad ticked.load ticked is
+  pub passes : PassesLoad answers moment ticked.load ticked is
   pub lines : SettlesLines board now
   pub over : TicksOver moment to was is
 
@@ -182,9 +168,9 @@ abbrev pub DoesTurn :
 DoesTurn sockets sends receives hears answers moment turns.End board now was is = (now ≡ board) × (is ≡ was)
 DoesTurn sockets sends receives hears answers moment turns.Look board now was is = (now ≡ board) × Waits was is
 DoesTurn sockets sends receives hears answers moment (turns.Wait until) board now was is = (now ≡ board) × Waits was is
-DoesTurn sockets sends receives hears answers moment (turns.Tick to) board now was is = DoesTick sends moment to board now was is
+DoesTurn sockets sends receives hears answers moment (turns.Tick to) board now was is = DoesTick sends answers moment to board now was is
 DoesTurn sockets sends receives hears answers moment turns.Command board now was is =
-    TakesTyped sockets sends hears answers was.load board now was is
+    TakesTyped sockets sends hears answers moment was.load board now was is
 DoesTurn sockets sends receives hears answers moment turns.Datagram board now was is = TakesDatagram sends receives board was now is
 DoesTurn sockets sends receives hears answers moment turns.Visit board now was is = (now ≡ board) × (is ≡ was)
 DoesTurn sockets sends receives hears answers moment (turns.Note pause) board now was is = (now ≡ board) × Notes was is

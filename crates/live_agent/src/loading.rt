@@ -1,6 +1,7 @@
 //! Makes a load: calls at a rate between the telephones of gateways, which another call agent serves, or this program's own exchange.
-ghost use Rattle.std.specs.Prelude.{◌≡◌, ◌⊎◌, true, false, is_some, Some};
-ghost use Rattle.live_agent.specs.Turning.{end_of, HearsTelephones};
+ghost use Rattle.std.specs.Prelude.{◌≡◌, ◌&&◌, true, false, is_some};
+ghost use Rattle.load_bench.specs.Over.{bench_over};
+ghost use Rattle.live_agent.specs.Telephones.{end_of, HearsOnce, HearsTelephones, OfLoad, PassesLoad, SaysAll, SaysEach, SaysOne, SaysPassed};
 ghost use Rattle.live_agent.specs.Wiring.{due_of, with_read, FallsDueOver};
 
 use crate::recorder::Recorder;
@@ -10,7 +11,7 @@ use agent_config::AgentConfig;
 use exchange_log::peer_text;
 use live_ends::{AddressWord, CommonEnding, SocketWanted};
 use live_outlets::{Outlets, boxed};
-use load_bench::{Bench, LoadFault, LoadSettings};
+use load_bench::{Bench, LoadFault, LoadSettings, Said};
 use mg_bytes::OutOfMemory;
 use std::alloc::Global;
 use std::io::Write;
@@ -71,17 +72,45 @@ pub(crate) fn count_came(
     }
 }
 
-// What is to be said to telephones is said.
-fn say_all<S: Surroundings>(alloc: Global, around: &mut S, bench: &mut Bench) {
-    let mut is_refused = false;
-    for said in bench.said() {
-        match said.order.text(alloc) {
-            Ok(text) => around.answer(SocketAddr::V4(said.to), text.as_slice()),
-            Err(_) => is_refused = true,
+// This is said to the telephones for which it is: whether memory was there for its text.
+fn say_one<S: Surroundings>(alloc: Global, around: &mut S, said: &Said) -> bool
+    ensures { SaysOne S.answers said.now result around.old around.new }
+{
+    match said.order.text(alloc) {
+        Ok(text) => {
+            around.answer(SocketAddr::V4(said.to), text.as_slice());
+            true
         }
+        Err(_) => false,
     }
+}
+
+// All was said so far, and so is this, or not.
+fn are_both(all: bool, told: bool) -> bool
+    ensures { result ≡ (all && told) }
+{
+    all && told
+}
+
+// These are said, one behind another: whether memory was there for all their texts.
+fn say_each<S: Surroundings>(alloc: Global, around: &mut S, orders: &[Said]) -> bool
+    ensures { SaysEach S.answers orders.now result around.old around.new }
+{
+    let mut all = true;
+    for said in orders {
+        let told = say_one(alloc, around, said);
+        all = are_both(all, told);
+    }
+    all
+}
+
+// What is to be said to telephones is said.
+fn say_all<S: Surroundings>(alloc: Global, around: &mut S, bench: &mut Bench)
+    ensures { SaysAll S.answers around.old bench.old around.new bench.new }
+{
+    let all = say_each(alloc, around, bench.said());
     bench.clear_said();
-    if is_refused {
+    if !all {
         bench.refuse();
     }
 }
@@ -93,7 +122,10 @@ fn pass<S: Surroundings>(
     load: &mut Load,
     out: &mut Vec<u8>,
     moment: u64,
-) -> bool {
+) -> bool
+    ensures over { result ≡ bench_over moment load.new.bench.value }
+    ensures says { SaysPassed S.answers around.old around.new load.old.bench.value load.new.bench.value }
+{
     load.bench.pass(moment);
     load.bench.tell_progress(out, moment);
     say_all(alloc, around, &mut load.bench);
@@ -101,7 +133,9 @@ fn pass<S: Surroundings>(
 }
 
 // Takes a datagram of telephones at this moment, in ms, if one has come: whether one had.
-fn hear<S: Surroundings>(alloc: Global, around: &mut S, load: &mut Load, moment: u64) -> bool {
+fn hear<S: Surroundings>(alloc: Global, around: &mut S, load: &mut Load, moment: u64) -> bool
+    ensures { HearsOnce S.hears S.answers result around.old around.new load.old.bench.value load.new.bench.value }
+{
     let Some((source, length)) = around.hear(load.room.as_mut_slice()) else {
         return false;
     };
@@ -126,7 +160,9 @@ fn end_of(is_over: bool, end: Option<u64>) -> Option<u64>
 }
 
 // A load is over, at this moment of the clock by which commands are counted, in ms: telephones are to tell nothing more.
-fn end<S: Surroundings>(alloc: Global, around: &mut S, load: &mut Load, now: u64) {
+fn end<S: Surroundings>(alloc: Global, around: &mut S, load: &mut Load, now: u64)
+    ensures { SaysPassed S.answers around.old around.new load.old.bench.value load.new.bench.value }
+{
     load.bench.end(now);
     say_all(alloc, around, &mut load.bench);
 }
@@ -155,25 +191,22 @@ impl<S: Surroundings + Drop> Wire<S> {
 
     /// It is this moment, in ms: what is due of a load is done, where one is made, and it is logged how far it is.
     pub(crate) fn pass_load(&mut self, alloc: Global, moment: u64)
-        ensures none { is_some self.old.load ≡ false → self.new ≡ self.old }
-        ensures ends { (self.new.end ≡ self.old.end) ⊎ (self.new.end ≡ Some 0) }
-        ensures rest { self.new ≡ record self.old { around = self.new.around; journal = self.new.journal; load = self.new.load; end = self.new.end } }
+        ensures { PassesLoad S.answers moment self.old.load self.old self.new }
     {
         let Some(load) = &mut self.load else {
             return;
         };
         let load = &mut **load;
         let out = &mut self.journal.log.out;
-        if pass(alloc, &mut self.around, load, out, moment) {
-            self.end = Some(0);
-        }
+        let is_over = pass(alloc, &mut self.around, load, out, moment);
+        self.end = end_of(is_over, self.end);
     }
 
     /// Takes a datagram of telephones at this moment, in ms, where a load is made: whether one is.
     pub(crate) fn hear_telephones(&mut self, alloc: Global, moment: u64) -> bool
         ensures made { result ≡ is_some self.old.load }
         ensures none { result ≡ false → self.new ≡ self.old }
-        ensures heard { result ≡ true → HearsTelephones self.old self.new }
+        ensures heard { result ≡ true → HearsTelephones S.hears S.answers moment self.old self.new }
     {
         let Some(load) = &mut self.load else {
             return false;

@@ -438,7 +438,7 @@ fn take_line<S: Surroundings + Drop>(
     wire: &mut Wire<S>,
     moment: u64,
 )
-    ensures { TakesTyped S.sockets (HandsTo S.sends S.traffic) S.hears S.answers wire.old.load board.old board.new wire.old wire.new }
+    ensures { TakesTyped S.sockets (HandsTo S.sends S.traffic) S.hears S.answers moment wire.old.load board.old board.new wire.old wire.new }
 {
     if wire.hear_telephones(alloc, moment) {
         return;

@@ -11,7 +11,7 @@ returns-then-not-send_outputs g c =
       went_on = c.send_outputs.result;
       stepped = c.step-outputs.new.self;
       sent = c.send_outputs.new.wire;
-      steps = record { took = c.step-outputs.ensures.took; stays = c.step-outputs.ensures.err; ends = c.step-outputs.ensures.ends; own = c.step-outputs.ensures.own; others = c.step-outputs.ensures.others; rest = c.step-outputs.ensures.rest };
+      steps = record { took = c.step-outputs.ensures.took; stays = c.step-outputs.ensures.err; ends = c.step-outputs.ensures.ends; nobody = c.step-outputs.ensures.nobody; own = c.step-outputs.ensures.own; others = c.step-outputs.ensures.others; rest = c.step-outputs.ensures.rest };
       goes = c.send_outputs.ensures;
       deals = dealt_none (HandsTo g.S.Surroundings.sends g.S.Surroundings.traffic) c.send_outputs.result c.args.place c.args.bytes.now c.step-outputs.new.self c.send_outputs.new.wire refused;
     }
@@ -24,7 +24,7 @@ returns g c =
       went_on = c.send_outputs.result;
       stepped = c.step-outputs.new.self;
       sent = c.send_outputs.new.wire;
-      steps = record { took = c.step-outputs.ensures.took; stays = c.step-outputs.ensures.err; ends = c.step-outputs.ensures.ends; own = c.step-outputs.ensures.own; others = c.step-outputs.ensures.others; rest = c.step-outputs.ensures.rest };
+      steps = record { took = c.step-outputs.ensures.took; stays = c.step-outputs.ensures.err; ends = c.step-outputs.ensures.ends; nobody = c.step-outputs.ensures.nobody; own = c.step-outputs.ensures.own; others = c.step-outputs.ensures.others; rest = c.step-outputs.ensures.rest };
       goes = c.send_outputs.ensures;
       deals = dealt_with (HandsTo g.S.Surroundings.sends g.S.Surroundings.traffic) c.send_outputs.result c.args.place c.args.bytes.now c.step-outputs.new.self c.deal_with.new.board c.take_told.new.board
           c.send_outputs.new.wire c.deal_with.new.wire c.take_told.new.wire went c.deal_with.ensures c.take_told.ensures;

@@ -5,12 +5,12 @@ use Rattle.live_agent.proofs.session.take_line.Goals as goal
 
 pub returns-then-hear_telephones : goal.returns-then-hear_telephones
 returns-then-hear_telephones g c =
-    telephones_heard g.S.Surroundings.sockets (HandsTo g.S.Surroundings.sends g.S.Surroundings.traffic) g.S.Surroundings.hears g.S.Surroundings.answers _ _ _ _ _ _
+    telephones_heard g.S.Surroundings.sockets (HandsTo g.S.Surroundings.sends g.S.Surroundings.traffic) g.S.Surroundings.hears g.S.Surroundings.answers c.args.moment _ _ _ _ _ _
     c.hear_telephones.ensures.made c.if-hear_telephones.true refl (c.hear_telephones.ensures.heard c.if-hear_telephones.true)
 
 pub returns : goal.returns
 returns g c =
-    line_answered g.S.Surroundings.sockets (HandsTo g.S.Surroundings.sends g.S.Surroundings.traffic) g.S.Surroundings.hears g.S.Surroundings.answers _ _ _ _ _ _ _ _
+    line_answered g.S.Surroundings.sockets (HandsTo g.S.Surroundings.sends g.S.Surroundings.traffic) g.S.Surroundings.hears g.S.Surroundings.answers c.args.moment _ _ _ _ _ _ _ _
     c.hear_telephones.ensures.made c.if-hear_telephones.false (c.hear_telephones.ensures.none c.if-hear_telephones.false)
     (c.hear_lines.ensures.heard.0, c.hear_lines.ensures.heard.1, c.hear_lines.ensures.heard.2, c.hear_lines.ensures.rest)
     c.answer_request.ensures

@@ -7,6 +7,7 @@ returns g c = record {
   took = c.tick-outputs.ensures.took;
   stays = c.tick-outputs.ensures.err;
   ends = c.tick-outputs.ensures.ends;
+  nobody = c.tick-outputs.ensures.nobody;
   own = c.tick-outputs.ensures.own;
   clock = c.tick-outputs.ensures.clock;
   others = c.tick-outputs.ensures.others;

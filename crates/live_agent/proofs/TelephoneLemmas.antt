@@ -1,0 +1,62 @@
+-- What is said to telephones, and when a load is over.
+use Rattle.std.proofs.Common.{◌≡◌, ℕ, ◌+◌, ◌<◌, ◌≤◌, Bool, true, false, List, [], ◌∷◌, length, get_or, drop, Option, Some, None, refl, sym, ap, subst, ◌∙◌}
+use Rattle.std.proofs.lemmas.List.{drop_more, at_drop_all}
+use Rattle.std.specs.Prelude.{◌&&◌}
+use Rattle.std.specs.Global.{Box}
+use Rattle.std.specs.declared.net.socket_addr.SocketAddr.{SocketAddr}
+use Rattle.load_bench.specs.Over.{bench_over}
+use Rattle.load_bench.specs.declared.bench.Bench.{Bench}
+use Rattle.load_bench.specs.declared.bench.Course.{Course}
+use Rattle.load_bench.specs.declared.said.Said.{Said}
+use Rattle.live_agent.specs.declared.loading.Load.{Load}
+use Rattle.live_agent.specs.declared.wire.Wire.{Wire}
+use Rattle.live_agent.specs.Telephones.{end_of, load_over, OfLoad, Passes, PassesLoad, SaysEach, SaysOne}
+
+both_true : (all : Bool) → (all && true) ≡ all
+both_true true = refl
+both_true false = refl
+
+both_both : (all told rest : Bool) → ((all && told) && rest) ≡ (all && (told && rest))
+both_both true told rest = refl
+both_both false told rest = refl
+
+-- the load that is made becomes so
+pub of_load : (Does : Bench → Bench → Type 0) (load : Option (Box Load)) (was is : Box Load) → load ≡ Some was → Does was.value.bench.value is.value.bench.value
+    → OfLoad Does load (Some is)
+of_load Does load was is made does = subst (λ (one : Option (Box Load)). OfLoad Does one (Some is)) (sym made) does
+
+-- its end comes as its bench says
+pub ended_so : (moment : ℕ) (load : Box Load) (is_over : Bool) (was is : Option ℕ) → is_over ≡ bench_over moment load.value.bench.value
+    → is ≡ end_of is_over was → is ≡ end_of (load_over moment (Some load)) was
+ended_so moment load is_over was is over ends = ends ∙ ap (λ (one : Bool). end_of one was) over
+
+module _ {S : Type 0} (answers : S → SocketAddr → List ℕ → S → Type 0) where
+  -- one more of these is said
+  pub says_next : (orders : List Said) (place : ℕ) (said : Said) (told rest : Bool) (was between is : S) → place < length orders
+      → said ≡ get_or orders place said → SaysOne answers said told was between → SaysEach answers (drop (place + 1) orders) rest between is
+      → SaysEach answers (drop place orders) (told && rest) was is
+  says_next orders place said told rest was between is within item first more =
+      subst (λ (left : List Said). SaysEach answers left (told && rest) was is) (sym (drop_more orders place said within))
+      (told, rest, between, subst (λ (one : Said). SaysOne answers one told was between) item first, more, refl)
+
+  pub says_more : (orders : List Said) (all told both rest : Bool) (was is : S) → both ≡ (all && told)
+      → SaysEach answers orders (all && (told && rest)) was is → SaysEach answers orders (both && rest) was is
+  says_more orders all told both rest was is both_is says =
+      subst (λ (one : Bool). SaysEach answers orders (one && rest) was is) (sym both_is)
+      (subst (λ (one : Bool). SaysEach answers orders one was is) (sym (both_both all told rest)) says)
+
+  -- none is left
+  pub says_none : (orders : List Said) (place : ℕ) (was : S) → length orders ≤ place → SaysEach answers (drop place orders) true was was
+  says_none orders place was past =
+      subst (λ (left : List Said). SaysEach answers left true was was) (sym (at_drop_all (λ (left : List Said). left) orders place past)) (refl, refl)
+
+  pub says_all : (orders : List Said) (all : Bool) (was is : S) → SaysEach answers orders (all && true) was is → SaysEach answers orders all was is
+  says_all orders all was is says = subst (λ (one : Bool). SaysEach answers orders one was is) (both_true all) says
+
+  -- where no load is made nothing is
+  pub passes_none : (moment : ℕ) (load : Option (Box Load)) (was : Wire S) → load ≡ None → PassesLoad answers moment load was was
+  passes_none moment load was none = subst (λ (one : Option (Box Load)). PassesLoad answers moment one was was) (sym none) refl
+
+  pub passes_some : (moment : ℕ) (load : Option (Box Load)) (made : Box Load) (was is : Wire S) → load ≡ Some made → Passes answers moment was is
+      → PassesLoad answers moment load was is
+  passes_some moment load made was is some passes = subst (λ (one : Option (Box Load)). PassesLoad answers moment one was is) (sym some) passes

@@ -1,0 +1,17 @@
+use Rattle.std.proofs.Common.{refl}
+use Rattle.live_agent.proofs.TelephoneLemmas.{ended_so, of_load, passes_none, passes_some}
+use Rattle.live_agent.specs.Telephones.{SaysPassed}
+use Rattle.live_agent.proofs.wire.Wire.pass_load.Goals as goal
+
+pub returns-in_default : goal.returns-in_default
+returns-in_default g c = passes_none g.S.Surroundings.answers c.args.moment c.args.self.now.load c.args.self.now c.in_default.is
+
+pub returns : goal.returns
+returns g c =
+    passes_some g.S.Surroundings.answers c.args.moment c.args.self.now.load c.in-Some.load c.args.self.now _ c.in-Some.is (record {
+      says = of_load (SaysPassed g.S.Surroundings.answers c.args.self.now.around c.pass-is_over.new.around) c.args.self.now.load c.in-Some.load _ c.in-Some.is
+          c.pass-is_over.ensures.says;
+      ends = ended_so c.args.moment _ c.pass-is_over.result c.args.self.now.end _ c.pass-is_over.ensures.over c.end_of-self.ensures;
+      journal = refl;
+      rest = refl;
+    })
