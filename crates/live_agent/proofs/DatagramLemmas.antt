@@ -14,6 +14,7 @@ use Rattle.live_agent.specs.Datagrams.{DealsIf, HearsBy, HearsOne, HearsTexts, S
 use Rattle.live_agent.specs.Handing.{OffersTo}
 use Rattle.live_agent.specs.Sending.{SendsAll, SendsOne}
 use Rattle.live_agent.specs.Settling.{SettlesAll}
+use Rattle.live_agent.specs.Tallying.{OnlyNotes}
 
 module _ {S : Type 0} (sends : S → SocketAddrV4 → List ℕ → Result ⊤ Fault → S → Type 0) where
   -- one more text was heard
@@ -80,10 +81,11 @@ module _ {S : Type 0} (sends : S → SocketAddrV4 → List ℕ → Result ⊤ Fa
   pub offered_to : (network : Option BadNetwork) (found : Bool) (source : SocketAddrV4) (bytes : List ℕ) (board now : Switchboard) (was offered is : Wire S)
       → is_some network ≡ true
       → OffersTo In source bytes was.now.clock network offered.network was.journal.value.tally offered.journal.value.tally
+      → OnlyNotes was.journal.value offered.journal.value
       → offered ≡ record was { network = offered.network; journal = offered.journal } → TakesOver sends found board offered now is
       → TakesReceived sends network source bytes board was now is
-  offered_to None found source bytes board now was offered is some counts rest takes = absurd cc
-  offered_to (Some network) found source bytes board now was offered is some counts rest takes = (found, offered, counts, rest, takes)
+  offered_to None found source bytes board now was offered is some counts notes rest takes = absurd cc
+  offered_to (Some network) found source bytes board now was offered is some counts notes rest takes = (found, offered, counts, notes, rest, takes)
 
   -- what was looked for
   pub found_so : (found heard : Option (SocketAddrV4 × ℕ)) (room : List ℕ) (board now : Switchboard) (was is : Wire S) → found ≡ heard

@@ -17,6 +17,7 @@ use Rattle.live_agent.specs.Clock.{is_behind}
 use Rattle.live_agent.specs.Handing.{Leaves, OffersTo}
 use Rattle.live_agent.specs.Sending.{GoesOut, SendsAll, SendsCommand, SendsOne, SendsOutputs, SendsOver}
 use Rattle.live_agent.specs.Settling.{SendsIssued}
+use Rattle.live_agent.specs.Tallying.{OnlyNotes}
 use Rattle.live_agent.specs.Telephones.{end_of, load_over, PassesLoad}
 use Rattle.live_agent.specs.Turning.{EndsBy, TickedOver, TicksOver}
 
@@ -151,9 +152,9 @@ module _ {S : Type 0} (sends : S → SocketAddrV4 → List ℕ → Result ⊤ Fa
   -- it went out, where a network spoils it or none does
   pub goes_offered : (to : SocketAddrV4) (bytes : List ℕ) (network : Option BadNetwork) (was is : Wire S) → is_some network ≡ true
       → OffersTo Out to bytes was.now.clock network is.network was.journal.value.tally is.journal.value.tally
-      → is ≡ record was { network = is.network; journal = is.journal } → GoesOut sends to bytes network was is
-  goes_offered to bytes None was is some offers rest = absurd cc
-  goes_offered to bytes (Some network) was is some offers rest = (offers, rest)
+      → OnlyNotes was.journal.value is.journal.value → is ≡ record was { network = is.network; journal = is.journal } → GoesOut sends to bytes network was is
+  goes_offered to bytes None was is some offers notes rest = absurd cc
+  goes_offered to bytes (Some network) was is some offers notes rest = (offers, notes, rest)
 
   pub goes_leaving : (to : SocketAddrV4) (bytes : List ℕ) (network : Option BadNetwork) (was between is : Wire S) → is_some network ≡ false
       → between ≡ was → Leaves sends to bytes between is → GoesOut sends to bytes network was is

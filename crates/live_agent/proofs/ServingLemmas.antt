@@ -1,5 +1,7 @@
 -- Turns, one behind another.
-use Rattle.std.proofs.Common.{◌≡◌, inl, ℕ, ◌+◌, suc, Bool, false, Result, Ok, Err, sym, ap, subst, ◌∙◌, arith}
+use Rattle.std.proofs.Common.{◌≡◌, inl, ℕ, ◌+◌, suc, Bool, true, false, Result, Ok, Err, refl, sym, ap, subst, ◌∙◌, arith}
+use Rattle.std.specs.Prelude.{not}
+use Rattle.agent_texts.specs.declared.journal.Journal.{Journal}
 use Rattle.surroundings.specs.declared.surroundings.Fault.{Fault}
 use Rattle.surroundings.specs.declared.surroundings.Told.{Told}
 use Rattle.switchboard.specs.declared.switchboard.Switchboard.{Switchboard}
@@ -8,17 +10,28 @@ use Rattle.live_agent.specs.declared.wire.Wire.{Wire}
 use Rattle.live_agent.specs.Serving.{RunsTurns, StopsAt, Writes}
 use Rattle.live_agent.specs.Wiring.{AsksNext}
 
-module _ {S : Type 0} where
-  -- what was recorded was written, and after it was kept whether some of it waits
-  pub written_so : (was between is : Wire S) → between.journal.value.tally ≡ was.journal.value.tally → between ≡ record was { journal = between.journal }
-      → is ≡ record between { is_offering = is.is_offering } → Writes was is
-  written_so was between is kept leaves next =
-      let all : is ≡ record was { journal = between.journal; is_offering = is.is_offering }
-      = next ∙ ap (λ (one : Wire S). record one { is_offering = is.is_offering }) leaves in (
-        ap (λ (one : Wire S). one.journal.value.tally) next ∙ kept,
-        all ∙ ap (λ (one : Wire S). record was { journal = one.journal; is_offering = is.is_offering }) (sym all),
-      )
+-- what comes next isn't the end
+pub not_end : (is_over : Bool) → true ≡ not is_over → is_over ≡ false
+not_end true so = absurd cc
+not_end false so = refl
 
+module _ {S W : Type 0} (writes : W → Journal → ℕ → W → Journal → Type 0) where
+  -- what was recorded was written, and after it was kept whether some of it waits
+  pub written_so : (before after : W) (was between is : Wire S) → writes before was.journal.value was.now.time after between.journal.value
+      → between.journal.value.tally ≡ was.journal.value.tally → between ≡ record was { journal = between.journal }
+      → is ≡ record between { is_offering = is.is_offering } → Writes writes was is
+  written_so before after was between is wrote kept leaves next =
+      let all : is ≡ record was { journal = between.journal; is_offering = is.is_offering }
+      = next ∙ ap (λ (one : Wire S). record one { is_offering = is.is_offering }) leaves in
+      record {
+        before = before;
+        after = after;
+        wrote = subst (λ (one : Wire S). writes before was.journal.value was.now.time after one.journal.value) (sym next) wrote;
+        counts = ap (λ (one : Wire S). one.journal.value.tally) next ∙ kept;
+        rest = all ∙ ap (λ (one : Wire S). record was { journal = one.journal; is_offering = is.is_offering }) (sym all);
+      }
+
+module _ {S : Type 0} where
   pub offered_so : (was is : Wire S) (is_offering : Bool) → is ≡ record was { is_offering = is_offering }
       → is ≡ record was { is_offering = is.is_offering }
   offered_so was is is_offering next = next ∙ ap (λ (one : Wire S). record was { is_offering = one.is_offering }) (sym next)

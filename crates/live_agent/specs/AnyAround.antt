@@ -1,8 +1,15 @@
 -- Surroundings of which a worked example asks nothing: of each a number.
-use Rattle.std.specs.Prelude.{⊤, ℕ, List, [], Option, Result}
+use Rattle.std.specs.Prelude.{◌≡◌, ◌⊎◌, ◌+◌, ⊤, ℕ, codes, List, [], Option, Result}
 use Rattle.std.specs.declared.net.socket_addr.SocketAddr.{SocketAddr}
+use Rattle.std.specs.declared.net.socket_addr.SocketAddr.TheVariants.{V4}
 use Rattle.std.specs.declared.net.socket_addr.SocketAddrV4.{SocketAddrV4}
+use Rattle.agent_texts.specs.declared.journal.Journal.{Journal}
+use Rattle.load_bench.specs.declared.bench.Bench.{Bench}
+use Rattle.surroundings.specs.Sending.{untold, Traffic}
 use Rattle.surroundings.specs.declared.surroundings.Fault.{Fault}
+
+abbrev pub no_traffic : ℕ → Traffic
+no_traffic around = untold
 
 abbrev pub no_sockets : ℕ → List SocketAddrV4
 no_sockets around = []
@@ -18,3 +25,28 @@ hears_any around found room after = ⊤
 
 abbrev pub answers_any : ℕ → SocketAddr → List ℕ → ℕ → Type 0
 answers_any around sender text after = ⊤
+
+-- that are never answered; each of whose answers is counted; that are asked to watch, and then to show; that are asked to watch, here
+abbrev pub answers_never : ℕ → SocketAddr → List ℕ → ℕ → Type 0
+answers_never around sender text after = ⊥
+
+abbrev pub answers_more : ℕ → SocketAddr → List ℕ → ℕ → Type 0
+answers_more around sender text after = after ≡ around + 1
+
+abbrev pub asks_in_order : ℕ → SocketAddr → List ℕ → ℕ → Type 0
+asks_in_order around sender text after =
+    ((around ≡ 0) × (text ≡ codes "watch 60\n") × (after ≡ 1)) ⊎ ((around ≡ 1) × (text ≡ codes "show *\n") × (after ≡ 2))
+
+abbrev pub asks_at : SocketAddrV4 → ℕ → SocketAddr → List ℕ → ℕ → Type 0
+asks_at to around sender text after = (sender ≡ V4 to) × (text ≡ codes "watch 60\n")
+
+-- who writes what was recorded, and of whom nothing is asked; who leaves it as it was
+abbrev pub writes_any : ℕ → Journal → ℕ → ℕ → Journal → Type 0
+writes_any before journal time after left = ⊤
+
+abbrev pub writes_nothing : ℕ → Journal → ℕ → ℕ → Journal → Type 0
+writes_nothing before journal time after left = left ≡ journal
+
+-- a bench of which nothing is asked
+abbrev pub becomes_any : Bench → Bench → Type 0
+becomes_any was is = ⊤

@@ -24,7 +24,7 @@ use Rattle.live_agent.specs.Settling.{SettlesAll}
 use Rattle.switchboard.specs.Steps.{AtPlace, OthersStay, Refuses}
 use Rattle.switchboard.specs.Taking.{taken_place, TakesOf}
 use Rattle.switchboard.specs.Tallying.{counted_if}
-use Rattle.live_agent.specs.Tallying.{looked_counted}
+use Rattle.live_agent.specs.Tallying.{looked_counted, OnlyCounts, OnlyNotes, OnlyRecords, OnlyTells}
 use Rattle.call_office.specs.Waiting.{Settles}
 use Rattle.live_agent.specs.Wiring.{heard_at, read_at}
 
@@ -37,6 +37,7 @@ pub record HearsOne {S : Type 0} (sends : S → SocketAddrV4 → List ℕ → Re
   pub heard : Switchboard
   pub told : Wire S
   pub hears : HearsText place text board was.journal.value heard told.journal.value
+  pub tells : OnlyTells was.journal.value told.journal.value
   pub leaves : told ≡ record was { journal = told.journal }
   pub settles : SettlesAll sends heard told now is
 
@@ -63,7 +64,7 @@ pub record TakesNext {S : Type 0} (sends : S → SocketAddrV4 → List ℕ → R
   pub rest : taken ≡ record board { stations = taken.stations; office = taken.office }
   pub counts : told.journal.value.tally ≡ counted_if found with_notification was.journal.value.tally
   pub leaves : told ≡ record was { journal = told.journal }
-  pub journal : told.journal.value ≡ record was.journal.value { tally = told.journal.value.tally; told = told.journal.value.told }
+  pub tells : OnlyTells was.journal.value told.journal.value
   pub settles : SettlesIf sends found taken told now is
 
 -- of so many lines, one behind another
@@ -123,12 +124,13 @@ HearsBy sends None source bytes board was now is =
     × (is.journal.value ≡ record was.journal.value { tally = with_stranger was.journal.value.tally })
 HearsBy sends (Some place) source bytes board was now is = HearsAt sends place source bytes board was now is
 
--- a datagram came from here: that counts; it is of the gateway at that address, or a stranger's
+-- a datagram came from here: that counts, and is recorded in the log and the capture; it is of the gateway at that address, or a stranger's
 pub record HearsDatagram {S : Type 0} (sends : S → SocketAddrV4 → List ℕ → Result ⊤ Fault → S → Type 0) (source : SocketAddrV4) (bytes : List ℕ)
     (board : Switchboard) (was : Wire S) (now : Switchboard) (is : Wire S)
     : Type 0 where
   pub came : Wire S
   pub counts : came.journal.value.tally ≡ with_received was.journal.value.tally
+  pub records : OnlyRecords was.journal.value came.journal.value
   pub leaves : came ≡ record was { journal = came.journal; load = came.load }
   pub load : is_some came.load ≡ is_some was.load
   pub hears : HearsBy sends (position (is_at source) board.gateways.items) source bytes board came now is
@@ -157,7 +159,8 @@ TakesReceived sends None source bytes board was now is = HearsDatagram sends sou
 TakesReceived {S} sends (Some network) source bytes board was now is =
     (found : Bool) × (offered : Wire S)
     × OffersTo In source bytes was.now.clock (Some network) offered.network was.journal.value.tally offered.journal.value.tally
-    × (offered ≡ record was { network = offered.network; journal = offered.journal }) × TakesOver sends found board offered now is
+    × OnlyNotes was.journal.value offered.journal.value × (offered ≡ record was { network = offered.network; journal = offered.journal })
+    × TakesOver sends found board offered now is
 
 abbrev pub TakesFound : {S : Type 0} → (S → SocketAddrV4 → List ℕ → Result ⊤ Fault → S → Type 0) → Option (SocketAddrV4 × ℕ) → List ℕ → Switchboard → Wire S → Switchboard → Wire S → Type 0
 TakesFound sends None room board was now is = (now ≡ board) × (is ≡ was)
@@ -172,6 +175,7 @@ pub record TakesLooked {S : Type 0} (sends : S → SocketAddrV4 → List ℕ →
   pub looked : Wire S
   pub looks : receives was.around outcome room looked.around
   pub counts : looked.journal.value.tally ≡ looked_counted outcome was.journal.value.tally
+  pub alone : OnlyCounts was.journal.value looked.journal.value
   pub reads : looked.read ≡ read_at outcome was.read
   pub leaves : looked ≡ record was { around = looked.around; read = looked.read; journal = looked.journal }
   pub takes : TakesFound sends (heard_at outcome) room board looked now is

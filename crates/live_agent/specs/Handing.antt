@@ -14,7 +14,7 @@ use Rattle.surroundings.specs.Sending.{Grows, Traffic}
 use Rattle.surroundings.specs.declared.surroundings.Fault.{Fault}
 use Rattle.live_agent.specs.declared.wire.TheConstants.{MOST_AT_ONCE}
 use Rattle.live_agent.specs.declared.wire.Wire.{Wire}
-use Rattle.live_agent.specs.Tallying.{leaving_counted, with_fate, with_refusal}
+use Rattle.live_agent.specs.Tallying.{leaving_counted, with_fate, with_refusal, OnlyNotes}
 
 -- What goes out
 
@@ -26,12 +26,13 @@ HandsTo sends traffic was to bytes outcome is =
     sends was to bytes outcome is × Grows (traffic was).sent (record { to = to; bytes = bytes } ∷ []) (traffic is).sent
     × ((traffic is).received ≡ (traffic was).received)
 
--- it is put onto the machine's network; one that doesn't leave counts, and nothing else of the wire has changed
+-- it is put onto the machine's network; one that doesn't leave counts, and is noted in the log: nothing else of the wire has changed
 pub record Leaves {S : Type 0} (sends : S → SocketAddrV4 → List ℕ → Result ⊤ Fault → S → Type 0) (to : SocketAddrV4) (bytes : List ℕ) (was is : Wire S)
     : Type 0 where
   pub outcome : Result ⊤ Fault
   pub handed : sends was.around to bytes outcome is.around
   pub counts : is.journal.value.tally ≡ leaving_counted outcome was.journal.value.tally
+  pub notes : OnlyNotes was.journal.value is.journal.value
   pub rest : is ≡ record was { around = is.around; journal = is.journal }
 
 -- What is offered to the network

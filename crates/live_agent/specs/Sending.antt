@@ -11,7 +11,7 @@ use Rattle.transmission.specs.declared.output.OutDatagram.{OutDatagram}
 use Rattle.switchboard.specs.declared.switchboard.Switchboard.{Switchboard}
 use Rattle.live_agent.specs.declared.wire.Wire.{Wire}
 use Rattle.live_agent.specs.Handing.{Leaves, OffersTo}
-use Rattle.live_agent.specs.Tallying.{with_command, with_refusal, CountsSent}
+use Rattle.live_agent.specs.Tallying.{with_command, with_refusal, CountsSent, OnlyCounts, OnlyNotes, OnlyRecords}
 
 -- Lines to which something has happened are settled: of a board that changes the gateways and the exchange alone. So does a tick.
 abbrev pub SettlesLines : Switchboard → Switchboard → Type 0
@@ -23,15 +23,16 @@ pub record SendsOver {S : Type 0} (was is : Wire S) : Type 0 where
   pub rest : is ≡ record was { around = is.around; network = is.network; journal = is.journal; load = is.load }
   pub load : is_some is.load ≡ is_some was.load
 
--- where no network spoils it a datagram is put onto the machine's; else it is offered to that
+-- where no network spoils it a datagram is put onto the machine's; else it is offered to that, and what becomes of it is noted in the log
 abbrev pub GoesOut : {S : Type 0} → (S → SocketAddrV4 → List ℕ → Result ⊤ Fault → S → Type 0) → SocketAddrV4 → List ℕ → Option BadNetwork
     → Wire S → Wire S → Type 0
 GoesOut sends to bytes None was is = Leaves sends to bytes was is
 GoesOut sends to bytes (Some network) was is =
     OffersTo Out to bytes was.now.clock (Some network) is.network was.journal.value.tally is.journal.value.tally
-    × (is ≡ record was { network = is.network; journal = is.journal })
+    × OnlyNotes was.journal.value is.journal.value × (is ≡ record was { network = is.network; journal = is.journal })
 
--- a datagram is sent to there, again or for the first time: it counts once, at a load too, and goes out
+-- a datagram is sent to there, again or for the first time: it counts once, at a load too, is recorded in the log and the capture, and goes
+-- out
 pub record SendsOne {S : Type 0} (sends : S → SocketAddrV4 → List ℕ → Result ⊤ Fault → S → Type 0) (is_repeat : Bool) (to : SocketAddrV4) (bytes : List ℕ)
     (was is : Wire S)
     : Type 0 where
@@ -39,6 +40,7 @@ pub record SendsOne {S : Type 0} (sends : S → SocketAddrV4 → List ℕ → Re
   pub counts : CountsSent is_repeat was.network was.journal.value.tally is.journal.value.tally
   pub noted : Wire S
   pub notes : noted.journal.value.tally ≡ with_handed_out is_repeat was.journal.value.tally
+  pub records : OnlyRecords was.journal.value noted.journal.value
   pub rest : noted ≡ record was { journal = noted.journal; load = noted.load }
   pub goes : GoesOut sends to bytes was.network noted is
 
@@ -56,10 +58,11 @@ SendsOutputs sends is_repeat (Err refusal) went_on was is =
     (went_on ≡ false) × (is ≡ record was { journal = is.journal })
     × (is.journal.value ≡ record was.journal.value { tally = with_refusal was.journal.value.tally })
 
--- a command was issued: that counts, and what it is goes out for the first time
+-- a command was issued: that counts, and nothing is told of it; and what it is goes out for the first time
 pub record SendsCommand {S : Type 0} (sends : S → SocketAddrV4 → List ℕ → Result ⊤ Fault → S → Type 0) (datagram : OutDatagram) (was is : Wire S)
     : Type 0 where
   pub counted : Wire S
   pub counts : counted.journal.value.tally ≡ with_command was.journal.value.tally
+  pub alone : OnlyCounts was.journal.value counted.journal.value
   pub rest : counted ≡ record was { journal = counted.journal }
   pub goes : SendsOne sends false datagram.to datagram.bytes counted is

@@ -2,6 +2,8 @@
 use Rattle.std.specs.Prelude.{◌≡◌, ◌⊎◌, ⊤, ℕ, zero, suc, ◌-◌, ◌^◌, true, false, List, Option, Result, Ok, Err}
 use Rattle.std.specs.declared.net.socket_addr.SocketAddr.{SocketAddr}
 use Rattle.std.specs.declared.net.socket_addr.SocketAddrV4.{SocketAddrV4}
+use Rattle.agent_texts.specs.declared.journal.Journal.{Journal}
+use Rattle.surroundings.specs.Sending.{Traffic}
 use Rattle.surroundings.specs.declared.surroundings.Fault.{Fault}
 use Rattle.surroundings.specs.declared.surroundings.Told.{Told}
 use Rattle.switchboard.specs.declared.switchboard.Switchboard.{Switchboard}
@@ -11,23 +13,26 @@ use Rattle.live_agent.specs.declared.wire.Wire.{Wire}
 use Rattle.live_agent.specs.Turning.{DoesNext}
 use Rattle.live_agent.specs.Wiring.{AsksNext}
 
--- what was recorded is written, and whether some of it waits to be taken is known by that; what was counted stays
-abbrev pub Writes : {S : Type 0} → Wire S → Wire S → Type 0
-Writes was is =
-    (is.journal.value.tally ≡ was.journal.value.tally) × (is ≡ record was { journal = is.journal; is_offering = is.is_offering })
+-- What was recorded is written once, by whoever does that; whether some of it waits to be taken is known by that. What was counted stays.
+pub record Writes {S W : Type 0} (writes : W → Journal → ℕ → W → Journal → Type 0) (was is : Wire S) : Type 0 where
+  pub before : W
+  pub after : W
+  pub wrote : writes before was.journal.value was.now.time after is.journal.value
+  pub counts : is.journal.value.tally ≡ was.journal.value.tally
+  pub rest : is ≡ record was { journal = is.journal; is_offering = is.is_offering }
 
 -- what comes next by a schedule has its turn; then what was recorded is written
-pub record TurnsOnce {S : Type 0}
-    (sockets : S → List SocketAddrV4) (sends : S → SocketAddrV4 → List ℕ → Result ⊤ Fault → S → Type 0)
+pub record TurnsOnce {S W : Type 0}
+    (traffic : S → Traffic) (sockets : S → List SocketAddrV4) (sends : S → SocketAddrV4 → List ℕ → Result ⊤ Fault → S → Type 0)
     (passes : S → Result ℕ Fault → Type 0) (tells : S → Told → Type 0)
     (receives : S → Result (Option (SocketAddrV4 × ℕ)) Fault → List ℕ → S → Type 0)
     (hears : S → Option (SocketAddr × ℕ) → List ℕ → S → Type 0) (answers : S → SocketAddr → List ℕ → S → Type 0)
-    (board : Switchboard) (was : Wire S) (schedule : Schedule) (now : Switchboard) (is : Wire S) (next : Schedule)
+    (writes : W → Journal → ℕ → W → Journal → Type 0) (board : Switchboard) (was : Wire S) (schedule : Schedule) (now : Switchboard) (is : Wire S) (next : Schedule)
     : Type 0 where
   pub done : Wire S
   pub asks : AsksNext passes tells board was schedule true next
-  pub does : DoesNext sockets sends passes tells receives hears answers board now was done schedule
-  pub writes : Writes done is
+  pub does : DoesNext traffic sockets sends passes tells receives hears answers board now was done schedule next
+  pub written : Writes writes done is
 
 -- so many turns, one behind another
 abbrev pub RunsTurns :

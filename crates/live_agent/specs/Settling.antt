@@ -36,7 +36,8 @@ abbrev pub SendsIssued : {S : Type 0} → (S → SocketAddrV4 → List ℕ → R
 SendsIssued sends (Ok None) was is = is ≡ was
 SendsIssued sends (Ok (Some issued)) was is = SendsCommand sends issued.datagram was is
 SendsIssued sends (Err fault) was is =
-    (is ≡ record was { journal = is.journal }) × (is.journal.value.tally ≡ with_refusal was.journal.value.tally)
+    (is ≡ record was { journal = is.journal })
+    × (is.journal.value ≡ record was.journal.value { tally = with_refusal was.journal.value.tally })
 
 -- the line that is settled so many behind the first is sent what it is to be sent, or it isn't, for the reason of its agent
 pub record SendsNext {S : Type 0} (sends : S → SocketAddrV4 → List ℕ → Result ⊤ Fault → S → Type 0) (index : ℕ) (board : Switchboard) (was : Wire S)

@@ -1,6 +1,7 @@
 -- What counts of what goes over a wire.
 use Rattle.std.specs.Prelude.{◌≡◌, ◌⊎◌, ⊤, ℕ, ◌==◌, Bool, if◌then◌else◌, Option, Some, None, Result, Ok, Err}
 use Rattle.std.specs.declared.net.socket_addr.SocketAddrV4.{SocketAddrV4}
+use Rattle.agent_texts.specs.declared.journal.Journal.{Journal}
 use Rattle.agent_texts.specs.declared.tally.Tally.{Tally}
 use Rattle.agent_texts.specs.Counts.{one_more, with_handed_out}
 use Rattle.bad_network.specs.declared.fate.Fate.{Fate}
@@ -53,3 +54,25 @@ CountsSent is_repeat (Some network) was is = CountsOffer (Some network) (with_ha
 abbrev pub looked_counted : Result (Option (SocketAddrV4 × ℕ)) Fault → Tally → Tally
 looked_counted (Ok found) tally = tally
 looked_counted (Err fault) tally = with_receive_fault tally
+
+-- What changes of a journal beside what counts
+
+-- nothing
+abbrev pub OnlyCounts : Journal → Journal → Type 0
+OnlyCounts was is = is ≡ record was { tally = is.tally }
+
+-- what is noted in the log
+abbrev pub OnlyNotes : Journal → Journal → Type 0
+OnlyNotes was is = is ≡ record was { tally = is.tally; log = is.log }
+
+-- and what is captured
+abbrev pub OnlyRecords : Journal → Journal → Type 0
+OnlyRecords was is = is ≡ record was { tally = is.tally; log = is.log; capture = is.capture }
+
+-- what is told
+abbrev pub OnlyTells : Journal → Journal → Type 0
+OnlyTells was is = is ≡ record was { tally = is.tally; told = is.told }
+
+-- and what is noted in the log
+abbrev pub OnlyTellsAndNotes : Journal → Journal → Type 0
+OnlyTellsAndNotes was is = is ≡ record was { tally = is.tally; told = is.told; log = is.log }

@@ -19,6 +19,7 @@ use Rattle.live_agent.specs.declared.wire.TheConstants.{MOST_AT_ONCE}
 use Rattle.live_agent.specs.declared.wire.Wire.{Wire}
 use Rattle.live_agent.specs.Clock.{is_behind}
 use Rattle.live_agent.specs.Sending.{SendsOutputs}
+use Rattle.live_agent.specs.Tallying.{OnlyTellsAndNotes}
 use Rattle.live_agent.specs.Settling.{SettlesAll}
 
 -- The clocks of agents
@@ -51,11 +52,12 @@ TicksEach {S} sends to (suc place) board was now is =
 
 -- What is given up
 
--- the next command to the gateway at this place that is given up by now is so, and counts, if there is one
+-- the next command to the gateway at this place that is given up by now is so, and counts, and that is told and noted, if there is one
 pub record GivesUpNext {S : Type 0} (found : Bool) (place : ℕ) (board : Switchboard) (was : Wire S) (now : Switchboard) (is : Wire S) : Type 0 where
   pub is_found : found ≡ is_some (ended_in None (slice_get board.gateways.items place))
   pub gives_up : GivesUp place board now
   pub counts : is.journal.value.tally ≡ counted_if found with_given_up was.journal.value.tally
+  pub tells : OnlyTellsAndNotes was.journal.value is.journal.value
   pub rest : is ≡ record was { journal = is.journal }
 
 -- so many are, one behind another; behind each lines are settled

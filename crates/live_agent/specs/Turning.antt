@@ -1,5 +1,5 @@
 -- What a turn does at a board and over a wire: of what is typed, and of a datagram; of the other turns what stays as it was.
-use Rattle.std.specs.Prelude.{◌≡◌, ◌⊎◌, ◌↔◌, ⊤, ℕ, Bool, if◌then◌else◌, codes, List, [], ◌∷◌, Option, Some, None, is_some, Result, IsTrue, IsSomeAnd}
+use Rattle.std.specs.Prelude.{◌≡◌, ◌⊎◌, ◌↔◌, ⊤, ℕ, Bool, false, if◌then◌else◌, codes, List, [], ◌∷◌, Option, Some, None, is_some, Result, IsTrue, IsSomeAnd}
 use Rattle.std.specs.Global.{Box}
 use Rattle.std.specs.Net.Addr.{IsLoopbackV4, IsLoopbackV6, MatchIp}
 use Rattle.std.specs.Net.Socket.{socket_ip}
@@ -9,10 +9,12 @@ use Rattle.std.specs.declared.net.socket_addr.SocketAddrV4.{SocketAddrV4}
 use Rattle.mg_bytes.specs.Lines.{line_of}
 use Rattle.surroundings.specs.Hearing.{AnswersTo, Hears}
 use Rattle.surroundings.specs.Requests.{requests_from}
+use Rattle.surroundings.specs.Sending.{Traffic}
 use Rattle.surroundings.specs.Typing.{left_of, behind}
 use Rattle.surroundings.specs.declared.lines.Lines.{Lines}
 use Rattle.surroundings.specs.declared.surroundings.Fault.{Fault}
 use Rattle.surroundings.specs.declared.surroundings.Told.{Told}
+use Rattle.turns.specs.Runs.{is_end}
 use Rattle.turns.specs.Schedule.{next_of}
 use Rattle.turns.specs.declared.schedule.Schedule.{Schedule}
 use Rattle.turns.specs.declared.situation.Situation.{Situation}
@@ -106,10 +108,11 @@ TakesTyped sockets sends hears answers moment (Some load) board now was is = (no
 TakesTyped {S} sockets sends hears answers moment None board now was is =
     (heard : Wire S) × HearsTyped sockets hears was heard × AnswersFirst sends answers board now heard is
 
--- a wait changes what is around a wire; that it failed counts, and nothing else of the journal has changed
-abbrev pub Waits : {S : Type 0} → Wire S → Wire S → Type 0
-Waits was is =
-    ((is.journal.value.tally ≡ was.journal.value.tally) ⊎ (is.journal.value.tally ≡ with_receive_fault was.journal.value.tally))
+-- A wait changes what is around a wire, but nothing goes over that by it. That it failed counts, and nothing else of the journal has changed.
+abbrev pub Waits : {S : Type 0} → (S → Traffic) → Wire S → Wire S → Type 0
+Waits traffic was is =
+    (traffic is.around ≡ traffic was.around)
+    × ((is.journal.value.tally ≡ was.journal.value.tally) ⊎ (is.journal.value.tally ≡ with_receive_fault was.journal.value.tally))
     × (is.journal.value ≡ record was.journal.value { tally = is.journal.value.tally })
     × (is ≡ record was { around = is.around; journal = is.journal })
 
@@ -161,33 +164,35 @@ pub record DoesTick {S : Type 0} (sends : S → SocketAddrV4 → List ℕ → Re
 
 -- What a turn of a kind does, where it is this moment: a tick, a command that was typed and a datagram alone change the board.
 abbrev pub DoesTurn :
-    {S : Type 0} → (S → List SocketAddrV4) → (S → SocketAddrV4 → List ℕ → Result ⊤ Fault → S → Type 0)
+    {S : Type 0} → (S → Traffic) → (S → List SocketAddrV4) → (S → SocketAddrV4 → List ℕ → Result ⊤ Fault → S → Type 0)
     → (S → Result (Option (SocketAddrV4 × ℕ)) Fault → List ℕ → S → Type 0)
     → (S → Option (SocketAddr × ℕ) → List ℕ → S → Type 0)
     → (S → SocketAddr → List ℕ → S → Type 0) → ℕ → Turn → Switchboard → Switchboard → Wire S → Wire S → Type 0
-DoesTurn sockets sends receives hears answers moment turns.End board now was is = (now ≡ board) × (is ≡ was)
-DoesTurn sockets sends receives hears answers moment turns.Look board now was is = (now ≡ board) × Waits was is
-DoesTurn sockets sends receives hears answers moment (turns.Wait until) board now was is = (now ≡ board) × Waits was is
-DoesTurn sockets sends receives hears answers moment (turns.Tick to) board now was is = DoesTick sends answers moment to board now was is
-DoesTurn sockets sends receives hears answers moment turns.Command board now was is =
+DoesTurn traffic sockets sends receives hears answers moment turns.End board now was is = (now ≡ board) × (is ≡ was)
+DoesTurn traffic sockets sends receives hears answers moment turns.Look board now was is = (now ≡ board) × Waits traffic was is
+DoesTurn traffic sockets sends receives hears answers moment (turns.Wait until) board now was is = (now ≡ board) × Waits traffic was is
+DoesTurn traffic sockets sends receives hears answers moment (turns.Tick to) board now was is = DoesTick sends answers moment to board now was is
+DoesTurn traffic sockets sends receives hears answers moment turns.Command board now was is =
     TakesTyped sockets sends hears answers moment was.load board now was is
-DoesTurn sockets sends receives hears answers moment turns.Datagram board now was is = TakesDatagram sends receives board was now is
-DoesTurn sockets sends receives hears answers moment turns.Visit board now was is = (now ≡ board) × (is ≡ was)
-DoesTurn sockets sends receives hears answers moment (turns.Note pause) board now was is = (now ≡ board) × Notes was is
+DoesTurn traffic sockets sends receives hears answers moment turns.Datagram board now was is = TakesDatagram sends receives board was now is
+DoesTurn traffic sockets sends receives hears answers moment turns.Visit board now was is = (now ≡ board) × (is ≡ was)
+DoesTurn traffic sockets sends receives hears answers moment (turns.Note pause) board now was is = (now ≡ board) × Notes was is
 
--- what comes next by a schedule, as things stand, is done, once lines are settled
+-- What comes next by a schedule, as things stand, is done, once lines are settled; it isn't the end. The schedule goes on by that.
 pub record DoesNext {S : Type 0}
-    (sockets : S → List SocketAddrV4) (sends : S → SocketAddrV4 → List ℕ → Result ⊤ Fault → S → Type 0)
+    (traffic : S → Traffic) (sockets : S → List SocketAddrV4) (sends : S → SocketAddrV4 → List ℕ → Result ⊤ Fault → S → Type 0)
     (passes : S → Result ℕ Fault → Type 0) (tells : S → Told → Type 0)
     (receives : S → Result (Option (SocketAddrV4 × ℕ)) Fault → List ℕ → S → Type 0)
     (hears : S → Option (SocketAddr × ℕ) → List ℕ → S → Type 0) (answers : S → SocketAddr → List ℕ → S → Type 0)
-    (board now : Switchboard) (was is : Wire S) (schedule : Schedule)
+    (board now : Switchboard) (was is : Wire S) (schedule next : Schedule)
     : Type 0 where
   pub at : Situation
   pub settled : Switchboard
   pub begun : Wire S
   pub sent : Wire S
   pub situation : IsSituation passes tells board was at
+  pub goes_on : is_end (next_of schedule at).0 ≡ false
+  pub behind : next ≡ (next_of schedule at).1
   pub begins : begun ≡ record was { now = record was.now { time = begun.now.time }; is_behind = is_behind at.moment at.ticked }
   pub settles : SettlesAll sends board begun settled sent
-  pub does : DoesTurn sockets sends receives hears answers at.moment (next_of schedule at).0 settled now sent is
+  pub does : DoesTurn traffic sockets sends receives hears answers at.moment (next_of schedule at).0 settled now sent is

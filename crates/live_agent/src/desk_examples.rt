@@ -1,7 +1,7 @@
 //! Worked examples of what a desk waits for, of what its turns leave, and of how it ends, as theorems.
 #![tactic(auto)]
 
-ghost use Rattle.std.specs.Prelude.{◌≡◌, [], ◌∷◌, ℕ, true, false, List, Option, Some, None, Ok, Err, codes};
+ghost use Rattle.std.specs.Prelude.{◌≡◌, ⊤, [], ◌∷◌, ℕ, Bool, true, false, List, Option, Some, None, Ok, Err, codes};
 ghost use Rattle.std.specs.declared.net.socket_addr.SocketAddrV4.{SocketAddrV4};
 ghost use Rattle.std.specs.Global.{Box};
 ghost use Rattle.std.specs.Result.{result_err};
@@ -18,6 +18,13 @@ ghost use Rattle.call_agent.specs.declared.issuing.Issued.{Issued};
 ghost use Rattle.call_agent.specs.declared.issuing.IssueFault.{IssueFault};
 ghost use Rattle.gateway_rules.specs.declared.refusal.Refusal.{Refusal};
 ghost use Rattle.load_bench.specs.Due.{bench_due};
+ghost use Rattle.load_bench.specs.Over.{bench_over};
+ghost use Rattle.load_bench.specs.declared.bench.Bench.{Bench};
+ghost use Rattle.load_bench.specs.declared.bench.Course.{Course};
+ghost use Rattle.load_bench.specs.declared.said.Order.TheVariants as orders;
+ghost use Rattle.load_bench.specs.declared.said.Said.{Said};
+ghost use Rattle.load_bench.specs.declared.settings.LoadFault.TheVariants as faults;
+ghost use Rattle.surroundings.specs.Sending.{Traffic};
 ghost use Rattle.surroundings.specs.declared.surroundings.Fault.{Fault};
 ghost use Rattle.transmission.specs.declared.output.OutDatagram.{OutDatagram};
 ghost use Rattle.turns.specs.declared.schedule.Schedule.{Schedule};
@@ -28,7 +35,7 @@ ghost use Rattle.live_agent.specs.declared.loading.Load.{Load};
 ghost use Rattle.live_agent.specs.declared.session.Request.TheVariants as requests;
 ghost use Rattle.switchboard.specs.declared.switchboard.Switchboard.{Switchboard};
 ghost use Rattle.live_agent.specs.declared.wire.Wire.{Wire};
-ghost use Rattle.live_agent.specs.AnyAround.{no_sockets, sends_any, receives_any, hears_any, answers_any};
+ghost use Rattle.live_agent.specs.AnyAround.{no_sockets, no_traffic, sends_any, receives_any, hears_any, answers_any, answers_more, answers_never, asks_at, asks_in_order, becomes_any, writes_any, writes_nothing};
 ghost use Rattle.live_agent.specs.Datagrams.{with_stranger, DealsIf, HearsBy, HearsDatagram, HearsOne, HearsPacket, HearsTexts, SettlesIf, StepsAt, TakesEach, TakesElse, TakesFound, TakesLooked, TakesNext, TakesReceived};
 ghost use Rattle.switchboard.specs.Hearing.{HearsText};
 ghost use Rattle.switchboard.specs.Dues.{FallsDueAt};
@@ -39,13 +46,14 @@ ghost use Rattle.live_agent.specs.Handing.{comes_in, HandsFirst, HandsLast, Leav
 ghost use Rattle.live_agent.specs.Sending.{GoesOut, SendsAll, SendsCommand, SendsOne, SendsOutputs, SendsOver, SettlesLines};
 ghost use Rattle.live_agent.specs.Serving.{RunsTurns, StopsAt, Writes};
 ghost use Rattle.live_agent.specs.Settling.{SendsEach, SendsIssued, SendsNext, SettlesBy, ShowsEach, ShowsOne};
-ghost use Rattle.live_agent.specs.Tallying.{leaving_counted, with_refusal, with_send_fault};
+ghost use Rattle.live_agent.specs.Tallying.{leaving_counted, with_refusal, with_send_fault, OnlyCounts, OnlyNotes, OnlyRecords, OnlyTells, OnlyTellsAndNotes};
+ghost use Rattle.live_agent.specs.Telephones.{course_behind, end_of, load_over, HearsTelephones, OfLoad, Passes, PassesLoad, SaysAll, SaysEach, SaysHeard, SaysOne};
 ghost use Rattle.live_agent.specs.Ticking.{GivesUpEach, GivesUpMany, GivesUpNext, TicksEach, TicksOne, WakesEach, WakesMany};
-ghost use Rattle.live_agent.specs.Turning.{end_of, line_request, first_request, DoesRequest, DoesTurn, EndsBy, HearsTelephones, Notes, PassesLoad, TakesTyped, TellsCounts, TicksOver, Waits};
+ghost use Rattle.live_agent.specs.Turning.{line_request, first_request, DoesRequest, DoesTurn, EndsBy, Notes, TakesTyped, TellsCounts, TicksOver, Waits};
 ghost use Rattle.switchboard.specs.Typed.{typed_text};
 ghost use Rattle.switchboard.specs.TypedCommands.{IssuesCommand, IssuesMeant, IssuesThere};
 ghost use Rattle.live_agent.specs.TypedCommands.{fault_text, issued_text, TellsIssued, AnswersAll, AnswersIssued, IsTypedNext};
-ghost use Rattle.live_agent.specs.Wiring.{longest_until, FallsDueFirst, FallsDueOver, IsWaitedFor};
+ghost use Rattle.live_agent.specs.Wiring.{longest_until, one_more, FallsDueFirst, FallsDueOver, IsWaitedFor};
 
 use live_ends::CommonEnding;
 use switchboard::TypedFault;
@@ -101,29 +109,32 @@ pub fn what_is_typed_has_examples()
 /// What turns leave of the board.
 pub fn what_turns_leave_has_examples()
     ensures looks { (board now : Switchboard) (was is : Wire ℕ) →
-        DoesTurn no_sockets sends_any receives_any hears_any answers_any 700 Turn.Look board now was is → (now ≡ board) × (is.lines ≡ was.lines) }
+        DoesTurn no_traffic no_sockets sends_any receives_any hears_any answers_any 700 Turn.Look board now was is → (now ≡ board) × (is.lines ≡ was.lines) }
     ensures waits { (board now : Switchboard) (was is : Wire ℕ) →
-        DoesTurn no_sockets sends_any receives_any hears_any answers_any 700 (Turn.Wait 700) board now was is → (now ≡ board) × (is.end ≡ was.end) }
+        DoesTurn no_traffic no_sockets sends_any receives_any hears_any answers_any 700 (Turn.Wait 700) board now was is → (now ≡ board) × (is.end ≡ was.end) }
     ensures notes { (pause : _) (board now : Switchboard) (was is : Wire ℕ) →
-        DoesTurn no_sockets sends_any receives_any hears_any answers_any 700 (Turn.Note pause) board now was is → (now ≡ board) × (is.around ≡ was.around) }
+        DoesTurn no_traffic no_sockets sends_any receives_any hears_any answers_any 700 (Turn.Note pause) board now was is → (now ≡ board) × (is.around ≡ was.around) }
     ensures ticks { (board now : Switchboard) (was is : Wire ℕ) →
-        DoesTurn no_sockets sends_any receives_any hears_any answers_any 700 (Turn.Tick 700) board now was is → now.notifying ≡ board.notifying }
+        DoesTurn no_traffic no_sockets sends_any receives_any hears_any answers_any 700 (Turn.Tick 700) board now was is → now.notifying ≡ board.notifying }
     ensures visits { (board now : Switchboard) (was is : Wire ℕ) →
-        DoesTurn no_sockets sends_any receives_any hears_any answers_any 700 Turn.Visit board now was is → (now ≡ board) × (is ≡ was) }
+        DoesTurn no_traffic no_sockets sends_any receives_any hears_any answers_any 700 Turn.Visit board now was is → (now ≡ board) × (is ≡ was) }
     ensures ends { (board now : Switchboard) (was is : Wire ℕ) →
-        DoesTurn no_sockets sends_any receives_any hears_any answers_any 700 Turn.End board now was is → (now ≡ board) × (is ≡ was) }
+        DoesTurn no_traffic no_sockets sends_any receives_any hears_any answers_any 700 Turn.End board now was is → (now ≡ board) × (is ≡ was) }
     ensures load { (load : Box Load) (board now : Switchboard) (was is : Wire ℕ) →
-        TakesTyped no_sockets sends_any hears_any answers_any (Some load) board now was is → (now ≡ board) × HearsTelephones was is }
-    ensures telephones { (was is : Wire ℕ) → HearsTelephones was is → (is.lines ≡ was.lines) × (is.network ≡ was.network) × (is.journal ≡ was.journal) }
+        TakesTyped no_sockets sends_any hears_any answers_any 700 (Some load) board now was is →
+        (now ≡ board) × HearsTelephones hears_any answers_any 700 was is }
+    ensures telephones { (was is : Wire ℕ) → HearsTelephones hears_any answers_any 700 was is →
+        (is.lines ≡ was.lines) × (is.network ≡ was.network) × (is.journal ≡ was.journal) }
     ensures over { end_of true None ≡ Some 0 }
     ensures not_over { end_of false (Some 900) ≡ Some 900 }
-    // A wait that fails counts once; a pause is noted in the log alone.
-    ensures fails { (was is : Wire ℕ) → Waits was is → is.journal.value.told ≡ was.journal.value.told }
+    // A wait sends nothing, and one that fails counts once; a pause is noted in the log alone.
+    ensures quiet { (traffic : ℕ → Traffic) (was is : Wire ℕ) → Waits traffic was is → traffic is.around ≡ traffic was.around }
+    ensures fails { (was is : Wire ℕ) → Waits no_traffic was is → is.journal.value.told ≡ was.journal.value.told }
     ensures pauses { (was is : Wire ℕ) → Notes was is → is.journal.value.tally ≡ was.journal.value.tally }
     // Where no load is made, nothing comes to its end by a tick; where one is, its end is at once.
     ensures none_is_over { (is : Option ℕ) → EndsBy None (Some 900) is → is ≡ Some 900 }
-    ensures passes_none { (was is : Wire ℕ) → PassesLoad None was is → is ≡ was }
-    ensures passes { (load : Box Load) (was is : Wire ℕ) → PassesLoad (Some load) was is → is.lines ≡ was.lines }
+    ensures passes_none { (was is : Wire ℕ) → PassesLoad answers_any 700 None was is → is ≡ was }
+    ensures passes { (load : Box Load) (was is : Wire ℕ) → PassesLoad answers_any 700 (Some load) was is → is.lines ≡ was.lines }
     ensures settles { (board now : Switchboard) → SettlesLines board now →
         (now.stations ≡ board.stations) × (now.notifying ≡ board.notifying) }
 {}
@@ -141,6 +152,8 @@ pub fn what_a_datagram_does_has_examples()
     ensures text { (board now : Switchboard) (was is : Wire ℕ) → HearsOne sends_any 0 [] board was now is →
         (heard : Switchboard) × (told : _) × HearsText 0 [] board was.journal.value heard told }
     // Its agent takes it, or refuses it: nothing else of the board changes, nor of the wire.
+    ensures nobody_steps { (source : SocketAddrV4) (outputs : _) (board now : Switchboard) → board.gateways.items ≡ [] →
+        StepsAt 0 source [] outputs board now → outputs ≡ Ok [] }
     ensures steps { (source : SocketAddrV4) (outputs : _) (board now : Switchboard) → StepsAt 0 source [] outputs board now → now.office ≡ board.office }
     // Where its agent refused it, no text is heard, and nothing is taken.
     ensures refused { (board now : Switchboard) (was is : Wire ℕ) → DealsIf sends_any false 0 [] board was now is → (now ≡ board) × (is ≡ was) }
@@ -200,6 +213,56 @@ pub fn what_a_network_hands_over_has_examples()
     ensures handed { (to : SocketAddrV4) (was is : Wire ℕ) → Leaves (λ before peer bytes outcome after. peer ≡ to) to [] was is → is.network ≡ was.network }
 {}
 
+/// What changes of a journal beside what counts.
+pub fn what_is_recorded_has_examples()
+    ensures counts { (was is : Journal) → OnlyCounts was is →
+        (is.told ≡ was.told) × (is.log ≡ was.log) × (is.capture ≡ was.capture) × (is.written ≡ was.written) }
+    ensures notes { (was is : Journal) → OnlyNotes was is → (is.told ≡ was.told) × (is.capture ≡ was.capture) × (is.written ≡ was.written) }
+    ensures records { (was is : Journal) → OnlyRecords was is → (is.told ≡ was.told) × (is.here ≡ was.here) × (is.written ≡ was.written) }
+    ensures tells { (was is : Journal) → OnlyTells was is → (is.log ≡ was.log) × (is.capture ≡ was.capture) × (is.written ≡ was.written) }
+    ensures tells_and_notes { (was is : Journal) → OnlyTellsAndNotes was is → (is.capture ≡ was.capture) × (is.written ≡ was.written) }
+    // So it is of what comes, of what is sent, and of what is given up.
+    ensures came { (source : SocketAddrV4) (board now : Switchboard) (was is : Wire ℕ) (hears : HearsDatagram sends_any source [] board was now is) →
+        hears.came.journal.value.told ≡ was.journal.value.told }
+    ensures sent { (to : SocketAddrV4) (was is : Wire ℕ) (sends : SendsOne sends_any true to [] was is) →
+        sends.noted.journal.value.told ≡ was.journal.value.told }
+    ensures command { (datagram : OutDatagram) (was is : Wire ℕ) (sends : SendsCommand sends_any datagram was is) →
+        sends.counted.journal.value.log ≡ was.journal.value.log }
+    ensures given_up { (board now : Switchboard) (was is : Wire ℕ) → GivesUpNext true 0 board was now is →
+        is.journal.value.capture ≡ was.journal.value.capture }
+{}
+
+/// What a load makes of time, and of what its telephones say.
+pub fn what_telephones_are_told_has_examples()
+    // A line is said to the telephones for which it is; none where memory was refused for it.
+    ensures line { (to : SocketAddrV4) (was is : ℕ) → SaysOne (asks_at to) (record { to = to; order = orders.Watch }) true was is }
+    ensures not_said { (said : Said) (was is : ℕ) → SaysOne answers_any said false was is → is ≡ was }
+    // They are said in their order, each once. Where memory was refused for one the others are said.
+    ensures none { (was is : ℕ) (all : Bool) → SaysEach answers_any [] all was is → (all ≡ true) × (is ≡ was) }
+    ensures two { (to : SocketAddrV4) → SaysEach asks_in_order
+        (record { to = to; order = orders.Watch } ∷ record { to = to; order = orders.Show } ∷ []) true 0 2 }
+    ensures one_alone { (one two : Said) → SaysEach answers_more (one ∷ two ∷ []) false 0 1 }
+    ensures not_all { (said : Said) → SaysEach answers_never (said ∷ []) true 0 0 → ⊥ }
+    // What was said waits no longer, and nothing else changes by that; but where memory was refused the load is given up.
+    ensures waits_no_longer { (before after : ℕ) (was is : Bench) → SaysAll answers_any before was after is → is.said.items ≡ [] }
+    ensures tally { (before after : ℕ) (was is : Bench) → SaysAll answers_any before was after is → is.tally ≡ was.tally }
+    ensures given_up { (course : Course) → course.fault ≡ None → (course_behind false course).fault ≡ Some faults.OutOfMemory }
+    ensures goes_on { (course : Course) → course_behind true course ≡ course }
+    // It is over as its bench says, and then the end has come. Time and telephones unmake no load.
+    ensures over { (load : Box Load) → bench_over 700 load.value.bench.value ≡ true → end_of (load_over 700 (Some load)) (Some 900) ≡ Some 0 }
+    ensures not_over { (load : Box Load) → bench_over 700 load.value.bench.value ≡ false → end_of (load_over 700 (Some load)) (Some 900) ≡ Some 900 }
+    ensures none_made { load_over 700 None ≡ false }
+    ensures passes_on { (was is : Wire ℕ) → Passes answers_any 700 was is → is.end ≡ end_of (load_over 700 is.load) was.end }
+    ensures logs { (was is : Wire ℕ) → Passes answers_any 700 was is →
+        (is.journal.value.tally ≡ was.journal.value.tally) × (is.journal.value.told ≡ was.journal.value.told) }
+    ensures unmade { (load : Box Load) → OfLoad becomes_any (Some load) None → ⊥ }
+    ensures not_there { (load : Box Load) → OfLoad becomes_any None (Some load) → ⊥ }
+    // Where they said nothing, nothing is said to them; what they say counts as read.
+    ensures nothing { (before after : ℕ) (was is : Bench) → SaysHeard answers_any None before after was is → (after ≡ before) × (is ≡ was) }
+    ensures reads { (was is : Wire ℕ) (hears : HearsTelephones hears_any answers_any 700 was is) → hears.taken ≡ true → is.read ≡ one_more was.read }
+    ensures ends { (was is : Wire ℕ) → HearsTelephones hears_any answers_any 700 was is → is.end ≡ end_of (load_over 700 is.load) was.end }
+{}
+
 /// What is sent, and how lines are settled.
 pub fn what_is_sent_has_examples()
     // A datagram goes to whom it is for, as it is; again or for the first time.
@@ -236,7 +299,9 @@ pub fn what_a_tick_does_has_examples()
     ensures no_agent { (board now : Switchboard) (was is : Wire ℕ) → TicksEach sends_any 700 0 board was now is → (now ≡ board) × (is ≡ was) }
     ensures again { (board now : Switchboard) (was is : Wire ℕ) (ticks : TicksOne sends_any 700 0 board was now is) →
         SendsOutputs sends_any true ticks.outputs ticks.went_on was is }
-    // A clock that may go on does, where nothing falls due by then.
+    // Where there is no gateway none says anything; a clock that may go on does, where nothing falls due by then.
+    ensures nobody_ticks { (board now : Switchboard) (was is : Wire ℕ) (ticks : TicksOne sends_any 700 0 board was now is) →
+        board.gateways.items ≡ [] → ticks.outputs ≡ Ok [] }
     ensures goes_on { (gateway after : Gateway) (events : List AgentEvent) (board now : Switchboard) (was is : Wire ℕ)
         (ticks : TicksOne sends_any 700 0 board was now is) → board.gateways.items ≡ gateway ∷ [] → now.gateways.items ≡ after ∷ [] →
         gateway.ticked ≡ 500 → AgentStands gateway.agent.value events → HasAgent 500 [] gateway → result_err ticks.outputs ≡ None }
@@ -257,7 +322,9 @@ pub fn how_a_desk_serves_has_examples()
     ensures one_turn { (board now : Switchboard) (was is : Wire ℕ) (schedule next : Schedule) →
         RunsTurns (λ b w s n i t. t ≡ schedule) 1 board was schedule now is next → next ≡ schedule }
     // What was recorded is written behind each: that counts nothing, and leaves what was typed.
-    ensures writes { (was is : Wire ℕ) → Writes was is → (is.journal.value.tally ≡ was.journal.value.tally) × (is.lines ≡ was.lines) }
+    ensures writes { (was is : Wire ℕ) → Writes writes_any was is →
+        (is.journal.value.tally ≡ was.journal.value.tally) × (is.lines ≡ was.lines) }
+    ensures writes_it { (was is : Wire ℕ) → Writes writes_nothing was is → is.journal.value ≡ was.journal.value }
     // It stops where the clock fails, and not where it tells a moment.
     ensures fails { (fault : Fault) (board : Switchboard) (wire : Wire ℕ) (schedule : Schedule) →
         StopsAt (λ around outcome. outcome ≡ Ok 5) (λ around told. ⊥) (Err fault) 3 board wire schedule → ⊥ }

@@ -650,7 +650,7 @@ fn do_turn<S: Surroundings + Drop>(
     turn: Turn,
     moment: u64,
 )
-    ensures { DoesTurn S.sockets (HandsTo S.sends S.traffic) S.receives S.hears S.answers moment turn board.old board.new wire.old wire.new }
+    ensures { DoesTurn S.traffic S.sockets (HandsTo S.sends S.traffic) S.receives S.hears S.answers moment turn board.old board.new wire.old wire.new }
 {
     match turn {
         Turn::Tick { moment: to } => {
@@ -678,8 +678,8 @@ fn turn<S: Surroundings + Drop>(
     schedule: &mut Schedule,
 ) -> Result<bool, Fault>
     ensures next { IfOk result (λ goes_on. AsksNext S.passes S.tells board.old wire.old schedule.old goes_on schedule.new) }
-    ensures does { IfOk result (λ goes_on. goes_on ≡ true → DoesNext S.sockets (HandsTo S.sends S.traffic) S.passes S.tells S.receives S.hears S.answers
-        board.old board.new wire.old wire.new schedule.old) }
+    ensures does { IfOk result (λ goes_on. goes_on ≡ true → DoesNext S.traffic S.sockets (HandsTo S.sends S.traffic) S.passes S.tells S.receives S.hears S.answers
+        board.old board.new wire.old wire.new schedule.old schedule.new) }
     ensures ended { IfOk result (λ goes_on. goes_on ≡ false → (wire.new ≡ wire.old) × (board.new ≡ board.old)) }
     ensures failed { IfErr result (λ fault. S.passes wire.old.around (Err fault)) }
     ensures fault { IfErr result (λ _. (wire.new ≡ wire.old) × (board.new ≡ board.old) × (schedule.new ≡ schedule.old)) }
@@ -703,7 +703,7 @@ fn turn<S: Surroundings + Drop>(
 
 // Writes what was recorded, as much as is taken at once, and keeps whether some of it waits to be taken.
 fn write_turn<S: Surroundings + Drop, W: Recorder>(wire: &mut Wire<S>, recorder: &mut W)
-    ensures { Writes wire.old wire.new }
+    ensures { Writes W.writes wire.old wire.new }
 {
     recorder.write(&mut wire.journal, wire.now.time);
     wire.note_offering(recorder.is_offering());
@@ -717,7 +717,7 @@ fn run<S: Surroundings + Drop, W: Recorder>(
     schedule: &mut Schedule,
     recorder: &mut W,
 ) -> Result<(), Fault>
-    ensures { Runs S.passes S.tells (TurnsOnce S.sockets (HandsTo S.sends S.traffic) S.passes S.tells S.receives S.hears S.answers) result
+    ensures { Runs S.passes S.tells (TurnsOnce S.traffic S.sockets (HandsTo S.sends S.traffic) S.passes S.tells S.receives S.hears S.answers W.writes) result
         board.old wire.old schedule.old board.new wire.new }
 {
     for _ in 0..u64::MAX {
@@ -740,7 +740,7 @@ pub(crate) fn serve<S: Surroundings + Drop, W: Recorder>(
     wire: &mut Wire<S>,
     recorder: &mut W,
 ) -> Result<(), Fault>
-    ensures { Serves S.passes S.tells (TurnsOnce S.sockets (HandsTo S.sends S.traffic) S.passes S.tells S.receives S.hears S.answers) result
+    ensures { Serves S.passes S.tells (TurnsOnce S.traffic S.sockets (HandsTo S.sends S.traffic) S.passes S.tells S.receives S.hears S.answers W.writes) result
         board.old wire.old board.new wire.new }
 {
     // What the start took isn't a pause.

@@ -6,7 +6,8 @@ ghost use Rattle.mg_bytes.specs.Lists.{is_empty};
 ghost use Rattle.live_agent.specs.Wiring.{due_of, with_read, read_at, heard_at, ready_by};
 ghost use Rattle.live_agent.specs.Handing.{comes_in, HandsFirst, HandsOver, HandsTo, Leaves, Offers, OffersTo};
 ghost use Rattle.live_agent.specs.Sending.{SendsAll, SendsOne, SendsOver};
-ghost use Rattle.live_agent.specs.Tallying.{leaving_counted, looked_counted, with_fate, with_receive_fault, CountsLeaving, CountsOffer, CountsSent};
+ghost use Rattle.live_agent.specs.Tallying.{leaving_counted, looked_counted, with_fate, with_receive_fault, with_send_fault};
+ghost use Rattle.live_agent.specs.Tallying.{CountsLeaving, CountsOffer, CountsSent, OnlyCounts, OnlyNotes};
 ghost use Rattle.surroundings.specs.Hearing.{Hears, AnswersTo};
 ghost use Rattle.surroundings.specs.Requests.{requests_from};
 ghost use Rattle.surroundings.specs.Sending.{Grows};
@@ -102,11 +103,20 @@ fn count_fate(tally: &mut Tally, fate: Fate) -> Option<Note>
 // What becomes of a packet is counted, and noted in the log.
 fn note_fate(journal: &mut Journal, stamp: Stamp, fate: Fate)
     ensures tally { journal.new.tally ≡ with_fate fate journal.old.tally }
-    ensures rest { journal.new ≡ record journal.old { tally = journal.new.tally; log = journal.new.log } }
+    ensures rest { OnlyNotes journal.old journal.new }
 {
     if let Some(note) = count_fate(&mut journal.tally, fate) {
         journal.note(stamp, note);
     }
+}
+
+// A datagram didn't leave: that is counted, and noted in the log.
+fn note_unsent(journal: &mut Journal, stamp: Stamp)
+    ensures tally { journal.new.tally ≡ with_send_fault journal.old.tally }
+    ensures rest { OnlyNotes journal.old journal.new }
+{
+    count(&mut journal.tally.send_faults);
+    journal.note(stamp, Note::Unsent);
 }
 
 // A packet is offered to the network that spoils it, at this moment of its clock, in ms.
@@ -120,6 +130,7 @@ fn offer_to(
 )
     ensures tally { CountsOffer (Some network.old) journal.old.tally journal.new.tally }
     ensures offers { Offers way stamp.peer bytes.now clock network.old network.new journal.old.tally journal.new.tally }
+    ensures notes { OnlyNotes journal.old journal.new }
 {
     match network.offer(way, stamp.peer, bytes, clock) {
         Ok(fate) => note_fate(journal, stamp, fate),
@@ -215,6 +226,7 @@ impl<S: Surroundings + Drop> Wire<S> {
         ensures looked { (outcome : Result (Option (Peer × ℕ)) Fault) × S.receives self.old.around outcome room.new self.new.around
             × (result ≡ heard_at outcome) × (self.new.read ≡ read_at outcome self.old.read)
             × (self.new.journal.value.tally ≡ looked_counted outcome self.old.journal.value.tally) }
+        ensures alone { OnlyCounts self.old.journal.value self.new.journal.value }
         ensures rest { self.new ≡ record self.old { around = self.new.around; read = self.new.read; journal = self.new.journal } }
     {
         match self.around.receive(room) {
@@ -269,6 +281,7 @@ impl<S: Surroundings + Drop> Wire<S> {
         ensures tally { CountsOffer self.old.network self.old.journal.value.tally self.new.journal.value.tally }
         ensures offers { OffersTo way peer bytes.now self.old.now.clock self.old.network self.new.network
             self.old.journal.value.tally self.new.journal.value.tally }
+        ensures notes { OnlyNotes self.old.journal.value self.new.journal.value }
         ensures none { result ≡ false → self.new ≡ self.old }
         ensures rest { self.new ≡ record self.old { network = self.new.network; journal = self.new.journal } }
     {
@@ -316,17 +329,17 @@ impl<S: Surroundings + Drop> Wire<S> {
     // A datagram was put onto the machine's network. One that didn't leave is counted, and noted in the log.
     fn note_leaving(&mut self, to: SocketAddrV4, sent: Result<(), Fault>)
         ensures tally { self.new.journal.value.tally ≡ leaving_counted sent self.old.journal.value.tally }
+        ensures notes { OnlyNotes self.old.journal.value self.new.journal.value }
         ensures rest { self.new ≡ record self.old { journal = self.new.journal } }
     {
         match sent {
             Ok(()) => {}
             Err(_) => {
-                count(&mut self.journal.tally.send_faults);
                 let stamp = Stamp {
                     moment: self.now.time,
                     peer: to,
                 };
-                self.journal.note(stamp, Note::Unsent);
+                note_unsent(&mut self.journal, stamp);
             }
         }
     }
@@ -393,6 +406,7 @@ impl<S: Surroundings + Drop> Wire<S> {
 
     /// Waits until something comes, but no longer than this, in ms, nor than until what waits to be taken is offered again.
     pub(crate) fn wait(&mut self, longest: u64)
+        ensures traffic { S.traffic self.new.around ≡ S.traffic self.old.around }
         ensures counts { (self.new.journal.value.tally ≡ self.old.journal.value.tally)
             ⊎ (self.new.journal.value.tally ≡ with_receive_fault self.old.journal.value.tally) }
         ensures journal { self.new.journal.value ≡ record self.old.journal.value { tally = self.new.journal.value.tally } }

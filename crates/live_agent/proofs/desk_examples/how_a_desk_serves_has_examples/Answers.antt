@@ -6,4 +6,7 @@ pub returns-clause-one_turn : goal.returns-clause-one_turn
 returns-clause-one_turn c = λ board now was is schedule next runs. runs.4
 
 pub returns-clause-writes : goal.returns-clause-writes
-returns-clause-writes c = λ was is writes. (writes.0, ap (λ (wire : Wire ℕ). wire.lines) writes.1)
+returns-clause-writes c = λ was is writes. (writes.counts, ap (λ (wire : Wire ℕ). wire.lines) writes.rest)
+
+pub returns-clause-writes_it : goal.returns-clause-writes_it
+returns-clause-writes_it c = λ was is writes. writes.wrote

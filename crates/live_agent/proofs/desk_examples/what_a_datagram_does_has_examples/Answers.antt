@@ -1,8 +1,10 @@
-use Rattle.std.proofs.Common.{◌≡◌, ℕ, Bool, Option, Result, ap, ◌∙◌}
+use Rattle.std.proofs.Common.{◌≡◌, ℕ, Bool, List, [], Option, Result, Ok, ap, subst, ◌∙◌}
+use Rattle.std.specs.Prelude.{IfNone, slice_get}
 use Rattle.std.specs.declared.net.socket_addr.SocketAddrV4.{SocketAddrV4}
 use Rattle.agent_texts.specs.declared.journal.Journal.{Journal}
 use Rattle.agent_texts.specs.Counts.{with_notification}
 use Rattle.surroundings.specs.declared.surroundings.Fault.{Fault}
+use Rattle.switchboard.specs.declared.gateway.Gateway.{Gateway}
 use Rattle.switchboard.specs.declared.switchboard.Switchboard.{Switchboard}
 use Rattle.switchboard.specs.Tallying.{counted_if}
 use Rattle.live_agent.specs.Wiring.{read_at}
@@ -61,8 +63,14 @@ returns-clause-counts c = λ board now was is takes some.
 
 pub returns-clause-logs_nothing : goal.returns-clause-logs_nothing
 returns-clause-logs_nothing c = λ board now was is takes.
-    (ap (λ (journal : Journal). journal.log) takes.journal, ap (λ (journal : Journal). journal.capture) takes.journal)
+    (ap (λ (journal : Journal). journal.log) takes.tells, ap (λ (journal : Journal). journal.capture) takes.tells)
 
 pub returns-clause-looks_for_one : goal.returns-clause-looks_for_one
 returns-clause-looks_for_one c = λ board now was is looks none.
     looks.reads ∙ ap (λ (outcome : Result (Option (SocketAddrV4 × ℕ)) Fault). read_at outcome was.read) none
+
+pub returns-clause-nobody_steps : goal.returns-clause-nobody_steps
+returns-clause-nobody_steps c = λ source outputs board now none steps.
+    let nobody : IfNone (slice_get [] 0) (outputs ≡ Ok [])
+    = subst (λ (gateways : List Gateway). IfNone (slice_get gateways 0) (outputs ≡ Ok [])) none steps.nobody in
+    nobody

@@ -1,4 +1,5 @@
 use Rattle.std.proofs.Common.{◌≡◌, ℕ, List, [], ◌∷◌, Option, subst}
+use Rattle.std.specs.Prelude.{IfNone, Ok, slice_get}
 use Rattle.std.specs.Result.{result_err}
 use Rattle.call_agent.specs.Flying.{first_flight}
 use Rattle.call_agent.specs.Hearing.{AgentEnds, plain_agent}
@@ -33,3 +34,7 @@ returns-clause-counts c = λ board now was is gives. gives.counts
 
 pub returns-clause-counts_none : goal.returns-clause-counts_none
 returns-clause-counts_none c = λ board now was is gives. gives.counts
+
+pub returns-clause-nobody_ticks : goal.returns-clause-nobody_ticks
+returns-clause-nobody_ticks c = λ board now was is ticks none.
+    subst (λ (gateways : List Gateway). IfNone (slice_get gateways 0) (ticks.outputs ≡ Ok [])) none ticks.nobody

@@ -5,10 +5,10 @@ use Rattle.live_agent.specs.declared.wire.Wire.{Wire}
 use Rattle.live_agent.proofs.desk_examples.what_turns_leave_has_examples.Goals as goal
 
 pub returns-clause-looks : goal.returns-clause-looks
-returns-clause-looks c = λ board now was is does. (does.0, ap (λ (wire : Wire ℕ). wire.lines) does.1.2)
+returns-clause-looks c = λ board now was is does. (does.0, ap (λ (wire : Wire ℕ). wire.lines) does.1.3)
 
 pub returns-clause-waits : goal.returns-clause-waits
-returns-clause-waits c = λ board now was is does. (does.0, ap (λ (wire : Wire ℕ). wire.end) does.1.2)
+returns-clause-waits c = λ board now was is does. (does.0, ap (λ (wire : Wire ℕ). wire.end) does.1.3)
 
 pub returns-clause-notes : goal.returns-clause-notes
 returns-clause-notes c = λ pause board now was is does. (does.0, ap (λ (wire : Wire ℕ). wire.around) does.1.1)
@@ -25,10 +25,13 @@ returns-clause-telephones c = λ was is hears.
     (ap (λ (wire : Wire ℕ). wire.lines) hears.rest, ap (λ (wire : Wire ℕ). wire.network) hears.rest, ap (λ (wire : Wire ℕ). wire.journal) hears.rest)
 
 pub returns-clause-fails : goal.returns-clause-fails
-returns-clause-fails c = λ was is waits. ap (λ (journal : Journal). journal.told) waits.1
+returns-clause-fails c = λ was is waits. ap (λ (journal : Journal). journal.told) waits.2
 
 pub returns-clause-pauses : goal.returns-clause-pauses
 returns-clause-pauses c = λ was is notes. ap (λ (journal : Journal). journal.tally) notes.0
 
 pub returns-clause-passes : goal.returns-clause-passes
-returns-clause-passes c = λ load was is passes. ap (λ (wire : Wire ℕ). wire.lines) passes.1
+returns-clause-passes c = λ load was is passes. ap (λ (wire : Wire ℕ). wire.lines) passes.rest
+
+pub returns-clause-quiet : goal.returns-clause-quiet
+returns-clause-quiet c = λ traffic was is waits. waits.0

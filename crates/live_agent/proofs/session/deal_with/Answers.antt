@@ -11,6 +11,7 @@ loop-text-preserved g c = λ now is rest.
       heard = c.hear.new.self;
       told = _;
       hears = rw (c.deref_mut.ensures.value) at c.hear.ensures.hears;
+      tells = rw (c.deref_mut.ensures.value) at c.hear.ensures.rest;
       leaves = refl;
       settles = c.settle.ensures;
     }) rest)

@@ -16,10 +16,10 @@ pub returns-in-Datagram : goal.returns-in-Datagram
 returns-in-Datagram g c = rw (c.in-Datagram.is) c.take_datagram.ensures
 
 pub returns-in-Look : goal.returns-in-Look
-returns-in-Look g c = rw (c.in-Look.is) (refl, (c.wait.ensures.counts, c.wait.ensures.journal, c.wait.ensures.rest))
+returns-in-Look g c = rw (c.in-Look.is) (refl, (c.wait.ensures.traffic, c.wait.ensures.counts, c.wait.ensures.journal, c.wait.ensures.rest))
 
 pub returns-in-Wait : goal.returns-in-Wait
-returns-in-Wait g c = rw (c.in-Wait.is) (refl, (c.wait-in-Wait.ensures.counts, c.wait-in-Wait.ensures.journal, c.wait-in-Wait.ensures.rest))
+returns-in-Wait g c = rw (c.in-Wait.is) (refl, (c.wait-in-Wait.ensures.traffic, c.wait-in-Wait.ensures.counts, c.wait-in-Wait.ensures.journal, c.wait-in-Wait.ensures.rest))
 
 pub returns-in-Note : goal.returns-in-Note
 returns-in-Note g c = rw (c.in-Note.is) (refl, (c.note_pause.ensures.journal, c.note_pause.ensures.rest))

@@ -7,5 +7,6 @@ returns g c = record {
   is_found = c.give_up.ensures.found;
   gives_up = c.give_up.ensures.gives_up;
   counts = given_counted c.give_up.result _ _ _ c.give_up.ensures.found (rw (c.deref_mut.ensures.value) at c.give_up.ensures.tally);
+  tells = rw (c.deref_mut.ensures.value) at c.give_up.ensures.rest;
   rest = refl;
 }

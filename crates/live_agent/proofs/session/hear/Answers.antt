@@ -8,6 +8,7 @@ pub returns-in_default : goal.returns-in_default
 returns-in_default g c = record {
   came = record c.args.wire.now { journal = with_value c.args.wire.now.journal c.came.new.self; load = c.count_came.new.load };
   counts = rw (c.deref_mut.ensures.value) at c.came.ensures.tally;
+  records = rw (c.deref_mut.ensures.value) at c.came.ensures.rest;
   leaves = refl;
   load = c.count_came.ensures;
   hears = heard_by (HandsTo g.S.Surroundings.sends g.S.Surroundings.traffic) None _ c.args.source c.args.bytes.now c.args.board.now c.args.board.now _ _ c.in_default.ensures (
@@ -24,6 +25,7 @@ pub returns : goal.returns
 returns g c = record {
   came = record c.args.wire.now { journal = with_value c.args.wire.now.journal c.came.new.self; load = c.count_came.new.load };
   counts = rw (c.deref_mut.ensures.value) at c.came.ensures.tally;
+  records = rw (c.deref_mut.ensures.value) at c.came.ensures.rest;
   leaves = refl;
   load = c.count_came.ensures;
   hears = heard_by (HandsTo g.S.Surroundings.sends g.S.Surroundings.traffic) _ _ c.args.source c.args.bytes.now c.args.board.now c.hear_at.new.board _ c.hear_at.new.wire c.in-Some.ensures c.hear_at.ensures;

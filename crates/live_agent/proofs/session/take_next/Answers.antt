@@ -14,7 +14,7 @@ returns-then-not-take g c =
       rest = c.take.ensures.rest;
       counts = rw (c.deref_mut.ensures.value) at c.take.ensures.tally;
       leaves = refl;
-      journal = rw (c.deref_mut.ensures.value) at c.take.ensures.journal;
+      tells = rw (c.deref_mut.ensures.value) at c.take.ensures.journal;
       settles = settled_none (HandsTo g.S.Surroundings.sends g.S.Surroundings.traffic) c.take.result c.take.new.self _ none;
     }
 
@@ -29,6 +29,6 @@ returns g c =
       rest = c.take.ensures.rest;
       counts = rw (c.deref_mut.ensures.value) at c.take.ensures.tally;
       leaves = refl;
-      journal = rw (c.deref_mut.ensures.value) at c.take.ensures.journal;
+      tells = rw (c.deref_mut.ensures.value) at c.take.ensures.journal;
       settles = settled_some (HandsTo g.S.Surroundings.sends g.S.Surroundings.traffic) c.take.result c.take.new.self c.settle.new.board _ c.settle.new.wire some c.settle.ensures;
     }

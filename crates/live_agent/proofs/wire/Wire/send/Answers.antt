@@ -44,8 +44,9 @@ returns-then-offer-clause-one g c =
           (rw (c.deref_mut.ensures.value) at c.sent.ensures.tally) some c.offer.ensures.tally;
       noted = noted;
       notes = rw (c.deref_mut.ensures.value) at c.sent.ensures.tally;
+      records = rw (c.deref_mut.ensures.value) at c.sent.ensures.rest;
       rest = refl;
-      goes = goes_offered (HandsTo g.S.Surroundings.sends g.S.Surroundings.traffic) c.args.to c.args.bytes.now c.args.self.now.network noted c.offer.new.self some c.offer.ensures.offers c.offer.ensures.rest;
+      goes = goes_offered (HandsTo g.S.Surroundings.sends g.S.Surroundings.traffic) c.args.to c.args.bytes.now c.args.self.now.network noted c.offer.new.self some c.offer.ensures.offers c.offer.ensures.notes c.offer.ensures.rest;
     }
 
 pub returns-clause-one : goal.returns-clause-one
@@ -62,6 +63,7 @@ returns-clause-one g c =
           none c.offer.ensures.tally c.transmit.ensures.tally;
       noted = noted;
       notes = rw (c.deref_mut.ensures.value) at c.sent.ensures.tally;
+      records = rw (c.deref_mut.ensures.value) at c.sent.ensures.rest;
       rest = refl;
       goes = goes_leaving (HandsTo g.S.Surroundings.sends g.S.Surroundings.traffic) c.args.to c.args.bytes.now c.args.self.now.network noted c.offer.new.self c.transmit.new.self none
           (c.offer.ensures.none c.if-offer.false) c.transmit.ensures.leaves;

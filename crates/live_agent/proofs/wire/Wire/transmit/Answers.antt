@@ -23,6 +23,7 @@ returns-clause-leaves g c = record {
       c.send-sent.result c.args.self.now.around c.args.self.now c.note_leaving.new.self c.send-sent.new.self c.note_leaving.ensures.rest
       (c.send-sent.ensures.handed, c.send-sent.ensures.sent, c.send-sent.ensures.received);
   counts = c.note_leaving.ensures.tally;
+  notes = c.note_leaving.ensures.notes;
   rest = left_so c.args.self.now c.note_leaving.new.self c.send-sent.new.self c.note_leaving.ensures.rest;
 }
 
