@@ -69,9 +69,11 @@ fn put_act(out: &mut Draft, act: PhoneAct)
 }
 
 impl QueuedAct {
-    /// Appends the line of the telephones' socket that does it, without its end, as `phone 1 off`.
+    /// Appends the line of the telephones' socket that does it, without its end, as `phone 1 off`. After an error, which is for want of
+    /// memory, `out` is as it was.
     pub fn put_line(self, alloc: Global, out: &mut Vec<u8>) -> Result<(), OutOfMemory>
-        ensures { OnOk result (out.new.items ≡ out.old.items ++ line_of_act self) }
+        ensures ok { OnOk result (out.new.items ≡ out.old.items ++ line_of_act self) }
+        ensures err { OnErr result (out.new.items ≡ out.old.items) }
     {
         let mut line = Draft::new(alloc);
         line.put(b"phone ");
