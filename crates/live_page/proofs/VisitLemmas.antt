@@ -1,8 +1,6 @@
 -- What is answered to visitors, from what a connection says of its calls.
-use Rattle.std.proofs.Common.{◌≡◌, ℕ, zero, suc, Bool, true, false, not, List, [], ◌∷◌, ◌++◌, map, slice_get, slice_set, Option, Some, Bor, inl, inr, refl, sym, ◌∙◌, ap, subst, append_assoc, append-nil}
-use Rattle.std.specs.Global.{Box}
-use Rattle.std.specs.Option.{unwrap_or}
-use Rattle.std.specs.declared.net.ipv4_addr.Ipv4Addr.{Ipv4Addr}
+use Rattle.std.proofs.Common.{◌≡◌, ℕ, Bool, true, false, not, List, [], ◌∷◌, ◌++◌, Bor, refl, sym, ◌∙◌, ap, subst, append_assoc, append-nil, true≢false}
+use Rattle.std.specs.Prelude.{◌↔◌, IsTrue}
 use Rattle.std.specs.declared.net.socket_addr.SocketAddrV4.{SocketAddrV4}
 use Rattle.http.specs.declared.request.Request.{Request}
 use Rattle.http_server.specs.declared.response.Response.{Response}
@@ -10,11 +8,10 @@ use Rattle.http_server.specs.Exchange.{Call, Chain}
 use Rattle.page_board.specs.Showing.{BoardState}
 use Rattle.live_page.specs.declared.desk.Desk.{Desk}
 use Rattle.page_access.specs.declared.host_names.HostNames.{HostNames}
-use Rattle.live_page.specs.declared.site.Site.{Site}
 use Rattle.live_page.specs.declared.visitor.Visitor.{Visitor}
 use Rattle.live_page.specs.Answering.{Answers}
 use Rattle.page_access.specs.Naming.{names_of}
-use Rattle.live_page.specs.Visiting.{calls_of, who, AnsweredAt, AnswersBy, AnswersVisitor, Comes, LetsIn, ServesAt, ServesNext}
+use Rattle.live_page.specs.Visiting.{calls_of, AnsweredAt, AnswersAll, AnswersBy, AnswersVisitor}
 
 -- calls behind others are calls of both
 chain_on : {S : Type 0} (answers : S → Request (List ℕ) → Response → S → Type 0) (first second : List Call) (a b c : S)
@@ -79,39 +76,18 @@ answered_both site there names others was mid is board between shown first same 
       chain_on (AnsweredAt site names) first.0 second.0 board between shown first.2 next,
     )
 
--- whose turn it is has it
-pub serves_here : (site : SocketAddrV4) (place : ℕ) (address : Option SocketAddrV4) (next : Option ℕ) (was is : Site) (board shown : BoardState)
-    → address ≡ Some site → next ≡ Some place → ServesAt site place was board is shown → ServesNext address next was board is shown
-serves_here site place address next was is board shown known turn serves =
-    subst (λ (a : Option SocketAddrV4). ServesNext a next was board is shown) (sym known)
-    (subst (λ (n : Option ℕ). ServesNext (Some site) n was board is shown) (sym turn) serves)
+-- what is answered at one desk is answered at the same
+pub answers_there : (site there : SocketAddrV4) (names others : List (List ℕ)) (was is : Visitor) (board shown : BoardState)
+    → there ≡ site → others ≡ names → AnswersAll there others was board is shown → AnswersAll site names was board is shown
+answers_there site there names others was is board shown same called answers =
+    subst (λ (s : SocketAddrV4). AnswersAll s names was board is shown) same
+    (subst (λ (n : List (List ℕ)). AnswersAll there n was board is shown) called answers)
 
 -- what isn't so is so
 pub so_behind : (is : Bool) → not is ≡ false → is ≡ true
 so_behind true none = refl
 so_behind false none = absurd cc
 
--- one of these is looked at, and stays who they are
-pub stays_there : (places : List (Option (Box Visitor))) (place : ℕ) (was is : Option (Box Visitor)) → slice_get places place ≡ Some was → who is ≡ who was
-    → map who (slice_set places place is) ≡ map who places
-stays_there [] place was is at same = absurd cc
-stays_there (first ∷ more) zero was is at same = ap (λ (one : Option Visitor). one ∷ map who more) (same ∙ ap (λ (o : Option (Option (Box Visitor))). who (unwrap_or o was)) (sym at))
-stays_there (first ∷ more) (suc place) was is at same = ap (λ (l : List (Option Visitor)). who first ∷ l) (stays_there more place was is at same)
-
--- who comes is turned away
-pub turned_away : (host : Ipv4Addr) (now : ℕ) (places : List (Option (Box Visitor))) → Comes host now places places
-turned_away host now places = inl refl
-
--- or has a place from then on
-pub has_a_place : (host : Ipv4Addr) (now place : ℕ) (visitor : Box Visitor) (were are : List (Option (Box Visitor)))
-    → visitor.value.seat ≡ record { host = host; active = now } → are ≡ slice_set were place (Some visitor) → Comes host now were are
-has_a_place host now place visitor were are seat set = inr (place, visitor, seat, set)
-
--- nobody came
-pub nobody_came : (now : ℕ) (was is : Site) → is.places.items ≡ was.places.items → is.may_accept ≡ false → LetsIn now was is
-nobody_came now was is same none = inl (same, none)
-
--- somebody did
-pub somebody_came : (now : ℕ) (host : Ipv4Addr) (was is : Site) → was.may_accept ≡ true → is.may_accept ≡ true
-    → Comes host now was.places.items is.places.items → LetsIn now was is
-somebody_came now host was is may still comes = inr (may, still, host, comes)
+-- what can't be so where it isn't found so
+pub cannot : {P : Type 0} (found : Bool) → (IsTrue found ↔ P) → found ≡ false → ¬ P
+cannot found so none holds = true≢false (sym (so.1 holds) ∙ none)

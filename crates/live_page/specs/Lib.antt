@@ -5,3 +5,5 @@ pub mod Serving
 pub mod Answering
 pub mod Waiting
 pub mod Visiting
+pub mod Receiving
+pub mod Example

@@ -1,6 +1,9 @@
--- What a turn of the site's does: requests of one of its visitors are answered, by a board.
-use Rattle.std.specs.Prelude.{◌≡◌, ◌⊎◌, ℕ, true, false, ◌||◌, List, ◌++◌, map, replicate, slice_get, slice_set, Option, None, Some, option_map, IfSome, IsSomeAnd}
-use Rattle.std.specs.Global.{Box}
+-- What becomes of a visitor: as they come, as something is told of their socket, and in a turn of theirs. What a socket gives, and how
+-- much it takes, it alone says.
+use Rattle.std.specs.Prelude.{◌≡◌, ◌⊎◌, ◌↔◌, ℕ, ◌<◌, Bool, true, false, ◌||◌, if◌then◌else◌, IsTrue, List, ◌++◌, length, Result, Ok, Err}
+use Rattle.std.specs.IoError.{error_kind}
+use Rattle.std.specs.declared.io.Error.{Error}
+use Rattle.std.specs.declared.io.ErrorKind.TheVariants.{WouldBlock}
 use Rattle.std.specs.declared.net.ipv4_addr.Ipv4Addr.{Ipv4Addr}
 use Rattle.std.specs.declared.net.socket_addr.SocketAddrV4.{SocketAddrV4}
 use Rattle.http.specs.declared.request.Request.{Request}
@@ -8,19 +11,43 @@ use Rattle.http.specs.Request.{head_of, body_of}
 use Rattle.http_server.specs.declared.response.Response.{Response}
 use Rattle.http_server.specs.Connection.{config_of, history}
 use Rattle.http_server.specs.Exchange.{Call, Chain}
-use Rattle.http_server.specs.History.{IsDone, Rests}
-use Rattle.live_ends.specs.declared.readiness.Readiness.{Readiness}
-use Rattle.live_ends.specs.declared.readiness.TheConstants.{MOST_VISITORS}
-use Rattle.live_ends.specs.Looking.{no_visit}
-use Rattle.page_board.specs.Showing.{BoardState}
-use Rattle.live_page.specs.declared.site.Site.{Site}
-use Rattle.live_page.specs.declared.visitor.Visitor.{Visitor}
+use Rattle.http_server.specs.History.{IsDone, IsQuiet, Rests, WantsRead, new_history, after_read, after_sent}
+use Rattle.gateway_metrics.specs.Sums.{sum_within}
+use Rattle.live_ends.specs.declared.readiness.Visit.{Visit}
+use Rattle.live_ends.specs.Looking.{is_visit}
 use Rattle.page_access.specs.Asking.{asked_of}
-use Rattle.page_access.specs.Naming.{names_of}
+use Rattle.page_board.specs.Showing.{BoardState}
+use Rattle.live_page.specs.declared.visitor.TheConstants.{LIMITS, PATIENCE}
+use Rattle.live_page.specs.declared.visitor.Visitor.{Visitor}
 use Rattle.live_page.specs.Serving.{Answered}
-use Rattle.live_page.specs.Waiting.{next_turn, stays_at}
 
--- A visitor
+-- Who comes
+
+-- until when a visitor is waited for from this moment on
+abbrev pub patience_from : ℕ → ℕ
+patience_from now = sum_within now PATIENCE
+
+-- Somebody has come from this address, at this moment, and is waited for from then on. They have asked for nothing yet; their socket may
+-- have something already, and room, so they have a turn. So much is held of them at most.
+pub record IsNew (host : Ipv4Addr) (now : ℕ) (visitor : Visitor) : Type 0 where
+  pub seat : visitor.seat ≡ record { host = host; active = now }
+  pub deadline : visitor.deadline ≡ patience_from now
+  pub reads : visitor.may_read ≡ true
+  pub writes : visitor.may_write ≡ true
+  pub turn : visitor.has_turn ≡ true
+  pub asked : history visitor.connection ≡ new_history
+  pub limits : config_of visitor.connection ≡ LIMITS
+
+-- what was told of a visitor's socket: where something was, they have a turn
+abbrev pub noted : Visit → Visitor → Visitor
+noted visit visitor =
+    if is_visit visit then record visitor {
+      may_read = visitor.may_read || visit.is_readable;
+      may_write = visitor.may_write || visit.is_writable;
+      has_turn = true;
+    } else visitor
+
+-- What is answered
 
 -- all their requests that were answered so far, each with its answer: what goes to them is these answers, in their order, as the kit's
 -- server of HTTP says of each of its connections
@@ -44,73 +71,83 @@ AnswersVisitor site names was board is shown =
 abbrev pub IsAnswered : Visitor → Type 0
 IsAnswered visitor = Rests (config_of visitor.connection) (history visitor.connection)
 
--- a visitor goes: HTTP has nothing more to do for them, or their socket was ready to be read, or written, and failed, so it isn't any more
-abbrev pub Goes : Visitor → Visitor → Type 0
-Goes was gone =
-    IsDone (history gone.connection)
-    ⊎ ((was.may_read ≡ true) × (gone.may_read ≡ false))
-    ⊎ ((was.may_write ≡ true) × (gone.may_write ≡ false))
+-- what has come of a visitor is answered; nothing is read meanwhile, and nothing goes
+pub record AnswersAll (site : SocketAddrV4) (names : List (List ℕ)) (was : Visitor) (board : BoardState) (is : Visitor) (shown : BoardState) : Type 0 where
+  pub answers : AnswersVisitor site names was board is shown
+  pub all : IsAnswered is
+  pub quiet : IsQuiet (history was.connection) (history is.connection)
+  pub limits : config_of is.connection ≡ config_of was.connection
+  pub rest : is ≡ record was { connection = is.connection }
 
--- a visitor, but for what was told of their socket
-abbrev pub who : Option (Box Visitor) → Option Visitor
-who place = option_map (λ held. record held.value { may_read = false; may_write = false; has_turn = false }) place
+-- A turn
 
--- A place
+-- a fault of a socket says only that it has nothing more, or no room, now
+abbrev pub IsWaiting : Error → Type 0
+IsWaiting fault = error_kind fault ≡ WouldBlock
 
--- Whoever has the place has a turn: they stay, and no request of theirs waits, or they go, for a reason.
-abbrev pub ServesPlace : SocketAddrV4 → List (List ℕ) → Option (Box Visitor) → BoardState → Option (Box Visitor) → BoardState → Type 0
-ServesPlace site names None board is shown = (is ≡ None) × (shown ≡ board)
-ServesPlace site names (Some was) board None shown = (gone : Visitor) × AnswersVisitor site names was.value board gone shown × Goes was.value gone
-ServesPlace site names (Some was) board (Some is) shown = AnswersVisitor site names was.value board is.value shown × IsAnswered is.value
+-- their socket may have something, and more may come
+abbrev pub CanRead : Visitor → Type 0
+CanRead visitor = (visitor.may_read ≡ true) × WantsRead (config_of visitor.connection) (history visitor.connection)
 
--- each place but this one is as it was
-abbrev pub with_place : ℕ → Option (Option (Box Visitor)) → List (Option (Box Visitor)) → List (Option (Box Visitor))
-with_place place None places = places
-with_place place (Some held) places = slice_set places place held
+-- their socket may have room, and something waits for it
+abbrev pub CanWrite : Visitor → Type 0
+CanWrite visitor = (visitor.may_write ≡ true) × (0 < length (history visitor.connection).pending)
 
--- The site
+-- A socket was read, and gave so much: it is the visitor's, who was active at this moment. Or it failed: it isn't read again before it is
+-- told, and who only has nothing more stays.
+abbrev pub ReadsSo : ℕ → Visitor → Result ℕ Error → Bool → Visitor → Type 0
+ReadsSo now was (Ok count) stays is =
+    (stays ≡ true) × ((more : List ℕ) × (length more ≡ count) × (history is.connection ≡ after_read (history was.connection) more))
+    × (config_of is.connection ≡ config_of was.connection)
+    × (is ≡ record was { stream = is.stream; connection = is.connection; seat = record was.seat { active = now } })
+ReadsSo now was (Err fault) stays is =
+    (IsTrue stays ↔ IsWaiting fault) × (history is.connection ≡ history was.connection) × (config_of is.connection ≡ config_of was.connection)
+    × (is ≡ record was { stream = is.stream; connection = is.connection; may_read = false })
 
--- Somebody comes from this address, at this moment: they have a place from then on, and nobody else's is another's; or they are turned
--- away, and nobody's is.
-abbrev pub Comes : Ipv4Addr → ℕ → List (Option (Box Visitor)) → List (Option (Box Visitor)) → Type 0
-Comes host now were are =
-    (are ≡ were)
-    ⊎ ((place : ℕ) × (visitor : Box Visitor) × (visitor.value.seat ≡ record { host = host; active = now })
-    × (are ≡ slice_set were place (Some visitor)))
+-- a visitor's socket is read once at this moment, where that may give something
+abbrev pub ReadsOnce : ℕ → Visitor → Bool → Visitor → Type 0
+ReadsOnce now was stays is =
+    ((¬ CanRead was) × (is ≡ was) × (stays ≡ true)) ⊎ (CanRead was × ((gave : Result ℕ Error) × ReadsSo now was gave stays is))
 
--- Nobody has come, and nobody may have any more; or somebody has, where somebody may have, and somebody else may have still.
-abbrev pub LetsIn : ℕ → Site → Site → Type 0
-LetsIn now was is =
-    ((is.places.items ≡ was.places.items) × (is.may_accept ≡ false))
-    ⊎ ((was.may_accept ≡ true) × (is.may_accept ≡ true) × (host : Ipv4Addr) × Comes host now was.places.items is.places.items)
+-- A socket took so much of what waits for a visitor, who was active at this moment, and is waited for anew once nothing waits; who takes
+-- nothing at all goes. Or it failed: it isn't written again before it is told, and who only has no room stays.
+abbrev pub WritesSo : ℕ → Visitor → Result ℕ Error → Bool → Visitor → Type 0
+WritesSo now was (Ok count) stays is =
+    (history is.connection ≡ after_sent (history was.connection) count) × (config_of is.connection ≡ config_of was.connection)
+    × (count ≡ 0 → (stays ≡ false) × (is ≡ record was { stream = is.stream; connection = is.connection; may_write = false }))
+    × (0 < count → (stays ≡ true) × (0 < length (history is.connection).pending → is.deadline ≡ was.deadline)
+    × (length (history is.connection).pending ≡ 0 → is.deadline ≡ patience_from now)
+    × (is ≡ record was {
+      stream = is.stream;
+      connection = is.connection;
+      seat = record was.seat { active = now };
+      deadline = is.deadline;
+    }))
+WritesSo now was (Err fault) stays is =
+    (IsTrue stays ↔ IsWaiting fault) × (is ≡ record was { stream = is.stream; may_write = false })
 
--- whoever has this place has a turn, and nobody else
-pub record ServesAt (site : SocketAddrV4) (place : ℕ) (was : Site) (board : BoardState) (is : Site) (shown : BoardState) : Type 0 where
-  pub served : IfSome (slice_get was.places.items place) (λ held.
-      IsSomeAnd (slice_get is.places.items place) (λ left. ServesPlace site (names_of was.names) held board left shown))
-  pub others : is.places.items ≡ with_place place (slice_get is.places.items place) was.places.items
-  pub rest : is ≡ record was { places = is.places; last = place }
+-- what waits for a visitor is written once at this moment, where their socket may have room
+abbrev pub WritesOnce : ℕ → Visitor → Bool → Visitor → Type 0
+WritesOnce now was stays is =
+    ((¬ CanWrite was) × (is ≡ was) × (stays ≡ true)) ⊎ (CanWrite was × ((took : Result ℕ Error) × WritesSo now was took stays is))
 
--- so it is of the place whose turn it is, where there is one, and where the page's address is known
-abbrev pub ServesNext : Option SocketAddrV4 → Option ℕ → Site → BoardState → Site → BoardState → Type 0
-ServesNext None place was board is shown = (is ≡ was) × (shown ≡ board)
-ServesNext (Some site) None was board is shown = (is ≡ was) × (shown ≡ board)
-ServesNext (Some site) (Some place) was board is shown = ServesAt site place was board is shown
+-- Who stays is answered what could not be answered before, has a turn again where they can be read or written, and goes where HTTP has
+-- nothing more to do for them.
+abbrev pub EndsTurn : SocketAddrV4 → List (List ℕ) → Bool → Visitor → BoardState → Bool → Visitor → BoardState → Type 0
+EndsTurn site names false was board stays is shown = (is ≡ was) × (shown ≡ board) × (stays ≡ false)
+EndsTurn site names true was board stays is shown =
+    (answered : Visitor) × AnswersAll site names was board answered shown × (is ≡ record answered { has_turn = is.has_turn })
+    × (IsTrue is.has_turn ↔ (CanRead answered ⊎ CanWrite answered))
+    × (stays ≡ false → IsDone (history answered.connection)) × (IsDone (history answered.connection) → stays ≡ false)
 
--- A turn of the site's, at this moment. Those whose time is over go, and nobody else does. What was told of its sockets is told no more, and
--- who is there stays. Somebody may be let in. Of the visitors who are there then the next has a turn, by this board, at the address and under
--- the names that the site has.
-pub record ServesOne (was : Site) (told : Readiness) (board : BoardState) (now : ℕ) (is : Site) (after : Readiness) (shown : BoardState) : Type 0 where
-  pub closed : Site
-  pub late : closed.places.items ≡ map (stays_at now) was.places.items
-  pub waiting : closed.may_accept ≡ was.may_accept
-  pub looked : Site
-  pub same : map who looked.places.items ≡ map who closed.places.items
-  pub accepting : looked.may_accept ≡ (closed.may_accept || told.listener)
-  pub there : Site
-  pub lets : LetsIn now looked there
-  pub address : there.address ≡ was.address
-  pub names : names_of there.names ≡ names_of was.names
-  pub last : there.last ≡ was.last
-  pub forgotten : after ≡ record told { listener = false; visits = replicate MOST_VISITORS no_visit }
-  pub next : ServesNext there.address (next_turn there.last there.places.items) there board is shown
+-- Who stays is answered what came, and what waits for them is written once.
+abbrev pub WritesTurn : SocketAddrV4 → List (List ℕ) → ℕ → Bool → Visitor → BoardState → Bool → Visitor → BoardState → Type 0
+WritesTurn site names now false was board stays is shown = (is ≡ was) × (shown ≡ board) × (stays ≡ false)
+WritesTurn site names now true was board stays is shown =
+    (answered : Visitor) × (between : BoardState) × AnswersAll site names was board answered between
+    × ((takes : Bool) × (written : Visitor) × WritesOnce now answered takes written × EndsTurn site names takes written between stays is shown)
+
+-- A visitor has a turn at this moment: their socket is read once, what came is answered, and what waits for them is written once.
+abbrev pub TakesTurn : SocketAddrV4 → List (List ℕ) → ℕ → Visitor → BoardState → Bool → Visitor → BoardState → Type 0
+TakesTurn site names now was board stays is shown =
+    (gives : Bool) × (heard : Visitor) × ReadsOnce now was gives heard × WritesTurn site names now gives heard board stays is shown

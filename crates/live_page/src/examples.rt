@@ -1,22 +1,33 @@
 //! Worked examples of the definitions, as theorems: each sentence of a definition has one that a slip in it breaks.
 #![tactic(auto, unfolding(crate::proofs::Computing::on_examples))]
 
-ghost use Rattle.std.specs.Prelude.{◌≡◌, ◌⊎◌, codes, map, true, false, List, [], ◌∷◌, Option, Some, None};
+ghost use Rattle.std.specs.Prelude.{◌≡◌, ◌≢◌, ◌-◌, ◌^◌, ℕ, codes, length, map, true, false, Bool, ⊥, List, [], ◌∷◌, Option, Some, None, Ok, Err};
 ghost use Rattle.std.specs.Global.{Box};
+ghost use Rattle.std.specs.IoError.{error_kind};
+ghost use Rattle.std.specs.declared.io.Error.{Error};
+ghost use Rattle.std.specs.declared.io.ErrorKind.TheVariants.{ConnectionReset, WouldBlock};
 ghost use Rattle.std.specs.declared.net.ipv4_addr.Ipv4Addr.{Ipv4Addr};
-ghost use Rattle.http_server.specs.Connection.{history};
+ghost use Rattle.std.specs.declared.net.socket_addr.SocketAddr.TheVariants.{V4};
+ghost use Rattle.std.specs.declared.net.socket_addr.SocketAddrV4.{SocketAddrV4};
+ghost use Rattle.http_server.specs.Connection.{config_of, history};
 ghost use Rattle.http_server.specs.History.{IsDone};
 ghost use Rattle.live_ends.specs.declared.readiness.TheConstants.{MOST_VISITORS};
+ghost use Rattle.live_ends.specs.Looking.{no_visit};
+ghost use Rattle.page_board.specs.Showing.{BoardState};
 ghost use Rattle.page_access.specs.declared.asked.Asked.TheVariants.{Strange, Reading, Acting, Forbidden, Unsuited, Missing};
 ghost use Rattle.page_access.specs.declared.route.Route.TheVariants.{Page, Style, Script, State, Metrics, Health, Ready, Events, Phone, Nothing};
 ghost use Rattle.page_answers.specs.declared.answers.ActOutcome.TheVariants.{Queued, NoRoom, Unreadable};
 ghost use Rattle.live_page.specs.declared.fields.Content.TheVariants as contents;
+ghost use Rattle.live_page.specs.declared.site.Came.{Came};
+ghost use Rattle.live_page.specs.declared.site.Came.TheVariants.{LetIn, TurnedAway};
 ghost use Rattle.live_page.specs.declared.site.Site.{Site};
 ghost use Rattle.live_page.specs.declared.visitor.Visitor.{Visitor};
 ghost use Rattle.live_page.specs.Fields.{kind_of, policy, kind_fields, fields_at};
 ghost use Rattle.live_page.specs.Health.{alive_text, ready_text};
 ghost use Rattle.live_page.specs.Statuses.{is_refused, reading_status, refusal_status, refusal_fields, outcome_status};
-ghost use Rattle.live_page.specs.Visiting.{who, Comes, Goes, LetsIn};
+ghost use Rattle.live_page.specs.Visiting.{calls_of, noted, patience_from, EndsTurn, IsNew, ReadsOnce, ReadsSo, WritesOnce, WritesSo};
+ghost use Rattle.live_page.specs.Receiving.{host_of, noted_each, seat_in, visitor_in, IsOpened, LetsIn, SeatsAt};
+ghost use Rattle.live_page.specs.Example.{readable, writable};
 ghost use Rattle.live_page.specs.Waiting.{sooner, soonest_from, is_late, stays_at, next_turn};
 
 /// Each sentence at an example.
@@ -72,18 +83,73 @@ pub fn further_sentences_have_examples()
         ≡ None }
 {}
 
-/// Who is done goes, or whose socket was ready and failed; nobody else. Who comes has a place, and nobody else's is another's. Where nobody
-/// may come nobody does. Who is looked at stays who they are.
-pub fn who_goes_and_who_comes_has_examples()
-    ensures not_ready { (was gone : Visitor) → was.may_read ≡ false → was.may_write ≡ false → Goes was gone → IsDone (history gone.connection) }
-    ensures not_failed { (was gone : Visitor) → gone.may_read ≡ true → gone.may_write ≡ true → Goes was gone → IsDone (history gone.connection) }
-    ensures one_place { (host : Ipv4Addr) (one : Box Visitor) (are : List (Option (Box Visitor))) → Comes host 5 (Some one ∷ []) are
-        → (are ≡ Some one ∷ []) ⊎ ((visitor : Box Visitor) × (visitor.value.seat.active ≡ 5) × (are ≡ Some visitor ∷ [])) }
-    ensures nobody_comes { (was is : Site) → was.may_accept ≡ false → LetsIn 5 was is
+/// Who comes is waited for from then on, and has asked for nothing. Where something is told of their socket they have a turn.
+pub fn who_comes_has_examples()
+    ensures patience { patience_from 1000 ≡ 16000 }
+    ensures to_the_last { patience_from (2 ^ 64 - 1) ≡ 2 ^ 64 - 1 }
+    ensures waited_for { (host : Ipv4Addr) (visitor : Visitor) → IsNew host 5 visitor
+        → (visitor.seat.host ≡ host) × (visitor.seat.active ≡ 5) × (visitor.deadline ≡ 15005) }
+    ensures ready { (host : Ipv4Addr) (visitor : Visitor) → IsNew host 5 visitor
+        → (visitor.may_read ≡ true) × (visitor.may_write ≡ true) × (visitor.has_turn ≡ true) }
+    ensures asks_for_nothing { (host : Ipv4Addr) (visitor : Visitor) → IsNew host 5 visitor
+        → (calls_of visitor ≡ []) × ((config_of visitor.connection).max_body_len ≡ 1024) }
+    ensures told_readable { (was : Visitor) → was.may_read ≡ false → ((noted readable was).may_read ≡ true)
+        × ((noted readable was).has_turn ≡ true) }
+    ensures told_writable { (was : Visitor) → was.may_write ≡ false → ((noted writable was).may_write ≡ true)
+        × ((noted writable was).has_turn ≡ true) }
+    ensures still_readable { (was : Visitor) → was.may_read ≡ true → (noted writable was).may_read ≡ true }
+    ensures nothing_told { (was : Visitor) → noted no_visit was ≡ was }
+{}
+
+/// Whose socket is read was active then, and is waited for no longer; where it only has nothing more they stay.
+pub fn who_is_read_has_examples()
+    ensures active { (was is : Visitor) (stays : Bool) → ReadsSo 70 was (Ok 3) stays is
+        → (is.seat.active ≡ 70) × (is.seat.host ≡ was.seat.host) × (is.deadline ≡ was.deadline) × (stays ≡ true) }
+    ensures nothing_more { (fault : Error) (was is : Visitor) (stays : Bool) → error_kind fault ≡ WouldBlock
+        → ReadsSo 70 was (Err fault) stays is → (stays ≡ true) × (is.may_read ≡ false) × (is.seat ≡ was.seat) }
+    ensures gone { (fault : Error) (was is : Visitor) (stays : Bool) → error_kind fault ≡ ConnectionReset
+        → ReadsSo 70 was (Err fault) stays is → stays ≢ true }
+    ensures not_told { (was is : Visitor) (stays : Bool) → was.may_read ≡ false → ReadsOnce 70 was stays is → (is ≡ was) × (stays ≡ true) }
+{}
+
+/// Who takes what waits for them was active then, and is waited for anew once nothing waits; who takes nothing goes.
+pub fn who_is_written_to_has_examples()
+    ensures all { (was is : Visitor) (stays : Bool) → WritesSo 70 was (Ok 3) stays is → length (history is.connection).pending ≡ 0
+        → is.deadline ≡ 15070 }
+    ensures some { (was is : Visitor) (stays : Bool) → WritesSo 70 was (Ok 3) stays is → length (history is.connection).pending ≡ 1
+        → is.deadline ≡ was.deadline }
+    ensures active { (was is : Visitor) (stays : Bool) → WritesSo 70 was (Ok 3) stays is
+        → (is.seat.active ≡ 70) × (is.seat.host ≡ was.seat.host) × (stays ≡ true) }
+    ensures none { (was is : Visitor) (stays : Bool) → WritesSo 70 was (Ok 0) stays is → (stays ≡ false) × (is.seat ≡ was.seat) }
+    ensures no_room { (fault : Error) (was is : Visitor) (stays : Bool) → error_kind fault ≡ WouldBlock
+        → WritesSo 70 was (Err fault) stays is → (stays ≡ true) × (is.may_write ≡ false) × (is.deadline ≡ was.deadline) }
+    ensures gone { (fault : Error) (was is : Visitor) (stays : Bool) → error_kind fault ≡ ConnectionReset
+        → WritesSo 70 was (Err fault) stays is → stays ≢ true }
+    ensures not_told { (was is : Visitor) (stays : Bool) → was.may_write ≡ false → WritesOnce 70 was stays is → (is ≡ was) × (stays ≡ true) }
+    ensures stays { (site : SocketAddrV4) (names : List (List ℕ)) (was is : Visitor) (board shown : BoardState) →
+        EndsTurn site names true was board true is shown → IsDone (history is.connection) → ⊥ }
+    ensures goes { (site : SocketAddrV4) (names : List (List ℕ)) (was is : Visitor) (board shown : BoardState) →
+        EndsTurn site names true was board false is shown → IsDone (history is.connection) }
+{}
+
+/// What was told of each socket is noted of who has its place. Who comes has the place that is for them, and nobody else's is another's.
+/// Where nobody may come nobody does.
+pub fn who_has_places_has_examples()
+    ensures opened { (site : Site) → IsOpened (codes "rgw" ∷ []) site → (length site.places.items ≡ 16) × (site.may_accept ≡ true)
+        × (site.last ≡ 0) }
+    ensures each { (one two : Visitor) → noted_each (Some one ∷ None ∷ Some two ∷ []) (no_visit ∷ readable ∷ readable ∷ [])
+        ≡ Some one ∷ None ∷ Some (noted readable two) ∷ [] }
+    ensures untold { (one : Visitor) → noted_each (Some one ∷ []) [] ≡ Some one ∷ [] }
+    ensures seat { (one : Box Visitor) → map seat_in (Some one ∷ None ∷ []) ≡ Some one.value.seat ∷ None ∷ [] }
+    ensures visitor { (one : Box Visitor) → map visitor_in (Some one ∷ None ∷ []) ≡ Some one.value ∷ None ∷ [] }
+    ensures host { (host : Ipv4Addr) → host_of (V4 (record { ip = host; port = 80 })) ≡ host }
+    ensures seated { (host : Ipv4Addr) (one : Box Visitor) (are : List (Option (Box Visitor))) → SeatsAt (Some 1) host 5 (Some one ∷ None ∷ []) are
+        → (visitor : Box Visitor) × (visitor.value.seat.active ≡ 5) × (are ≡ Some one ∷ Some visitor ∷ []) }
+    ensures unseated { (host : Ipv4Addr) (were are : List (Option (Box Visitor))) → SeatsAt None host 5 were are → are ≡ were }
+    ensures nobody { (came : Came) (was is : Site) → was.may_accept ≡ false → LetsIn 5 came was is
         → (is.places.items ≡ was.places.items) × (is.may_accept ≡ false) }
-    ensures somebody { (one other : Box Visitor) → who (Some one) ≡ who (Some other) → (one.value.seat ≡ other.value.seat)
-        × (one.value.deadline ≡ other.value.deadline) × (one.value.connection ≡ other.value.connection) }
-    ensures no_visitor { who None ≡ None }
+    ensures let_in { (was is : Site) → LetsIn 5 LetIn was is → is.may_accept ≡ true }
+    ensures turned_away { (was is : Site) → LetsIn 5 TurnedAway was is → (is.places.items ≡ was.places.items) × (is.may_accept ≡ true) }
 {}
 
 /// What is read says of what kind it is, and what a browser may make of it; what isn't there says nothing.

@@ -1,13 +1,18 @@
-//! Laws of what requests make of the desk, for every request.
-ghost use Rattle.std.specs.Prelude.{◌≡◌, ℕ, List, [], false};
+//! Laws of what requests make of the desk, for every request, and of who is at the site, for every turn.
+ghost use Rattle.std.specs.Prelude.{◌≡◌, ℕ, List, [], map, false};
 ghost use Rattle.http.specs.declared.request.Request.{Request};
 ghost use Rattle.http.specs.Request.{head_of};
 ghost use Rattle.http_server.specs.declared.response.Response.{Response};
 ghost use Rattle.http_server.specs.Response.{IsResponse};
 ghost use Rattle.page_access.specs.Asking.{is_at_home, is_by_name, may_change};
 ghost use Rattle.page_access.specs.Naming.{names_of};
+ghost use Rattle.live_ends.specs.declared.readiness.Readiness.{Readiness};
+ghost use Rattle.page_access.specs.Seating.{AreFew};
+ghost use Rattle.page_board.specs.Showing.{BoardState};
 ghost use Rattle.live_page.specs.declared.desk.Desk.{Desk};
+ghost use Rattle.live_page.specs.declared.site.Site.{Site};
 ghost use Rattle.live_page.specs.Answering.{Answers};
+ghost use Rattle.live_page.specs.Receiving.{seat_in, IsOpened, ServesOne};
 
 /// Nothing that the board has changes at what another page asks.
 pub fn strangers_change_nothing()
@@ -20,4 +25,11 @@ pub fn another_host_is_told_nothing()
     ensures { (old new : Desk) (request : Request (List ℕ)) (response : Response) → Answers old request response new
         → is_at_home old.site (head_of request) ≡ false → is_by_name (names_of old.names.now) (head_of request) ≡ false
         → IsResponse 421 [] [] response }
+{}
+
+/// No address has more visitors at the site than it may have: not before anybody came, nor behind any turn.
+pub fn an_address_has_no_more_visitors_than_it_may()
+    ensures opened { (names : List (List ℕ)) (site : Site) → IsOpened names site → AreFew (map seat_in site.places.items) }
+    ensures served { (was is : Site) (told after : Readiness) (board shown : BoardState) (now : ℕ) → ServesOne was told board now is after shown
+        → AreFew (map seat_in was.places.items) → AreFew (map seat_in is.places.items) }
 {}

@@ -2,7 +2,8 @@
 //!
 //! A library hands on, with a type that it shows, all that the type's private fields are made of, and its check pays for that: here
 //! sockets and a server of HTTP. So the site isn't shown. A program is told of it as of some type that receives visitors.
-ghost use Rattle.std.specs.Prelude.{◌≡◌};
+ghost use Rattle.std.specs.Prelude.{◌≡◌, IfOk};
+ghost use Rattle.page_access.specs.Naming.{names_of};
 
 use crate::site::Site;
 use live_ends::Readiness;
@@ -15,9 +16,12 @@ use std::random::RandomSource;
 
 /// Who receives the visitors of a page.
 pub trait Reception: Drop {
-    ghost use Rattle.std.specs.Prelude.{ℕ, Bool, Option};
+    ghost use Rattle.std.specs.Prelude.{ℕ, Bool, List, Option};
     ghost use Rattle.live_ends.specs.declared.readiness.Readiness.{Readiness};
     ghost use Rattle.page_board.specs.Showing.{BoardState};
+
+    /// Nobody is there yet, and it may be asked under these further names.
+    ghost opens: { List (List ℕ) → Self → Type 0 };
 
     /// A visitor has more to do at once, or somebody may have come.
     ghost busy: { Self → Bool };
@@ -35,7 +39,8 @@ pub trait Reception: Drop {
         address: SocketAddrV4,
         names: HostNames,
         ready: &Readiness,
-    ) -> io::Result<Self>;
+    ) -> io::Result<Self>
+        ensures { IfOk result (λ site. opens (names_of names) site) };
 
     /// The address of its socket, where that is known.
     fn address(&self) -> Option<SocketAddrV4>;

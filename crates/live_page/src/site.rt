@@ -1,8 +1,9 @@
 //! The site: the socket at which browsers ask for the page, and whose turn it is.
-ghost use Rattle.std.specs.Prelude.{◌≡◌, ◌||◌, None, IfSome, IsSomeAnd, false, is_some, map, replicate, slice_get};
+ghost use Rattle.std.specs.Prelude.{◌≡◌, ◌||◌, None, IfOk, IfSome, IsSomeAnd, OnErr, OnOk, false, is_some, map, replicate, slice_get};
 ghost use Rattle.live_ends.specs.Looking.{no_visit};
 ghost use Rattle.page_access.specs.Naming.{names_of};
-ghost use Rattle.live_page.specs.Visiting.{who, Comes, LetsIn, ServesPlace, with_place, ServesNext};
+ghost use Rattle.page_access.specs.Places.{place_for};
+ghost use Rattle.live_page.specs.Receiving.{host_of, seat_in, visitor_in, noted_in, noted_each, IsOpened, SeatsAt, LetsIn, ServesPlace, with_place, ServesNext};
 ghost use Rattle.live_page.specs.Waiting.{deadline_of, sooner, soonest_from, is_late, stays_at, has_more, is_behind, turn_from, next_turn};
 
 use crate::desk::Desk;
@@ -17,6 +18,17 @@ use std::hash::RandomState;
 use std::io;
 use std::net::{Ipv4Addr, Net, SocketAddr, SocketAddrV4};
 use std::random::RandomSource;
+
+/// What becomes of looking for somebody who comes.
+#[derive(Clone, Copy)]
+pub enum Came {
+    /// Nobody has come.
+    Nobody,
+    /// Somebody has, who is served.
+    LetIn,
+    /// Somebody has, who can't be served, for want of memory, or since the system refuses.
+    TurnedAway,
+}
 
 /// The socket at which visitors come, and those that are there.
 pub struct Site {
@@ -52,7 +64,9 @@ impl Drop for Site {
 }
 
 // The address of a visitor. The site's socket hears none of another kind than its own.
-fn host_of(source: SocketAddr) -> Ipv4Addr {
+fn host_of(source: SocketAddr) -> Ipv4Addr
+    ensures { result ≡ host_of source }
+{
     match source {
         SocketAddr::V4(source) => *source.ip(),
         SocketAddr::V6(_) => Ipv4Addr::UNSPECIFIED,
@@ -135,21 +149,23 @@ fn turn_behind(places: &[Option<Box<Visitor>>], last: Option<usize>) -> Option<u
 
 // What was told of the socket of whoever has the place.
 fn note_visit(place: &mut Option<Box<Visitor>>, visit: Visit)
-    ensures { who place.new ≡ who place.old }
+    ensures { visitor_in place.new ≡ noted_in visit (visitor_in place.old) }
 {
     if let Some(visitor) = place {
         visitor.note(visit);
     }
 }
 
-// What was told of each visitor's socket. Who is there stays.
-#[tactic(auto, using(crate::proofs::VisitLemmas::stays_there))]
-fn note_visits(places: &mut [Option<Box<Visitor>>], visits: &[Visit; MOST_VISITORS])
-    ensures { map who places.new ≡ map who places.old }
+// What was told of each visitor's socket, from the first place on.
+#[tactic(auto, unfolding(crate::specs::Receiving::noted_each))]
+fn note_visits(places: &mut [Option<Box<Visitor>>], visits: &[Visit])
+    ensures { map visitor_in places.new ≡ noted_each (map visitor_in places.old) visits.now }
 {
-    for place in 0..MOST_VISITORS {
-        if let Some(held) = places.get_mut(place) {
-            note_visit(held, visits[place]);
+    let mut left = visits;
+    for place in places.iter_mut() {
+        if let Some((visit, more)) = left.split_first() {
+            note_visit(place, *visit);
+            left = more;
         }
     }
 }
@@ -157,7 +173,7 @@ fn note_visits(places: &mut [Option<Box<Visitor>>], visits: &[Visit; MOST_VISITO
 // Whoever has the place has a turn, and goes where nothing more is to be done for them.
 fn serve_place(held: &mut Option<Box<Visitor>>, desk: &mut Desk<'_>, now: u64)
     ensures same_reference { desk.new.board.ghost_name ≡ desk.old.board.ghost_name }
-    ensures served { ServesPlace desk.old.site (names_of desk.old.names.now) held.old desk.old.board.now held.new desk.new.board.now }
+    ensures served { ServesPlace desk.old.site (names_of desk.old.names.now) now held.old desk.old.board.now held.new desk.new.board.now }
 {
     let Some(visitor) = held else {
         return;
@@ -167,8 +183,30 @@ fn serve_place(held: &mut Option<Box<Visitor>>, desk: &mut Desk<'_>, now: u64)
     }
 }
 
+fn seat_in(place: &Option<Box<Visitor>>) -> Option<Seat>
+    ensures { result ≡ seat_in place.now }
+{
+    match place {
+        Some(visitor) => Some(visitor.seat()),
+        None => None,
+    }
+}
+
+// Who has each place.
+fn seats_of(alloc: Global, places: &[Option<Box<Visitor>>]) -> Result<Vec<Option<Seat>>, AllocError>
+    ensures { IfOk result (λ seats. seats.items ≡ map seat_in places.now) }
+{
+    let mut seats = Vec::with_capacity(alloc, places.len())?;
+    for place in places {
+        seats.push(seat_in(place))?;
+    }
+    Ok(seats)
+}
+
 // Nobody has any of the places.
-fn free_places(alloc: Global) -> Result<Vec<Option<Box<Visitor>>>, AllocError> {
+fn free_places(alloc: Global) -> Result<Vec<Option<Box<Visitor>>>, AllocError>
+    ensures { IfOk result (λ places. places.items ≡ replicate MOST_VISITORS None) }
+{
     let mut places = Vec::with_capacity(alloc, MOST_VISITORS)?;
     for _ in 0..MOST_VISITORS {
         places.push(None)?;
@@ -184,7 +222,9 @@ impl Site {
         address: SocketAddrV4,
         names: HostNames,
         ready: &Readiness,
-    ) -> io::Result<Site> {
+    ) -> io::Result<Site>
+        ensures { IfOk result (λ site. IsOpened (names_of names) site) }
+    {
         let places = free_places(alloc)?;
         let mut listener = TcpListener::bind(rt, SocketAddr::V4(address))?;
         ready.watch_listener(&mut listener)?;
@@ -242,7 +282,7 @@ impl Site {
         ensures address { self.new.address ≡ self.old.address }
         ensures names { names_of self.new.names ≡ names_of self.old.names }
         ensures last { self.new.last ≡ self.old.last }
-        ensures same { map who self.new.places.items ≡ map who self.old.places.items }
+        ensures noted { map visitor_in self.new.places.items ≡ noted_each (map visitor_in self.old.places.items) ready.old.visits }
         ensures accepting { self.new.may_accept ≡ (self.old.may_accept || ready.old.listener) }
         ensures forgotten { ready.new ≡ record ready.old { listener = false; visits = replicate MOST_VISITORS no_visit } }
     {
@@ -252,24 +292,16 @@ impl Site {
         ready.forget_visits();
     }
 
-    // Who has each place.
-    fn seats(&self) -> [Option<Seat>; MOST_VISITORS] {
-        let mut seats = [None; MOST_VISITORS];
-        for place in 0..MOST_VISITORS {
-            if let Some(Some(visitor)) = self.places.get(place) {
-                seats[place] = Some(visitor.seat());
-            }
-        }
-        seats
-    }
-
     // The place of somebody who comes from this address.
-    fn place_for(&self, host: Ipv4Addr) -> Option<usize> {
-        place_for(&self.seats(), host)
+    fn place_for(&self, host: Ipv4Addr) -> Result<Option<usize>, AllocError>
+        ensures { IfOk result (λ place. place ≡ place_for (map seat_in self.now.places.items) host) }
+    {
+        let seats = seats_of(self.alloc, self.places.as_slice())?;
+        Ok(place_for(seats.as_slice(), host))
     }
 
     // Serves somebody who came from this address; who has the place gives way, and their connection is closed.
-    #[tactic(auto, using(crate::proofs::VisitLemmas::turned_away, crate::proofs::VisitLemmas::has_a_place))]
+    #[tactic(auto, using(crate::proofs::ReceivingLemmas::seats_nobody, crate::proofs::ReceivingLemmas::seats_there, crate::proofs::ReceivingLemmas::seats_nowhere))]
     fn welcome<R: RandomSource>(
         &mut self,
         rt: &R,
@@ -281,10 +313,11 @@ impl Site {
         ensures address { self.new.address ≡ self.old.address }
         ensures names { names_of self.new.names ≡ names_of self.old.names }
         ensures last { self.new.last ≡ self.old.last }
-        ensures comes { Comes host now self.old.places.items self.new.places.items }
         ensures accepting { self.new.may_accept ≡ self.old.may_accept }
+        ensures ok { OnOk result (SeatsAt (place_for (map seat_in self.old.places.items) host) host now self.old.places.items self.new.places.items) }
+        ensures err { OnErr result (self.new.places.items ≡ self.old.places.items) }
     {
-        let Some(place) = self.place_for(host) else {
+        let Some(place) = self.place_for(host)? else {
             return Ok(());
         };
         ready.watch_visitor(&mut stream, place)?;
@@ -296,22 +329,25 @@ impl Site {
     }
 
     /// Takes somebody who has come, if anybody has.
-    #[tactic(auto, using(crate::proofs::VisitLemmas::nobody_came, crate::proofs::VisitLemmas::somebody_came))]
-    pub fn accept<R: RandomSource>(&mut self, rt: &R, ready: &Readiness, now: u64)
+    #[tactic(auto, using(crate::proofs::ReceivingLemmas::let_in))]
+    pub fn accept<R: RandomSource>(&mut self, rt: &R, ready: &Readiness, now: u64) -> Came
         ensures address { self.new.address ≡ self.old.address }
         ensures names { names_of self.new.names ≡ names_of self.old.names }
         ensures last { self.new.last ≡ self.old.last }
-        ensures lets { LetsIn now self.old self.new }
+        ensures lets { LetsIn now result self.old self.new }
     {
         if !self.may_accept {
-            return;
+            return Came::Nobody;
         }
         match self.listener.accept() {
-            // Who can't be served is turned away.
-            Ok((stream, source)) => {
-                let _ = self.welcome(rt, ready, now, stream, host_of(source));
+            Ok((stream, source)) => match self.welcome(rt, ready, now, stream, host_of(source)) {
+                Ok(()) => Came::LetIn,
+                Err(_) => Came::TurnedAway,
+            },
+            Err(_) => {
+                self.may_accept = false;
+                Came::Nobody
             }
-            Err(_) => self.may_accept = false,
         }
     }
 
@@ -319,7 +355,7 @@ impl Site {
     fn serve_at(&mut self, address: SocketAddrV4, place: usize, board: &mut Board, now: u64)
         ensures served { IfSome (slice_get self.old.places.items place) (λ held.
             IsSomeAnd (slice_get self.new.places.items place) (λ left.
-            ServesPlace address (names_of self.old.names) held board.old left board.new)) }
+            ServesPlace address (names_of self.old.names) now held board.old left board.new)) }
         ensures others { self.new.places.items ≡ with_place place (slice_get self.new.places.items place) self.old.places.items }
         ensures rest { self.new ≡ record self.old { places = self.new.places; last = place } }
     {
@@ -332,7 +368,7 @@ impl Site {
 
     /// A turn of one visitor who has more to do, each in their turn: it is answered by this board.
     pub fn turn(&mut self, board: &mut Board, now: u64)
-        ensures { ServesNext self.old.address (next_turn self.old.last self.old.places.items) self.old board.old self.new board.new }
+        ensures { ServesNext self.old.address (next_turn self.old.last self.old.places.items) now self.old board.old self.new board.new }
     {
         let Some(address) = self.address else {
             return;
@@ -346,8 +382,10 @@ impl Site {
 
 impl Reception for Site {
     ghost use Rattle.std.specs.Prelude.{◌||◌, None, is_some};
-    ghost use Rattle.live_page.specs.Visiting.{ServesOne};
+    ghost use Rattle.live_page.specs.Receiving.{IsOpened, ServesOne};
     ghost use Rattle.live_page.specs.Waiting.{soonest_from, next_turn};
+
+    ghost opens = { λ names site. IsOpened names site };
 
     ghost busy = { λ site. site.may_accept || is_some (next_turn site.last site.places.items) };
 
@@ -388,7 +426,7 @@ impl Reception for Site {
     ) {
         self.close_late(now);
         self.look(ready);
-        self.accept(rt, ready, now);
+        let _ = self.accept(rt, ready, now);
         self.turn(board, now);
     }
 }

@@ -1,7 +1,7 @@
 //! A visitor: a browser's connection, with the moment until which it is waited for.
-ghost use Rattle.std.specs.Prelude.{◌≡◌, true, false, IsTrue, IfOk};
+ghost use Rattle.std.specs.Prelude.{◌≡◌, ◌⊎◌, ◌↔◌, IsTrue, IfOk};
 ghost use Rattle.page_access.specs.Naming.{names_of};
-ghost use Rattle.live_page.specs.Visiting.{calls_of, AnswersVisitor, Goes, IsAnswered};
+ghost use Rattle.live_page.specs.Visiting.{calls_of, noted, AnswersAll, AnswersVisitor, CanRead, CanWrite, IsAnswered, IsNew, IsWaiting, ReadsOnce, TakesTurn, WritesOnce};
 
 use crate::desk::Desk;
 use http_server::{Config, Connection};
@@ -48,7 +48,9 @@ pub(crate) struct Visitor {
 }
 
 // Whether a fault of a socket says only that it isn't ready.
-fn is_waiting(fault: &io::Error) -> bool {
+fn is_waiting(fault: &io::Error) -> bool
+    ensures { IsTrue result ↔ IsWaiting fault.now }
+{
     fault.kind() == ErrorKind::WouldBlock
 }
 
@@ -61,7 +63,7 @@ impl Visitor {
         keys: RandomState,
         now: u64,
     ) -> Result<Box<Visitor>, AllocError>
-        ensures { IfOk result (λ visitor. visitor.value.seat ≡ record { host = host; active = now }) }
+        ensures { IfOk result (λ visitor. IsNew host now visitor.value) }
     {
         boxed(
             alloc,
@@ -86,7 +88,7 @@ impl Visitor {
 
     /// Its socket can be read or written, as far as was told.
     pub(crate) fn note(&mut self, visit: Visit)
-        ensures { self.new ≡ record self.old { may_read = self.new.may_read; may_write = self.new.may_write; has_turn = self.new.has_turn } }
+        ensures { self.new ≡ noted visit self.old }
     {
         if visit.is_readable || visit.is_writable {
             self.may_read = self.may_read || visit.is_readable;
@@ -95,13 +97,26 @@ impl Visitor {
         }
     }
 
+    // Whether its socket may have something, and more may come.
+    fn can_read(&self) -> bool
+        ensures { IsTrue result ↔ CanRead self.now }
+    {
+        self.may_read && self.connection.wants_read()
+    }
+
+    // Whether its socket may have room, and something waits for it.
+    fn can_write(&self) -> bool
+        ensures { IsTrue result ↔ CanWrite self.now }
+    {
+        self.may_write && self.connection.wants_write()
+    }
+
     // Reads once, where there is something. Gives whether the visitor stays.
     fn read(&mut self, now: u64) -> bool
         ensures calls { calls_of self.new ≡ calls_of self.old }
-        ensures failed { result ≡ false → (self.old.may_read ≡ true) × (self.new.may_read ≡ false) }
-        ensures writes { self.new.may_write ≡ self.old.may_write }
+        ensures reads { ReadsOnce now self.old result self.new }
     {
-        if !self.may_read || !self.connection.wants_read() {
+        if !self.can_read() {
             return true;
         }
         match self.connection.read_from(&mut self.stream) {
@@ -119,9 +134,9 @@ impl Visitor {
     // Writes once, where something waits. Gives whether the visitor stays.
     fn write(&mut self, now: u64) -> bool
         ensures calls { calls_of self.new ≡ calls_of self.old }
-        ensures failed { result ≡ false → (self.old.may_write ≡ true) × (self.new.may_write ≡ false) }
+        ensures writes { WritesOnce now self.old result self.new }
     {
-        if !self.may_write || !self.connection.wants_write() {
+        if !self.can_write() {
             return true;
         }
         match self.connection.write_to(&mut self.stream) {
@@ -145,10 +160,10 @@ impl Visitor {
     }
 
     // Whether it can be read or written once more.
-    fn has_more(&self) -> bool {
-        let reads = self.may_read && self.connection.wants_read();
-        let writes = self.may_write && self.connection.wants_write();
-        reads || writes
+    fn has_more(&self) -> bool
+        ensures { IsTrue result ↔ (CanRead self.now ⊎ CanWrite self.now) }
+    {
+        self.can_read() || self.can_write()
     }
 
     // Answers what came.
@@ -156,10 +171,8 @@ impl Visitor {
         ensures site { desk.new.site ≡ desk.old.site }
         ensures names { names_of desk.new.names.now ≡ names_of desk.old.names.now }
         ensures same_reference { desk.new.board.ghost_name ≡ desk.old.board.ghost_name }
-        ensures answered { AnswersVisitor desk.old.site (names_of desk.old.names.now) self.old desk.old.board.now
+        ensures answered { AnswersAll desk.old.site (names_of desk.old.names.now) self.old desk.old.board.now
             self.new desk.new.board.now }
-        ensures all { IsAnswered self.new }
-        ensures rest { self.new ≡ record self.old { connection = self.new.connection } }
     {
         self.connection.advance(desk);
     }
@@ -172,7 +185,8 @@ impl Visitor {
         ensures answered { AnswersVisitor desk.old.site (names_of desk.old.names.now) self.old desk.old.board.now
             self.new desk.new.board.now }
         ensures all { IsTrue result → IsAnswered self.new }
-        ensures goes { result ≡ false → Goes self.old self.new }
+        ensures turns { TakesTurn desk.old.site (names_of desk.old.names.now) now self.old desk.old.board.now
+            result self.new desk.new.board.now }
     {
         if !self.read(now) {
             return false;

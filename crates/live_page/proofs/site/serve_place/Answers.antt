@@ -4,5 +4,5 @@ pub returns-then-not-turn-clause-served : goal.returns-then-not-turn-clause-serv
 returns-then-not-turn-clause-served c = rw (c.in-Some.is) (
   c.turn.new.self,
   rw (c.deref_mut.ensures.value) at c.turn.ensures.answered,
-  rw (c.deref_mut.ensures.value) at (c.turn.ensures.goes c.if-not-turn.true),
+  rw (c.deref_mut.ensures.value, c.if-not-turn.true) at c.turn.ensures.turns,
 )

@@ -1,3 +1,4 @@
+use Rattle.std.proofs.Common.{refl}
 use Rattle.live_page.proofs.VisitLemmas.{worked}
 use Rattle.live_page.proofs.visitor.Visitor.answer.Goals as goal
 
@@ -11,11 +12,14 @@ pub returns-clause-same_reference : goal.returns-clause-same_reference
 returns-clause-same_reference c = (worked c.args.desk.now c.advance.ensures.calls.0 c.advance.new.service c.advance.ensures.calls.2).2
 
 pub returns-clause-answered : goal.returns-clause-answered
-returns-clause-answered c = (
-  c.advance.ensures.calls.0,
-  c.advance.ensures.calls.1,
-  (worked c.args.desk.now c.advance.ensures.calls.0 c.advance.new.service c.advance.ensures.calls.2).3,
-)
-
-pub returns-clause-all : goal.returns-clause-all
-returns-clause-all c = c.advance.ensures.rests
+returns-clause-answered c = record {
+  answers = (
+    c.advance.ensures.calls.0,
+    c.advance.ensures.calls.1,
+    (worked c.args.desk.now c.advance.ensures.calls.0 c.advance.new.service c.advance.ensures.calls.2).3,
+  );
+  all = c.advance.ensures.rests;
+  quiet = c.advance.ensures.quiet;
+  limits = c.advance.ensures.config;
+  rest = refl;
+}

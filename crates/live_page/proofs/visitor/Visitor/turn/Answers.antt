@@ -1,7 +1,7 @@
-use Rattle.std.proofs.Common.{inl, inr, sym, ap, ◌∙◌}
+use Rattle.std.proofs.Common.{true, false, refl, ap, subst, not, Bool}
 use Rattle.page_access.specs.Naming.{names_of}
-use Rattle.live_page.specs.declared.visitor.Visitor.{Visitor}
-use Rattle.live_page.proofs.VisitLemmas.{so_behind, none_answered, answered_before, answered_behind, answered_both}
+use Rattle.live_page.specs.Visiting.{ReadsOnce, WritesOnce}
+use Rattle.live_page.proofs.VisitLemmas.{so_behind, none_answered, answered_before, answered_behind, answered_both, answers_there}
 use Rattle.live_page.proofs.visitor.Visitor.turn.Goals as goal
 
 pub returns-then-not-read-clause-answered : goal.returns-then-not-read-clause-answered
@@ -13,7 +13,7 @@ returns-then-not-write-clause-answered c =
     answered_before c.args.desk.now.site (names_of c.args.desk.now.names.now) c.args.self.now c.answer.new.self c.write.new.self
     c.args.desk.now.board.now c.answer.new.desk.board.now
     (answered_behind c.args.desk.now.site (names_of c.args.desk.now.names.now) c.args.self.now c.read.new.self c.answer.new.self
-    c.args.desk.now.board.now c.answer.new.desk.board.now c.read.ensures.calls c.answer.ensures.answered)
+    c.args.desk.now.board.now c.answer.new.desk.board.now c.read.ensures.calls c.answer.ensures.answered.answers)
     c.write.ensures.calls
 
 pub returns-clause-answered : goal.returns-clause-answered
@@ -22,19 +22,61 @@ returns-clause-answered c =
     let names = names_of c.args.desk.now.names.now in
     let first = answered_before site names c.args.self.now c.answer.new.self c.write.new.self c.args.desk.now.board.now c.answer.new.desk.board.now
     (answered_behind site names c.args.self.now c.read.new.self c.answer.new.self c.args.desk.now.board.now c.answer.new.desk.board.now c.read.ensures.calls
-    c.answer.ensures.answered)
+    c.answer.ensures.answered.answers)
     c.write.ensures.calls in
     answered_both site c.answer.new.desk.site names (names_of c.answer.new.desk.names.now) c.args.self.now c.write.new.self c.answer-2.new.self
     c.args.desk.now.board.now c.answer.new.desk.board.now c.answer-2.new.desk.board.now first c.answer.ensures.site c.answer.ensures.names
-    c.answer-2.ensures.answered
+    c.answer-2.ensures.answered.answers
 
-pub returns-then-not-read-clause-goes : goal.returns-then-not-read-clause-goes
-returns-then-not-read-clause-goes c = λ over. inr (inl (c.read.ensures.failed c.if-not-read.true))
+pub returns-then-not-read-clause-turns : goal.returns-then-not-read-clause-turns
+returns-then-not-read-clause-turns c = (
+  false,
+  c.read.new.self,
+  subst (λ (gives : Bool). ReadsOnce c.args.now c.args.self.now gives c.read.new.self) c.if-not-read.true c.read.ensures.reads,
+  (refl, refl, refl),
+)
 
-pub returns-then-not-write-clause-goes : goal.returns-then-not-write-clause-goes
-returns-then-not-write-clause-goes c = λ over.
-    let failed = c.write.ensures.failed c.if-not-write.true in
-    inr (inr (sym c.read.ensures.writes ∙ sym (ap (λ (visitor : Visitor). visitor.may_write) c.answer.ensures.rest) ∙ failed.0, failed.1))
+pub returns-then-not-write-clause-turns : goal.returns-then-not-write-clause-turns
+returns-then-not-write-clause-turns c = (
+  true,
+  c.read.new.self,
+  subst (λ (gives : Bool). ReadsOnce c.args.now c.args.self.now gives c.read.new.self) c.if-not-read.false c.read.ensures.reads,
+  (
+    c.answer.new.self,
+    c.answer.new.desk.board.now,
+    c.answer.ensures.answered,
+    (
+      false,
+      c.write.new.self,
+      subst (λ (takes : Bool). WritesOnce c.args.now c.answer.new.self takes c.write.new.self) c.if-not-write.true c.write.ensures.writes,
+      (refl, refl, refl),
+    ),
+  ),
+)
 
-pub returns-clause-goes : goal.returns-clause-goes
-returns-clause-goes c = λ over. inl (c.is_done.ensures.0 (so_behind c.is_done.result over))
+pub returns-clause-turns : goal.returns-clause-turns
+returns-clause-turns c = (
+  true,
+  c.read.new.self,
+  subst (λ (gives : Bool). ReadsOnce c.args.now c.args.self.now gives c.read.new.self) c.if-not-read.false c.read.ensures.reads,
+  (
+    c.answer.new.self,
+    c.answer.new.desk.board.now,
+    c.answer.ensures.answered,
+    (
+      true,
+      c.write.new.self,
+      subst (λ (takes : Bool). WritesOnce c.args.now c.answer.new.self takes c.write.new.self) c.if-not-write.false c.write.ensures.writes,
+      (
+        c.answer-2.new.self,
+        answers_there c.args.desk.now.site c.answer.new.desk.site (names_of c.args.desk.now.names.now) (names_of c.answer.new.desk.names.now)
+            c.write.new.self c.answer-2.new.self c.answer.new.desk.board.now c.answer-2.new.desk.board.now c.answer.ensures.site c.answer.ensures.names
+            c.answer-2.ensures.answered,
+        refl,
+        c.has_more-self.ensures,
+        (λ over. c.is_done.ensures.0 (so_behind c.is_done.result over)),
+        (λ done. ap not (c.is_done.ensures.1 done)),
+      ),
+    ),
+  ),
+)
