@@ -591,6 +591,12 @@ ends_as_told m event line text refusal answer were are was is possible ended tol
       wanted None true possible ended wants = absurd cc
       wanted None false possible ended wants = wants ended
 
+-- where want of memory is told of it, nothing else is told
+pub told_nothing : (line text : List ℕ) (refusal answer : Refusal) (were are : Option (List ℕ)) (was is : Script)
+    → TellsRefusal line refusal answer text were was are is → answer ≡ OutOfMemory → (are ≡ were) × (is ≡ was)
+told_nothing line text refusal answer were are was is (inl quiet) memory = (quiet.1, quiet.2)
+told_nothing line text refusal answer were are was is (inr said) memory = absurd (said.1 (sym said.0 ∙ memory))
+
 -- ---- lines that say an act or a question
 
 pub says_act : (line : List ℕ) (number : ℕ) (act : Act) → line_in (words line) ≡ Some (Whole (Phone number act)) → Says (typed line) (give (phone number act))

@@ -117,8 +117,8 @@ impl<T: Teller + Drop> LivePlay<T> {
         hand_all(self.alloc, &mut self.teller, out, datagrams, messages, told);
     }
 
-    /// The clock goes to this moment, in ms: what the gateway sends at it is handed out. A refused tick changes nothing. What was answered
-    /// last stays.
+    /// The clock goes to this moment, in ms: what the gateway sends at it is handed out. A refused tick changes nothing, nor is the trace told
+    /// of it. What was answered last stays.
     #[tactic(auto, using(crate::proofs::RunLemmas::goes_on_quietly))]
     pub fn tick<O: Outlet>(&mut self, out: &mut O, moment: u64) -> Result<(), Refusal>
         ensures ran { RanOf (λ input. input ≡ passed moment)
@@ -138,6 +138,7 @@ impl<T: Teller + Drop> LivePlay<T> {
         ensures ends { (before : List GatewayEvent) → Stands self.old.gateway.value before →
             Ends (plain self.old.gateway.value.setup before) (tick moment) (result_err result) }
         ensures printed { self.new.printed ≡ self.old.printed }
+        ensures unheard { OnErr result (self.new ≡ record self.old { gateway = self.new.gateway }) }
     {
         match take(&mut self.gateway, Event::Tick { moment }) {
             Ok(outputs) => {
@@ -150,8 +151,8 @@ impl<T: Teller + Drop> LivePlay<T> {
         }
     }
 
-    /// A datagram came from there: what the gateway sends at it is handed out. Where memory is refused for it nothing is changed. What was
-    /// answered last stays.
+    /// A datagram came from there: what the gateway sends at it is handed out. Where memory is refused for it nothing is changed, nor is the
+    /// trace told of it. What was answered last stays.
     #[tactic(auto, using(crate::proofs::RunLemmas::goes_on_quietly))]
     pub fn datagram<O: Outlet>(
         &mut self,
@@ -177,6 +178,7 @@ impl<T: Teller + Drop> LivePlay<T> {
         ensures ends { (before : List GatewayEvent) → Stands self.old.gateway.value before →
             Ends (plain self.old.gateway.value.setup before) (datagram source bytes.now) (result_err result) }
         ensures printed { self.new.printed ≡ self.old.printed }
+        ensures unheard { OnErr result (self.new ≡ record self.old { gateway = self.new.gateway }) }
     {
         match take(&mut self.gateway, Event::Datagram { source, bytes }) {
             Ok(outputs) => {
@@ -197,7 +199,8 @@ impl<T: Teller + Drop> LivePlay<T> {
     }
 
     /// Something is done at the telephone of a line, as a line of text said: what the gateway sends at it is handed out. A refused act
-    /// changes nothing; why it was refused is `printed`, and saying that may want memory. An act that can be done and takes none is done.
+    /// changes nothing; why it was refused is `printed`, and saying that may want memory: then the trace isn't told of it. An act that can be
+    /// done and takes none is done.
     pub fn act<O: Outlet>(
         &mut self,
         out: &mut O,
@@ -225,6 +228,8 @@ impl<T: Teller + Drop> LivePlay<T> {
             → refusal_of (plain self.old.gateway.value.setup before) (phone line act) ≡ None
             → Ends (plain self.old.gateway.value.setup before) (phone line act) (result_err result) }
         ensures printed { OnOk result (self.new.printed ≡ self.old.printed) }
+        ensures unheard { IfErr result (λ refusal. refusal ≡ Refusal.OutOfMemory
+            → (T.told self.new.teller ≡ T.told self.old.teller) × (self.new.script ≡ self.old.script)) }
     {
         match take(&mut self.gateway, Event::Phone { line, act }) {
             Ok(outputs) => {
@@ -259,7 +264,8 @@ impl<T: Teller + Drop> LivePlay<T> {
         }
     }
 
-    /// What a line is is asked, as a line of text said: the answer is `printed`.
+    /// What a line is is asked, as a line of text said: the answer is `printed`. After an error, which is for want of memory, the trace wasn't
+    /// told of it.
     pub fn ask(&mut self, text: &[u8], line: u16) -> Result<(), OutOfMemory>
         requires { line_in (words text.now) ≡ Some (Whole (Show line)) }
         ensures ran { (handed : Option (List Sent)) → RanOf (λ input. input ≡ typed text.now)
@@ -268,6 +274,7 @@ impl<T: Teller + Drop> LivePlay<T> {
         ensures answered { (handed : Option (List Sent)) → OnOk result (Asked
             (live self.old.gateway.value self.old.script (T.told self.old.teller) handed) text.now line self.new.printed.items
             (live self.new.gateway.value self.new.script (T.told self.new.teller) handed)) }
+        ensures unanswered { OnErr result (self.new ≡ record self.old { printed = self.new.printed }) }
     {
         put_answer(self.alloc, &self.gateway, line, &mut self.printed)?;
         let printed = self.printed.as_slice();

@@ -2,7 +2,7 @@ use Rattle.std.proofs.Common.{◌≡◌, refl, ap}
 use Rattle.plain_machine.specs.Event.{phone}
 use Rattle.traces.specs.Writing.{Input, typed}
 use Rattle.live_play.specs.Running.{live}
-use Rattle.live_play.proofs.RunLemmas.{takes_so, goes_on_by, refuses_so, goes_on_refused, says_act, ends_as_told}
+use Rattle.live_play.proofs.RunLemmas.{takes_so, goes_on_by, refuses_so, goes_on_refused, says_act, ends_as_told, told_nothing}
 use Rattle.live_play.proofs.play.LivePlay.act.Goals as goal
 
 pub returns-in-Ok-clause-outlet : goal.returns-in-Ok-clause-outlet
@@ -36,3 +36,6 @@ returns-in-Ok-clause-ends g c = λ before stands possible. c.in-Ok.ensures.ends 
 pub returns-in-Err-clause-ends : goal.returns-in-Err-clause-ends
 returns-in-Err-clause-ends g c = λ before stands possible.
     ends_as_told _ _ c.args.text.now c.refuse.new.printed.items c.in-Err.refusal c.refuse.result _ _ _ _ possible (c.in-Err.ensures.ends before stands) c.refuse.ensures
+
+pub returns-in-Err-clause-unheard : goal.returns-in-Err-clause-unheard
+returns-in-Err-clause-unheard g c = told_nothing c.args.text.now c.refuse.new.printed.items c.in-Err.refusal c.refuse.result _ _ _ _ c.refuse.ensures
