@@ -86,14 +86,21 @@ TellsSome answers setup m before was after is =
     × RefusesLine setup m (suc line) mid is
 
 -- Where nobody watches at this moment nothing is told, and all stays. Else what changed at each line is told. Or memory is refused: each
--- who watches is told that, behind what changed at the lines before, and nobody watches any more; what was seen and which number comes
--- next stay as they were told last.
+-- who watches is told that, behind what changed at the lines before, and nobody watches any more; what was seen stays as it was told last,
+-- and no number is used again.
 abbrev pub WatchesOn : {S : Type 0} → (S → SocketAddr → List ℕ → S → Type 0) → Setup → Machine → S → Watch → S → Watch → Type 0
 WatchesOn {S} answers setup m before was after is =
     ((is_watched m.now was.watchers.places ≡ false) × (after ≡ before) × (is ≡ was))
     ⊎ ((is_watched m.now was.watchers.places ≡ true) × TellsLines answers setup m setup.names.lines before was after is)
     ⊎ ((is_watched m.now was.watchers.places ≡ true) × (is.watchers.places ≡ nobody) × (between : S)
     × TellsSome answers setup m before was between is × TellsEach answers m.now was.watchers.places between (codes "! 1 OutOfMemory\n") after)
+
+-- So it is of who watches, whatever the gateway stands for: they do so still; or all are told that memory is refused, and nobody does any
+-- more.
+abbrev pub WatchesStill :
+    {S : Type 0} → (S → SocketAddr → List ℕ → S → Type 0) → List (Option Watcher) → S → List (Option Watcher) → Type 0
+WatchesStill {S} answers were after are =
+    (are ≡ were) ⊎ ((are ≡ nobody) × (before : S) × (now : ℕ) × TellsEach answers now were before (codes "! 1 OutOfMemory\n") after)
 
 -- nobody watches, and nothing was seen or told yet: the first change has the number 1
 abbrev pub IsUnwatched : Watch → Type 0

@@ -7,7 +7,7 @@ ghost use Rattle.line_changes.specs.Telling.{with_changes, watching_line};
 ghost use Rattle.line_changes.specs.Watching.{longest_watch, nobody, is_watched, with_watcher};
 ghost use Rattle.surroundings.specs.Hearing.{AnswersTo};
 ghost use Rattle.live_telephones.specs.Asking.{usage};
-ghost use Rattle.live_telephones.specs.Watching.{changes_behind, sender_at, with_seen, lines_seen, BeginsToSee, IsUnasked, IsUnwatched, RefusesLine, TellsEach, TellsLine, TellsLines, TellsSome, WatchesOn, AnswersWatch};
+ghost use Rattle.live_telephones.specs.Watching.{changes_behind, sender_at, with_seen, lines_seen, BeginsToSee, IsUnasked, IsUnwatched, RefusesLine, TellsEach, TellsLine, TellsLines, TellsSome, WatchesOn, WatchesStill, AnswersWatch};
 
 use crate::answering::{UNKNOWN, full_answer};
 use crate::seeing::seen_line;
@@ -256,6 +256,7 @@ impl Watch {
     /// is used again.
     pub fn tell<S: Surroundings>(&mut self, alloc: Global, around: &mut S, gateway: &Gateway)
         ensures traffic { S.traffic around.new ≡ S.traffic around.old }
+        ensures watchers { WatchesStill S.answers self.old.watchers.places around.new self.new.watchers.places }
         ensures watch { (events : List GatewayEvent) → Stands gateway.now events → WatchesOn S.answers gateway.now.setup
             (plain gateway.now.setup events) around.old self.old around.new self.new }
     {

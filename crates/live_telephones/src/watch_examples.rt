@@ -1,7 +1,7 @@
 //! What who watches is told, and what the page is shown of a gateway, at worked examples, as theorems.
 #![tactic(auto, unfolding(crate::proofs::Computing::on_examples))]
 
-ghost use Rattle.std.specs.Prelude.{◌≡◌, ◌<◌, ◌++◌, ◌⊎◌, ℕ, None, Some, codes, List, [], ◌∷◌, map};
+ghost use Rattle.std.specs.Prelude.{◌≡◌, ◌<◌, ◌++◌, ◌⊎◌, ℕ, None, Some, codes, List, [], ◌∷◌, map, Option};
 ghost use Rattle.plain_machine.specs.Example.{two_lines};
 ghost use Rattle.plain_machine.specs.Lists.{plain};
 ghost use Rattle.plain_machine.specs.Machine.{Machine};
@@ -9,6 +9,7 @@ ghost use Rattle.gateway_core.specs.GatewayState.{GatewayState};
 ghost use Rattle.gateway_core.specs.Stands.{Stands};
 ghost use Rattle.message_counts.specs.declared.reporting.Faults.{Faults};
 ghost use Rattle.gateway_metrics.specs.declared.picture.Picture.{Picture};
+ghost use Rattle.line_changes.specs.declared.watchers.Watcher.{Watcher};
 ghost use Rattle.line_changes.specs.Example.{resting, lifted};
 ghost use Rattle.line_changes.specs.Watching.{nobody};
 ghost use Rattle.live_journal.specs.declared.journal.Journal.{Journal};
@@ -16,7 +17,7 @@ ghost use Rattle.live_telephones.specs.declared.watch.Watch.{Watch};
 ghost use Rattle.live_telephones.specs.Paging.{IsOf};
 ghost use Rattle.live_telephones.specs.Picturing.{by_name};
 ghost use Rattle.live_telephones.specs.Viewing.{lines_in, viewed};
-ghost use Rattle.live_telephones.specs.Watching.{with_seen, TellsText, RefusesLine, TellsLine, TellsLines, TellsSome, WatchesOn, BeginsToSee, IsUnasked, IsUnwatched};
+ghost use Rattle.live_telephones.specs.Watching.{with_seen, TellsText, RefusesLine, TellsLine, TellsLines, TellsSome, WatchesOn, WatchesStill, BeginsToSee, IsUnasked, IsUnwatched};
 ghost use Rattle.live_telephones.specs.WatchExample.{Heard, hears, somebody, heard_once};
 
 /// Who watches is told what there is to tell, up to the moment before their time ends. A line is seen so at its place, where it has one.
@@ -52,6 +53,8 @@ pub fn who_watches_has_examples()
     ensures refused { (was is : Watch) (after : Heard) → was.watchers.places ≡ somebody
         → WatchesOn hears two_lines (plain two_lines []) [] was after is → is.watchers.places ≡ nobody
         → (between : Heard) × (after ≡ between ++ heard_once (codes "! 1 OutOfMemory\n")) }
+    ensures goes_on { (are : List (Option Watcher)) (after : Heard) → WatchesStill hears somebody after are
+        → (are ≡ somebody) ⊎ (are ≡ nobody) }
     ensures fewer { (was is : Watch) (after : Heard) (some : TellsSome hears two_lines (plain two_lines []) [] was after is) → some.0 < 2 }
     ensures at_once { (was is : Watch) (after : Heard) (some : TellsSome hears two_lines (plain two_lines []) [] was after is) → some.0 ≡ 0
         → is.seen ≡ was.seen }

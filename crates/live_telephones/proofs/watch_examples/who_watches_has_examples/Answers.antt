@@ -1,4 +1,4 @@
-use Rattle.std.proofs.Common.{◌≡◌, ℕ, zero, suc, false, true, codes, List, [], ◌++◌, Option, inl, inr, refl, sym, ap, ◌∙◌, true≢false}
+use Rattle.std.proofs.Common.{◌≡◌, ◌⊎◌, ℕ, zero, suc, false, true, codes, List, [], ◌++◌, Option, inl, inr, refl, sym, ap, ◌∙◌, true≢false}
 use Rattle.line_changes.specs.Watching.{is_watched, nobody}
 use Rattle.line_changes.specs.declared.watchers.Watcher.{Watcher}
 use Rattle.line_changes.specs.declared.watchers.Watchers.{Watchers}
@@ -7,7 +7,7 @@ use Rattle.plain_machine.specs.Lists.{plain}
 use Rattle.plain_machine.specs.Machine.{Machine}
 use Rattle.live_telephones.specs.declared.watch.Watch.{Watch}
 use Rattle.live_telephones.specs.WatchExample.{Heard, hears, somebody, heard_once}
-use Rattle.live_telephones.specs.Watching.{RefusesLine, TellsEach, TellsLines, WatchesOn}
+use Rattle.live_telephones.specs.Watching.{RefusesLine, TellsEach, TellsLines, WatchesOn, WatchesStill}
 use Rattle.live_telephones.proofs.Computing.{on_examples}
 use Rattle.live_telephones.proofs.WatchExampleLemmas.{heard}
 use Rattle.live_telephones.proofs.WatchingLemmas.{still_watch}
@@ -41,6 +41,13 @@ refused m was is after now places (inr (inr (watched, gone, between, some, tells
 pub returns-clause-refused : goal.returns-clause-refused
 unfolding on_examples
 returns-clause-refused c = λ was is after places on over. refused (plain two_lines []) was is after refl places on over
+
+goes_on : (are : List (Option Watcher)) (after : Heard) → WatchesStill hears somebody after are → (are ≡ somebody) ⊎ (are ≡ nobody)
+goes_on are after (inl same) = inl same
+goes_on are after (inr over) = inr over.0
+
+pub returns-clause-goes_on : goal.returns-clause-goes_on
+returns-clause-goes_on c = goes_on
 
 pub returns-clause-fewer : goal.returns-clause-fewer
 unfolding on_examples

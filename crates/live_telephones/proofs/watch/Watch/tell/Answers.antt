@@ -23,6 +23,9 @@ returns-in-Err-clause-watch g c = λ events stands.
       rw (c.now-now.ensures.value events stands) at watched,
       c.clear.ensures,
       c.tell_lines.new.around,
-      refused_and_over g.S.Surroundings.answers _ _ _ _ _ _ _ (c.in-Err.ensures.refused events stands),
+      refused_and_over g.S.Surroundings.answers _ _ _ _ _ c.tell_lines.new.self c.clear.new.self (c.in-Err.ensures.refused events stands),
       rw (c.tell_lines.ensures.watchers, c.now-now.ensures.value events stands) at c.tell_all.ensures.told,
     ))
+
+pub returns-in-Err-clause-watchers : goal.returns-in-Err-clause-watchers
+returns-in-Err-clause-watchers g c = inr (c.clear.ensures, _, _, rw (c.tell_lines.ensures.watchers) at c.tell_all.ensures.told)

@@ -7,5 +7,5 @@ returns-in_err-is-clause-left g c = λ events stands. err_if c.from_residual-in_
 pub returns-in_err-note-clause-left : goal.returns-in_err-note-clause-left
 returns-in_err-note-clause-left g c = λ events stands.
     err_if c.from_residual-in_err-note.result
-    (refuses_some _ _ c.args.line c.now-now.result c.in_err-note.ensures.told_some.0 c.args.self.now c.note.new.self c.in_ok-is.is
+    (refuses_some _ _ c.args.line c.now-now.result c.in_err-note.ensures.told_some.0 c.args.self.now c.note.new.self _
     (c.now-now.ensures.value events stands) (c.in_ok-is.ensures events stands) c.note.ensures.seen c.in_err-note.ensures.told_some.1)
