@@ -1,5 +1,5 @@
 -- What the page is shown of a gateway, and how it comes that what it asks for is done.
-use Rattle.std.specs.Prelude.{◌≡◌, ◌⊎◌, ℕ, Bool, true, false, List, [], drop, slice_get, Option, Some, None}
+use Rattle.std.specs.Prelude.{◌≡◌, ◌≢◌, ◌⊎◌, ℕ, Bool, true, false, List, [], drop, slice_get, Option, Some, None}
 use Rattle.std.specs.Global.{Box}
 use Rattle.plain_machine.specs.Event.{GatewayEvent}
 use Rattle.plain_machine.specs.Lists.{plain}
@@ -9,6 +9,8 @@ use Rattle.gateway_core.specs.Remembering.{remembered}
 use Rattle.gateway_core.specs.Stands.{Stands}
 use Rattle.page_board.specs.declared.act.QueuedAct.{QueuedAct}
 use Rattle.gateway_metrics.specs.declared.picture.Picture.{Picture}
+use Rattle.gateway_metrics.specs.Showing.{lines_of}
+use Rattle.gateway_metrics.specs.Sums.{next_number}
 use Rattle.page_board.specs.Acts.{act_line}
 use Rattle.page_board.specs.Showing.{BoardState}
 use Rattle.surroundings.specs.declared.lines.Lines.{Lines}
@@ -39,8 +41,10 @@ pub record IsOf (gateway : GatewayState) (journal : Journal) (faults : Faults) (
   pub lines : (events : List GatewayEvent) → Stands gateway events
       → lines_in picture.lines.items ≡ lines_viewed gateway.setup (plain gateway.setup events) gateway.setup.names.lines
 
--- a board shows another picture; what happened, and what is asked for, stay
+-- a board shows another picture, under the next number where its lines changed; what happened, and what is asked for, stay
 pub record Shows (was is : BoardState) : Type 0 where
+  pub same : lines_of was.picture ≡ lines_of is.picture → is.version ≡ was.version
+  pub changed : lines_of was.picture ≢ lines_of is.picture → is.version ≡ next_number was.version
   pub ring : is.ring ≡ was.ring
   pub acts : is.acts ≡ was.acts
 
@@ -61,10 +65,17 @@ abbrev pub acts_of : Option (Box BoardState) → List QueuedAct
 acts_of None = []
 acts_of (Some board) = board.value.acts
 
+-- of a board only the act that has waited longest is taken; where there is no board, none comes
+abbrev pub TakesOldest : Option (Box BoardState) → Option (Box BoardState) → Type 0
+TakesOldest None is = is ≡ None
+TakesOldest (Some was) None = ⊥
+TakesOldest (Some was) (Some is) = is.value ≡ record was.value { acts = drop 1 was.value.acts }
+
 -- The act that has waited longest waits no more, and its line is left, of nobody's: that is so; or no line is taken, since none waits or
 -- memory is refused for its line.
 pub record TakesAct (was : Journal) (lines : Lines) (taken : Bool) (is : Journal) (left : Lines) : Type 0 where
   pub acts : acts_of is.board ≡ drop 1 (acts_of was.board)
+  pub board : TakesOldest was.board is.board
   pub beside : IsSameBeside was is
   pub line : taken ≡ true → (act : QueuedAct) × (slice_get (acts_of was.board) 0 ≡ Some act) × Begins None (act_line act) lines left
   pub none : taken ≡ false → left ≡ lines

@@ -2,6 +2,7 @@
 #![tactic(auto, unfolding(crate::proofs::Computing::on_examples))]
 
 ghost use Rattle.std.specs.Prelude.{◌≡◌, ◌<◌, ◌++◌, ◌⊎◌, ℕ, None, Some, codes, List, [], ◌∷◌, map, Option};
+ghost use Rattle.std.specs.Global.{Box};
 ghost use Rattle.plain_machine.specs.Example.{two_lines};
 ghost use Rattle.plain_machine.specs.Lists.{plain};
 ghost use Rattle.plain_machine.specs.Machine.{Machine};
@@ -9,12 +10,15 @@ ghost use Rattle.gateway_core.specs.GatewayState.{GatewayState};
 ghost use Rattle.gateway_core.specs.Stands.{Stands};
 ghost use Rattle.message_counts.specs.declared.reporting.Faults.{Faults};
 ghost use Rattle.gateway_metrics.specs.declared.picture.Picture.{Picture};
+ghost use Rattle.gateway_metrics.specs.Showing.{LineShown, lines_of};
+ghost use Rattle.page_board.specs.declared.act.QueuedAct.{QueuedAct};
+ghost use Rattle.page_board.specs.Showing.{BoardState};
 ghost use Rattle.line_changes.specs.declared.watchers.Watcher.{Watcher};
 ghost use Rattle.line_changes.specs.Example.{resting, lifted};
 ghost use Rattle.line_changes.specs.Watching.{nobody};
 ghost use Rattle.live_journal.specs.declared.journal.Journal.{Journal};
 ghost use Rattle.live_telephones.specs.declared.watch.Watch.{Watch};
-ghost use Rattle.live_telephones.specs.Paging.{IsOf};
+ghost use Rattle.live_telephones.specs.Paging.{IsOf, Shows, TakesOldest};
 ghost use Rattle.live_telephones.specs.Picturing.{by_name};
 ghost use Rattle.live_telephones.specs.Viewing.{lines_in, viewed};
 ghost use Rattle.live_telephones.specs.Watching.{with_seen, TellsText, RefusesLine, TellsLine, TellsLines, TellsSome, WatchesOn, WatchesStill, BeginsToSee, IsUnasked, IsUnwatched};
@@ -60,8 +64,8 @@ pub fn who_watches_has_examples()
         → is.seen ≡ was.seen }
 {}
 
-/// Where memory is refused for a line it is still seen as it was seen last, and the next change has the number that it would have had, or one
-/// behind what changed there.
+/// Where memory is refused for a line it is still seen as it was seen last, and the next change has the number that it would have had, or
+/// one behind what changed there.
 pub fn what_is_refused_for_a_line_has_examples()
     ensures seen { (was is : Watch) → RefusesLine two_lines (plain two_lines []) 1 was is → is.seen ≡ was.seen }
     ensures numbers { (was is : Watch) → was.seen.items ≡ lifted ∷ [] → was.told ≡ record { number = 7; text = codes "old" }
@@ -94,4 +98,19 @@ pub fn a_picture_is_of_its_gateway()
     ensures files { (gateway : GatewayState) (journal : Journal) (faults : Faults) (picture : Picture) → journal.capture.value.name ≡ []
         → IsOf gateway journal faults 0 picture → by_name picture.counts.write_faults.items
         ≡ (codes "standard output", journal.written.output) ∷ (codes "standard error", journal.written.error) ∷ [] }
+{}
+
+/// Of a board the act that has waited longest is taken, and nothing else; where there is no board none comes. The number of what is shown
+/// stays where its lines do, and else is the next one.
+pub fn what_becomes_of_a_board_has_examples()
+    ensures none { (is : Option (Box BoardState)) → TakesOldest None is → is ≡ None }
+    ensures stays { (was : Box BoardState) → TakesOldest (Some was) None → ⊥ }
+    ensures shown { (was is : Box BoardState) → TakesOldest (Some was) (Some is)
+        → (is.value.picture ≡ was.value.picture) × (is.value.version ≡ was.value.version) × (is.value.ring ≡ was.value.ring) }
+    ensures oldest { (was is : Box BoardState) (one other : QueuedAct) → was.value.acts ≡ one ∷ other ∷ []
+        → TakesOldest (Some was) (Some is) → is.value.acts ≡ other ∷ [] }
+    ensures same { (was is : BoardState) → Shows was is → lines_of was.picture ≡ [] → lines_of is.picture ≡ []
+        → is.version ≡ was.version }
+    ensures changed { (was is : BoardState) (line : LineShown) → Shows was is → was.version ≡ 7 → lines_of was.picture ≡ []
+        → lines_of is.picture ≡ line ∷ [] → is.version ≡ 8 }
 {}
