@@ -1,5 +1,5 @@
 -- What is noted of datagrams, and what each has, in worked examples.
-use Rattle.std.proofs.Common.{◌≡◌, ◌⊎◌, inl, inr, ℕ, ◌+◌, ◌<◌, ◌≤◌, List, [], ◌∷◌, ◌++◌, length, take, drop, Option, Some, None, refl, sym, ◌∙◌, ap, subst, arith}
+use Rattle.std.proofs.Common.{◌≡◌, inl, inr, ℕ, ◌+◌, ◌<◌, ◌≤◌, List, [], ◌∷◌, ◌++◌, length, take, drop, Option, Some, None, refl, ◌∙◌, ap, subst, arith}
 use Rattle.piggyback.specs.Parts.{parts_of}
 use Rattle.plain_machine.specs.declared.label.SentMessage.{SentMessage}
 use Rattle.transmission.specs.declared.output.OutDatagram.{OutDatagram}

@@ -5,7 +5,7 @@ ghost use Rattle.std.specs.Prelude.{◌≡◌, None, Some, codes, false, [], ◌
 ghost use Rattle.mg_packages.specs.declared.hook.Hook.TheVariants.{OnHook};
 ghost use Rattle.plain_machine.specs.Example.{two_lines};
 ghost use Rattle.plain_machine.specs.Lists.{plain};
-ghost use Rattle.line_changes.specs.Example.{resting, talking};
+ghost use Rattle.line_changes.specs.Example.{resting};
 ghost use Rattle.live_telephones.specs.Viewing.{is_off, call_of, remote_text, viewed, line_viewed, lines_viewed};
 ghost use Rattle.live_telephones.specs.ViewExample.{dialling, places, dialling_shown};
 

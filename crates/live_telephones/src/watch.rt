@@ -1,5 +1,5 @@
 //! Who watches is told what changes at the lines.
-ghost use Rattle.std.specs.Prelude.{◌≡◌, ◌≤◌, ◌-◌, ◌⊎◌, ℕ, [], codes, List, true, false, None, Some, IfOk, IfErr, OnOk, OnErr, slice_get, map, take};
+ghost use Rattle.std.specs.Prelude.{◌≡◌, ◌≤◌, ◌-◌, ℕ, [], List, true, false, None, Some, IfOk, IfErr, OnOk, OnErr, slice_get, map, take};
 ghost use Rattle.plain_machine.specs.Event.{GatewayEvent};
 ghost use Rattle.plain_machine.specs.Lists.{plain};
 ghost use Rattle.gateway_core.specs.Stands.{Stands};

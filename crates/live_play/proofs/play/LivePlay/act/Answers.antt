@@ -1,4 +1,4 @@
-use Rattle.std.proofs.Common.{◌≡◌, refl, ap}
+use Rattle.std.proofs.Common.{◌≡◌, refl}
 use Rattle.plain_machine.specs.Event.{phone}
 use Rattle.traces.specs.Writing.{Input, typed}
 use Rattle.live_play.specs.Running.{live}

@@ -1,4 +1,4 @@
-use Rattle.std.proofs.Common.{◌≡◌, refl, ap, subst}
+use Rattle.std.proofs.Common.{◌≡◌, refl, subst}
 use Rattle.gateway_core.specs.GatewayState.{GatewayState}
 use Rattle.traces.specs.Writing.{Input, typed}
 use Rattle.live_play.specs.Running.{IsAnswer}

@@ -1,4 +1,4 @@
-use Rattle.std.proofs.Common.{◌≡◌, refl, ap}
+use Rattle.std.proofs.Common.{◌≡◌, refl}
 use Rattle.plain_machine.specs.Event.{datagram}
 use Rattle.traces.specs.Writing.{Input, arrived}
 use Rattle.live_play.specs.Running.{live}

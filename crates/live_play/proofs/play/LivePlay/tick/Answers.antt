@@ -1,4 +1,4 @@
-use Rattle.std.proofs.Common.{◌≡◌, refl, ap}
+use Rattle.std.proofs.Common.{◌≡◌, refl}
 use Rattle.plain_machine.specs.Event.{tick}
 use Rattle.traces.specs.Writing.{Input, passed}
 use Rattle.live_play.specs.Running.{live}
