@@ -2,8 +2,14 @@
 use Rattle.std.specs.Prelude.{⊤}
 use Rattle.page_board.specs.Keeping.{latest_said}
 use Rattle.message_counts.proofs.Computing.{on_examples as count_examples}
+use Rattle.piggyback.proofs.Computing.{on_examples as part_examples}
+use Rattle.transmission.specs.Texts.{texts_of}
+use Rattle.told_messages.specs.Coming.{waited_for, came_text, texts_came, datagram_came, given_up_text}
 use Rattle.told_messages.specs.Explaining.{reason_text}
+use Rattle.told_messages.specs.Sending.{sent_text, datagram_text, last_with, last_behind}
 
 unfoldable pub on_examples : ⊤
-unfolding count_examples latest_said reason_text
+unfolding count_examples part_examples latest_said texts_of reason_text sent_text datagram_text last_with last_behind
+
+unfolding waited_for came_text texts_came datagram_came given_up_text
 on_examples = tt

@@ -1,5 +1,8 @@
 pub mod Recording
+pub mod Sending
+pub mod Coming
 pub mod Explaining
+pub mod Logging
 pub mod Strangers
 pub mod Labelling
 pub mod Showing

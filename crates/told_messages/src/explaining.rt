@@ -2,6 +2,8 @@
 ghost use Rattle.std.specs.Prelude.{◌≡◌, ◌++◌, OnOk};
 ghost use Rattle.std.specs.List.{flat_map};
 ghost use Rattle.told_messages.specs.Explaining.{refused_text, reason_text};
+ghost use Rattle.told_messages.specs.Logging.{explained_at};
+ghost use Rattle.told_messages.specs.Recording.{Records};
 
 use crate::log::Log;
 use command_forms::{FaultyPart, Refused, explain};
@@ -84,7 +86,11 @@ fn put_reasons(
 impl Log {
     /// The gateway took the datagram that came last, of whose texts these came, and what it sent at it was handed out: why commands of it
     /// were refused or lost is told, if any was, and which repeats aren't answered.
-    pub fn explain(&mut self, outcomes: &[TextOutcome]) {
+    #[tactic(auto, using(crate::proofs::RecordLemmas::putting))]
+    pub fn explain(&mut self, outcomes: &[TextOutcome])
+        ensures told { Records self.old.record (flat_map (reason_text (explained_at self.old)) outcomes.now) self.new.record }
+        ensures rest { self.new ≡ record self.old { «record» = self.new.record } }
+    {
         if !self.record.is_on() {
             return;
         }
@@ -93,9 +99,9 @@ impl Log {
             moment: self.sent.max(self.came.moment),
             peer: self.came.peer,
         };
-        let out = &mut self.record.out;
-        if put_reasons(self.alloc, out, stamp, outcomes).is_err() {
-            self.record.refuse();
+        match put_reasons(self.alloc, &mut self.record.out, stamp, outcomes) {
+            Ok(()) => {}
+            Err(_) => self.record.refuse(),
         }
     }
 }

@@ -2,11 +2,14 @@
 //! It opens nothing: what it puts stands in a record, or on a board.
 #![tactic(auto)]
 
+mod coming;
 pub mod examples;
 mod explaining;
 mod labelling;
 mod log;
+pub mod logging_examples;
 pub mod noting_examples;
+mod sending;
 mod showing;
 pub mod showing_examples;
 mod spoiling;

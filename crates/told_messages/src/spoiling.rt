@@ -1,39 +1,79 @@
 //! What the log says of a network that spoils what goes over it, or takes nothing.
-ghost use Rattle.std.specs.Prelude.{◌≡◌};
-ghost use Rattle.exchange_log.specs.Lines.{note_line};
+ghost use Rattle.std.specs.Prelude.{◌≡◌, ◌++◌, None, OnOk};
+ghost use Rattle.std.specs.List.{flat_map};
+ghost use Rattle.exchange_log.specs.declared.stamp.Way.TheVariants.{Came};
+ghost use Rattle.exchange_log.specs.Lines.{message_line, note_line};
 ghost use Rattle.exchange_log.specs.Pausing.{pause_line};
+ghost use Rattle.piggyback.specs.Parts.{parts_of};
+ghost use Rattle.told_messages.specs.Coming.{untaken_text};
+ghost use Rattle.told_messages.specs.Logging.{LeavesOut};
 ghost use Rattle.told_messages.specs.Recording.{Records};
 
 use crate::log::Log;
-use exchange_log::{Note, Stamp, Way, put_pause};
+use exchange_log::{Note, Stamp, Way, put_message, put_note, put_pause};
 use live_outlets::Now;
+use mg_bytes::OutOfMemory;
 use piggyback::parts;
+use std::alloc::Global;
 use std::net::SocketAddrV4;
 
-impl Log {
-    fn put_untaken(&mut self, from: Stamp, bytes: &[u8], why: Note) {
-        for text in parts(bytes) {
-            self.put_text(from, Way::Came, text, None);
-        }
-        self.put_note(from, why);
+// Puts each text of a datagram that isn't taken.
+fn put_texts(
+    alloc: Global,
+    out: &mut Vec<u8>,
+    domain: &[u8],
+    from: Stamp,
+    bytes: &[u8],
+) -> Result<(), OutOfMemory>
+    ensures { OnOk result (out.new.items
+        ≡ out.old.items ++ flat_map (λ text. message_line domain.now from Came text None) (parts_of bytes.now)) }
+{
+    for text in parts(bytes) {
+        put_message(alloc, out, domain, from, Way::Came, text, None)?;
     }
+    Ok(())
+}
 
+// Puts its texts, and why it isn't taken.
+fn put_untaken(
+    alloc: Global,
+    out: &mut Vec<u8>,
+    domain: &[u8],
+    from: Stamp,
+    bytes: &[u8],
+    why: Note,
+) -> Result<(), OutOfMemory>
+    ensures { OnOk result (out.new.items ≡ out.old.items ++ untaken_text domain.now from bytes.now why) }
+{
+    put_texts(alloc, out, domain, from, bytes)?;
+    put_note(alloc, out, from, why)
+}
+
+impl Log {
     /// A datagram that was sent to the gateway isn't taken, for this reason.
-    pub fn leave(&mut self, now: Now, source: SocketAddrV4, bytes: &[u8], why: Note) {
+    #[tactic(auto, using(crate::proofs::RecordLemmas::putting))]
+    pub fn leave(&mut self, now: Now, source: SocketAddrV4, bytes: &[u8], why: Note)
+        ensures { LeavesOut self.old (record { moment = now.time; peer = source }) bytes.now why self.new }
+    {
         let from = Stamp {
             moment: now.time,
             peer: source,
         };
         self.arrival = None;
-        if self.record.is_on() {
-            self.put_untaken(from, bytes, why);
+        if !self.record.is_on() {
+            return;
+        }
+        let out = &mut self.record.out;
+        match put_untaken(self.alloc, out, self.domain.as_bytes(), from, bytes, why) {
+            Ok(_) => {}
+            Err(_) => self.record.refuse(),
         }
     }
 
     /// This is noted of the datagram that came or was sent last.
     pub fn note(&mut self, now: Now, peer: SocketAddrV4, note: Note)
         ensures told { Records self.old.record (note_line (record { moment = now.time; peer = peer }) note) self.new.record }
-        ensures quiet { self.new.quiet ≡ self.old.quiet }
+        ensures rest { self.new ≡ record self.old { «record» = self.new.record } }
     {
         let stamp = Stamp {
             moment: now.time,
@@ -46,8 +86,7 @@ impl Log {
     #[tactic(auto, using(crate::proofs::RecordLemmas::putting))]
     pub fn pause(&mut self, now: Now, lateness: u64, read: Option<u64>)
         ensures puts { Records self.old.record (pause_line now.time lateness read) self.new.record }
-        ensures moments { (self.new.sent ≡ self.old.sent) × (self.new.came ≡ self.old.came) × (self.new.arrival ≡ self.old.arrival) }
-        ensures rest { (self.new.domain ≡ self.old.domain) × (self.new.own ≡ self.old.own) × (self.new.quiet ≡ self.old.quiet) }
+        ensures rest { self.new ≡ record self.old { «record» = self.new.record } }
     {
         if !self.record.is_on() {
             return;

@@ -89,9 +89,7 @@ impl Log {
     #[tactic(auto, using(crate::proofs::RecordLemmas::putting, crate::proofs::RecordLemmas::puts_none))]
     fn put_stranger(&mut self, now: Now, source: SocketAddrV4, untold: Option<u64>)
         ensures record { Records self.old.record (text_of_stranger now.time source untold) self.new.record }
-        ensures quiet { self.new.quiet ≡ self.old.quiet }
-        ensures moments { (self.new.sent ≡ self.old.sent) × (self.new.came ≡ self.old.came) × (self.new.arrival ≡ self.old.arrival) }
-        ensures rest { (self.new.domain ≡ self.old.domain) × (self.new.own ≡ self.old.own) }
+        ensures rest { self.new ≡ record self.old { «record» = self.new.record } }
     {
         let Some(untold) = untold else {
             return;
@@ -118,8 +116,7 @@ impl Log {
     pub fn stranger(&mut self, now: Now, source: SocketAddrV4)
         ensures record { Records self.old.record (stranger_text self.old.quiet now.time source) self.new.record }
         ensures quiet { self.new.quiet ≡ quiet_after self.old.quiet now.time }
-        ensures moments { (self.new.sent ≡ self.old.sent) × (self.new.came ≡ self.old.came) × (self.new.arrival ≡ self.old.arrival) }
-        ensures rest { (self.new.domain ≡ self.old.domain) × (self.new.own ≡ self.old.own) }
+        ensures rest { self.new ≡ record self.old { «record» = self.new.record; quiet = self.new.quiet } }
     {
         let untold = self.quiet.comes(now.time);
         self.put_stranger(now, source, untold);
@@ -131,9 +128,7 @@ impl Log {
     pub fn unheard(&mut self, now: Now, sent: &[SentMessage], speakers: &Speakers)
         ensures record { Records self.old.record
             (flat_map (unheard_text (admitted_by speakers.now) now.time) sent.now) self.new.record }
-        ensures quiet { self.new.quiet ≡ self.old.quiet }
-        ensures moments { (self.new.sent ≡ self.old.sent) × (self.new.came ≡ self.old.came) × (self.new.arrival ≡ self.old.arrival) }
-        ensures rest { (self.new.domain ≡ self.old.domain) × (self.new.own ≡ self.old.own) }
+        ensures rest { self.new ≡ record self.old { «record» = self.new.record } }
     {
         if !self.record.is_on() {
             return;
