@@ -1,9 +1,10 @@
 //! The capture of a gateway: each datagram that comes or is sent, as tshark and Wireshark read it.
-ghost use Rattle.std.specs.Prelude.{◌≡◌, ◌++◌, true, IfOk};
+ghost use Rattle.std.specs.Prelude.{◌≡◌, ◌++◌, IfOk, is_some};
 ghost use Rattle.exchange_log.specs.File.{file_head};
-ghost use Rattle.live_outlets.specs.Recording.{is_told};
+ghost use Rattle.live_journal.specs.Recording.{Begins};
+ghost use Rattle.live_journal.specs.Capturing.{BeginsFile, Captures};
 
-use exchange_log::{Packet, Way, put_head, put_packet};
+use exchange_log::{Packet, put_head, put_packet};
 use live_outlets::Record;
 use mg_bytes::{OutOfMemory, Text};
 use std::alloc::Global;
@@ -13,7 +14,7 @@ use std::net::SocketAddrV4;
 pub struct Capture {
     alloc: Global,
     // The address of the gateway's socket.
-    here: SocketAddrV4,
+    pub(crate) here: SocketAddrV4,
     /// The name of its file; empty where there is none.
     pub name: Text,
     pub record: Record,
@@ -43,31 +44,46 @@ fn headed(alloc: Global, bytes: &[u8]) -> Result<Vec<u8>, OutOfMemory>
     Ok(out)
 }
 
+// What is captured begins with the head of a file, if it is asked for.
+#[tactic(auto, using(told_messages::proofs::RecordLemmas::putting))]
+fn begun(alloc: Global, is_on: bool) -> Record
+    ensures { Begins is_on file_head result }
+{
+    let mut record = Record::new(alloc, is_on);
+    if !is_on {
+        return record;
+    }
+    match put_head(&mut record.out) {
+        Ok(()) => {}
+        Err(_) => record.refuse(),
+    }
+    record
+}
+
 impl Capture {
     /// A capture that has its head, for the file of this name, if it is asked for.
     pub fn new(
         alloc: Global,
         file: Option<&str>,
         here: SocketAddrV4,
-    ) -> Result<Capture, OutOfMemory> {
-        let is_on = file.is_some();
+    ) -> Result<Capture, OutOfMemory>
+        ensures head { IfOk result (λ capture. Begins (is_some file) file_head capture.record) }
+        ensures here { IfOk result (λ capture. capture.here ≡ here) }
+    {
         let name = file.unwrap_or("").as_bytes();
-        let mut record = Record::new(alloc, is_on);
-        if is_on && put_head(&mut record.out).is_err() {
-            record.refuse();
-        }
         Ok(Capture {
             alloc,
             here,
             name: Text::of(Vec::from_slice(alloc, name)?),
-            record,
+            record: begun(alloc, file.is_some()),
         })
     }
 
     /// What is put stands in another file from now on, which begins with a head of its own.
+    #[tactic(auto, using(crate::proofs::CaptureLemmas::heading))]
     pub fn begin_file(&mut self)
-        ensures out { is_told self.new.record.state ≡ true → is_told self.old.record.state ≡ true →
-            self.new.record.out.items ≡ file_head ++ self.old.record.out.items }
+        ensures head { BeginsFile self.old.record.state self.old.record.out.items self.new.record.state self.new.record.out.items }
+        ensures rest { self.new ≡ record self.old { «record» = self.new.record } }
     {
         if !self.record.is_on() {
             return;
@@ -78,23 +94,23 @@ impl Capture {
         }
     }
 
-    /// A datagram goes this way between the gateway and its peer at this moment, in microseconds since 1970.
-    pub(crate) fn pass(&mut self, moment: u64, way: Way, peer: SocketAddrV4, bytes: &[u8]) {
+    /// A datagram goes from one to the other at this moment, in microseconds since 1970.
+    #[tactic(auto, using(told_messages::proofs::RecordLemmas::putting))]
+    pub(crate) fn pass(&mut self, moment: u64, from: SocketAddrV4, to: SocketAddrV4, bytes: &[u8])
+        ensures { Captures self.old (record { moment = moment; from = from; to = to; bytes = bytes.now }) self.new }
+    {
         if !self.record.is_on() {
             return;
         }
-        let (from, to) = match way {
-            Way::Came => (peer, self.here),
-            Way::Sent => (self.here, peer),
-        };
         let packet = Packet {
             moment,
             from,
             to,
             bytes,
         };
-        if put_packet(self.alloc, &mut self.record.out, &packet).is_err() {
-            self.record.refuse();
+        match put_packet(self.alloc, &mut self.record.out, &packet) {
+            Ok(()) => {}
+            Err(_) => self.record.refuse(),
         }
     }
 }

@@ -7,15 +7,16 @@ ghost use Rattle.message_counts.specs.Tallying.{with_received, with_handed_out, 
 ghost use Rattle.message_counts.specs.Waiting.{unanswered_after};
 ghost use Rattle.page_board.specs.declared.ring.Kind.TheVariants.{Received, Sent, Act, Told};
 ghost use Rattle.told_messages.specs.Labelling.{sent_label};
+ghost use Rattle.told_messages.specs.Logging.{Receives, Turns, LeavesOut, Sends};
 ghost use Rattle.told_messages.specs.Recording.{Records, unsent_text};
 ghost use Rattle.told_messages.specs.Showing.{nobody as of_nobody, GoesOn, Happened, HappenedWith, Turned};
 ghost use Rattle.told_messages.specs.Strangers.{quiet_after, stranger_text};
+ghost use Rattle.live_journal.specs.Capturing.{Captures};
 ghost use Rattle.live_journal.specs.Spoiling.{fate_note, Notes};
 
 use crate::capture::Capture;
-use crate::spoiling::note_of;
 use bad_network::Fate;
-use exchange_log::{Note, Way};
+use exchange_log::Note;
 use gateway_core::SentMessage;
 use live_outlets::{Now, Written};
 use message_counts::{MessageTally, Taken};
@@ -51,6 +52,18 @@ impl Drop for Journal {
     }
 }
 
+// What is noted of this fate; nothing where a datagram comes at once.
+fn note_of(fate: Fate) -> Option<Note>
+    ensures { result ≡ fate_note fate }
+{
+    match fate {
+        Fate::Lost => Some(Note::Lost),
+        Fate::Once { late: 0 } => None,
+        Fate::Once { late } => Some(Note::Late { ms: late }),
+        Fate::Twice { first, second } => Some(Note::Copied { first, second }),
+    }
+}
+
 impl Journal {
     // Shows the page what happened, with whom on the network, or with nobody there.
     fn show(&mut self, moment: u64, kind: Kind, peer: SocketAddrV4, text: &[u8])
@@ -82,11 +95,15 @@ impl Journal {
     pub fn came(&mut self, now: Now, source: SocketAddrV4, bytes: &[u8], late: u64)
         ensures shown { GoesOn (Happened now.clock Received source bytes.now) self.old.board self.new.board }
         ensures counted { self.new.tally.value ≡ with_received self.old.tally.value }
+        ensures logged { Receives self.old.log.value (record { moment = now.time; peer = source }) bytes.now late self.new.log.value }
+        ensures captured { Captures self.old.capture.value
+            (record { moment = now.time; from = source; to = self.old.capture.value.here; bytes = bytes.now }) self.new.capture.value }
         ensures written { self.new.written ≡ self.old.written }
     {
         self.tally.received();
         self.log.receive(now, source, bytes, late);
-        self.capture.pass(now.time, Way::Came, source, bytes);
+        let here = self.capture.here;
+        self.capture.pass(now.time, source, here, bytes);
         self.show(now.clock, Kind::Received, source, bytes);
     }
 
@@ -96,6 +113,8 @@ impl Journal {
         ensures told { Records self.old.log.value.record
             (stranger_text self.old.log.value.quiet now.time source) self.new.log.value.record }
         ensures quiet { self.new.log.value.quiet ≡ quiet_after self.old.log.value.quiet now.time }
+        ensures log { self.new.log.value
+            ≡ record self.old.log.value { «record» = self.new.log.value.record; quiet = self.new.log.value.quiet } }
         ensures rest { (self.new.capture ≡ self.old.capture) × (self.new.board ≡ self.old.board) × (self.new.written ≡ self.old.written) }
     {
         self.tally.stranger();
@@ -113,6 +132,7 @@ impl Journal {
         ensures unanswered { self.new.tally.value.unanswered_since
             ≡ unanswered_after self.old.tally.value.unanswered_since taken.now.outcomes.now taken.now.sent.now }
         ensures datagrams { CountsNoDatagram self.old.tally.value self.new.tally.value }
+        ensures logged { Turns self.old.log.value now.time taken.now.outcomes.now taken.now.given_up.now self.new.log.value }
         ensures rest { (self.new.capture ≡ self.old.capture) × (self.new.written ≡ self.old.written) }
     {
         self.tally.turned(taken);
@@ -125,7 +145,8 @@ impl Journal {
 
     /// A datagram that was sent to the gateway isn't taken, for this reason: a bad network lost it, or memory was refused.
     pub fn untaken(&mut self, now: Now, source: SocketAddrV4, bytes: &[u8], why: Note)
-        ensures { self.new ≡ record self.old { log = self.new.log } }
+        ensures logged { LeavesOut self.old.log.value (record { moment = now.time; peer = source }) bytes.now why self.new.log.value }
+        ensures rest { self.new ≡ record self.old { log = self.new.log } }
     {
         self.log.leave(now, source, bytes, why);
     }
@@ -134,11 +155,15 @@ impl Journal {
     pub fn sent(&mut self, now: Now, to: SocketAddrV4, bytes: &[u8], messages: &[SentMessage])
         ensures shown { GoesOn (HappenedWith now.clock Sent to bytes.now (map sent_label messages.now)) self.old.board self.new.board }
         ensures counted { self.new.tally.value ≡ with_handed_out self.old.tally.value }
+        ensures logged { Sends self.old.log.value (record { moment = now.time; peer = to }) bytes.now messages.now self.new.log.value }
+        ensures captured { Captures self.old.capture.value
+            (record { moment = now.time; from = self.old.capture.value.here; to = to; bytes = bytes.now }) self.new.capture.value }
         ensures written { self.new.written ≡ self.old.written }
     {
         self.tally.handed_out();
         self.log.send(now, to, bytes, messages);
-        self.capture.pass(now.time, Way::Sent, to, bytes);
+        let here = self.capture.here;
+        self.capture.pass(now.time, here, to, bytes);
         let alloc = self.log.alloc;
         if let Some(board) = &mut self.board {
             show_sent(alloc, board, now.clock, to, bytes, messages);
@@ -149,6 +174,7 @@ impl Journal {
     pub fn spoilt(&mut self, now: Now, to: SocketAddrV4, fate: Fate)
         ensures told { Notes self.old.log.value.record now.time to (fate_note fate) self.new.log.value.record }
         ensures quiet { self.new.log.value.quiet ≡ self.old.log.value.quiet }
+        ensures log { self.new.log.value ≡ record self.old.log.value { «record» = self.new.log.value.record } }
         ensures tally { self.new.tally ≡ self.old.tally }
         ensures rest { (self.new.capture ≡ self.old.capture) × (self.new.board ≡ self.old.board) × (self.new.written ≡ self.old.written) }
     {
@@ -162,6 +188,7 @@ impl Journal {
     pub fn unsent(&mut self, now: Now, to: SocketAddrV4)
         ensures told { Records self.old.log.value.record (unsent_text now.time to) self.new.log.value.record }
         ensures quiet { self.new.log.value.quiet ≡ self.old.log.value.quiet }
+        ensures log { self.new.log.value ≡ record self.old.log.value { «record» = self.new.log.value.record } }
         ensures tally { self.new.tally ≡ self.old.tally }
         ensures rest { (self.new.capture ≡ self.old.capture) × (self.new.board ≡ self.old.board) × (self.new.written ≡ self.old.written) }
     {

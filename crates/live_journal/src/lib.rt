@@ -5,15 +5,11 @@
 mod capture;
 pub mod examples;
 mod journal;
-mod recorder;
 mod recording;
-mod reporting;
-mod spoiling;
 mod trace;
 pub mod trace_examples;
 
 pub use crate::capture::Capture;
 pub use crate::journal::Journal;
-pub use crate::recorder::Recorder;
-pub use crate::reporting::report_with;
+pub use crate::recording::{Recorder, report_with};
 pub use crate::trace::Trace;

@@ -82,7 +82,9 @@ impl Trace {
     /// A trace that has its head, where one is asked for: the text of the configuration, and the number with which ids begin.
     #[tactic(auto, using(told_messages::proofs::RecordLemmas::putting))]
     pub fn new(alloc: Global, is_on: bool, config: &[u8], first: u32) -> Trace
-        ensures { Begins is_on (trace_head config.now first) result.record }
+        ensures head { Begins is_on (trace_head config.now first) result.record }
+        ensures room { result.room ≡ TEXT_ROOM - length result.record.out.items }
+        ensures broken_off { result.is_broken_off ≡ false }
     {
         let mut record = Record::new(alloc, is_on);
         if !is_on {
@@ -109,26 +111,6 @@ impl Trace {
         self.record.is_on() && !self.is_broken_off
     }
 
-    // It is told this, which has its place; or it is broken off before it.
-    fn put(&mut self, text: &[u8])
-        ensures quiet { is_telling self.old ≡ false → self.new ≡ self.old }
-        ensures placed { is_telling self.old ≡ true → length text.now ≤ self.old.room → HasPlace self.old text.now self.new }
-        ensures no_room { is_telling self.old ≡ true → self.old.room < length text.now
-            → self.new ≡ record self.old { is_broken_off = true } }
-    {
-        if !self.takes_more() {
-            return;
-        }
-        if text.len() > self.room {
-            self.is_broken_off = true;
-            return;
-        }
-        match self.record.out.extend_from_slice(text) {
-            Ok(()) => self.room -= text.len(),
-            Err(_) => self.record.refuse(),
-        }
-    }
-
     /// Whether it was broken off since this was asked last: its record ends with that.
     pub fn has_ended(&mut self) -> bool
         ensures ended { result ≡ has_ended self.old }
@@ -144,7 +126,9 @@ impl Trace {
     }
 
     /// What it was told is kept by its outlet, which ends with a last line where the trace was broken off.
-    pub(crate) fn keep<F: Write + Drop>(&mut self, output: &mut Outlet<F>) {
+    pub(crate) fn keep<F: Write + Drop>(&mut self, output: &mut Outlet<F>)
+        ensures { self.new.record.out.items ≡ [] }
+    {
         output.keep_whole(&mut self.record, broken_off_line());
         if self.has_ended() {
             output.break_off(broken_off_line());
@@ -165,13 +149,24 @@ impl Teller for Trace {
         self.takes_more()
     }
 
+    // It has its place; or the trace is broken off before it.
     fn tell(&mut self, text: &[u8])
         ensures quiet { is_telling self.old ≡ false → self.new ≡ self.old }
         ensures placed { is_telling self.old ≡ true → length text.now ≤ self.old.room → HasPlace self.old text.now self.new }
         ensures no_room { is_telling self.old ≡ true → self.old.room < length text.now
             → self.new ≡ record self.old { is_broken_off = true } }
     {
-        self.put(text);
+        if !self.takes_more() {
+            return;
+        }
+        if text.len() > self.room {
+            self.is_broken_off = true;
+            return;
+        }
+        match self.record.out.extend_from_slice(text) {
+            Ok(()) => self.room -= text.len(),
+            Err(_) => self.record.refuse(),
+        }
     }
 
     fn break_off(&mut self)

@@ -15,7 +15,7 @@ returns-clause-turn g c =
 
 pub returns-then-is_lost-clause-tally : goal.returns-then-is_lost-clause-tally
 returns-then-is_lost-clause-tally g c =
-    found_none _ _ (tally_of _ _ c.untaken.ensures ∙ tally_of _ _ c.is_lost.ensures.journal)
+    found_none _ _ (tally_of _ _ c.untaken.ensures.rest ∙ tally_of _ _ c.is_lost.ensures.journal)
 
 pub returns-clause-tally : goal.returns-clause-tally
 returns-clause-tally g c = found_between _ _ _ _ _ (tally_of _ _ c.is_lost.ensures.journal) c.handed_over.ensures.tally refl
