@@ -24,8 +24,8 @@ fn own_line(whose: Whose) -> Option<u16>
 }
 
 // The line whose own command is sent for the first time, where a message with this label is one.
-fn begun_by(label: Label) -> Option<u16>
-    ensures { result ≡ begun_by label.whose label.what }
+fn begun_by(label: &Label) -> Option<u16>
+    ensures { result ≡ begun_by label.now.whose label.now.what }
 {
     match label.what {
         What::Command { .. } => own_line(label.whose),
@@ -43,10 +43,10 @@ fn put_sent(
     domain: &[u8],
     came: u64,
     to: Stamp,
-    label: Label,
+    label: &Label,
     text: &[u8],
 ) -> Result<(), OutOfMemory>
-    ensures { OnOk result (out.new.items ≡ out.old.items ++ sent_text domain.now came to text.now label) }
+    ensures { OnOk result (out.new.items ≡ out.old.items ++ sent_text domain.now came to text.now label.now) }
 {
     let id = label.id;
     match label.what {
@@ -68,10 +68,10 @@ fn keep_command(
     alloc: Global,
     own: &mut LastCommands,
     to: Stamp,
-    label: Label,
+    label: &Label,
     text: &[u8],
 ) -> Result<(), OutOfMemory>
-    ensures { OnOk result (own.new.entries ≡ last_with to text.now label own.old.entries) }
+    ensures { OnOk result (own.new.entries ≡ last_with to text.now label.now own.old.entries) }
 {
     let Some(line) = begun_by(label) else {
         return Ok(());
@@ -87,10 +87,10 @@ fn keep_command(
 
 impl Log {
     // Puts what is said of a message that is sent, and keeps it where it is a command of the gateway's own for the first time.
-    fn put_message_sent(&mut self, to: Stamp, label: Label, text: &[u8]) -> Result<(), OutOfMemory>
+    fn put_message_sent(&mut self, to: Stamp, label: &Label, text: &[u8]) -> Result<(), OutOfMemory>
         ensures out { OnOk result (self.new.record.out.items
-            ≡ self.old.record.out.items ++ sent_text self.old.domain self.old.came.moment to text.now label) }
-        ensures own { OnOk result (self.new.own.entries ≡ last_with to text.now label self.old.own.entries) }
+            ≡ self.old.record.out.items ++ sent_text self.old.domain self.old.came.moment to text.now label.now) }
+        ensures own { OnOk result (self.new.own.entries ≡ last_with to text.now label.now self.old.own.entries) }
         ensures rest { self.new ≡ record self.old {
           «record» = record self.old.record { out = self.new.record.out };
           own = self.new.own;
@@ -129,7 +129,7 @@ impl Log {
             let [message, others @ ..] = left else {
                 return Ok(());
             };
-            self.put_message_sent(to, message.label, text)?;
+            self.put_message_sent(to, &message.label, text)?;
             left = others;
         }
         Ok(())

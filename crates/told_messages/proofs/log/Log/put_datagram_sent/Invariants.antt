@@ -1,7 +1,7 @@
 use Rattle.std.proofs.Common.{◌≡◌, ◌++◌}
 use Rattle.piggyback.specs.Parts.{parts_of}
 use Rattle.told_messages.specs.Sending.{datagram_text, last_behind}
-use Rattle.told_messages.proofs.sending.Log.put_datagram_sent.Given as goal
+use Rattle.told_messages.proofs.log.Log.put_datagram_sent.Given as goal
 
 -- what was put and kept so far, and what the texts that are left bring, is all that the datagram brings
 abbrev pub invariant-loop-text : goal.invariant-loop-text
