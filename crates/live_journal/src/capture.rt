@@ -1,5 +1,5 @@
 //! The capture of a gateway: each datagram that comes or is sent, as tshark and Wireshark read it.
-ghost use Rattle.std.specs.Prelude.{◌≡◌, ◌++◌, IfOk, is_some};
+ghost use Rattle.std.specs.Prelude.{◌≡◌, ◌++◌, [], IfOk, IfSome, IfNone, is_some};
 ghost use Rattle.exchange_log.specs.File.{file_head};
 ghost use Rattle.live_journal.specs.Recording.{Begins};
 ghost use Rattle.live_journal.specs.Capturing.{BeginsFile, Captures};
@@ -69,6 +69,7 @@ impl Capture {
     ) -> Result<Capture, OutOfMemory>
         ensures head { IfOk result (λ capture. Begins (is_some file) file_head capture.record) }
         ensures here { IfOk result (λ capture. capture.here ≡ here) }
+        ensures named { IfOk result (λ capture. IfSome file (λ name. capture.name ≡ name.now) × IfNone file (capture.name ≡ [])) }
     {
         let name = file.unwrap_or("").as_bytes();
         Ok(Capture {

@@ -7,7 +7,6 @@ pub mod examples;
 mod journal;
 mod recording;
 mod trace;
-pub mod trace_examples;
 
 pub use crate::capture::Capture;
 pub use crate::journal::Journal;
