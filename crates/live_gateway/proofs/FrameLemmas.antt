@@ -130,4 +130,4 @@ leaves_schedule traffic tells serves now Command visitors left was is leaves = l
 leaves_schedule {S} {T} traffic tells serves now Datagram visitors left was is leaves = ap (λ (x : Desk S T). x.schedule) leaves.0
 leaves_schedule {S} {T} traffic tells serves now Visit visitors left was is leaves =
     ap (λ (x : Desk S T). x.schedule) leaves.page.rest ∙ ap (λ (x : Desk S T). x.schedule) leaves.before
-leaves_schedule {S} {T} traffic tells serves now (Note pause) visitors left was is leaves = ap (λ (x : Desk S T). x.schedule) leaves.0
+leaves_schedule {S} {T} traffic tells serves now (Note pause) visitors left was is leaves = ap (λ (x : Desk S T). x.schedule) leaves.0.0

@@ -24,7 +24,7 @@ none_unsent : (n : ℕ) → n ≡ counted n 0
 none_unsent n = omega arith
 
 sends_nothing : {S : Type 0} (was : Exchange S) → OnlySends [] was was
-sends_nothing was = record { read = refl; turn = (refl, refl); receive = refl; refused = refl; send = none_unsent was.faults.send }
+sends_nothing was = record { read = refl; turn = (refl, refl); written = refl; receive = refl; refused = refl; send = none_unsent was.faults.send }
 
 marked_receive : (mark : Option Mark) (faults : Faults) → (with_mark mark faults).receive ≡ faults.receive
 marked_receive None faults = refl
@@ -52,6 +52,7 @@ sends_more : {S : Type 0} (sends : S → SocketAddrV4 → List ℕ → Result �
 sends_more sends was to bytes messages mark mid said is h rest = record {
   read = rest.read ∙ h.rest.0;
   turn = (rest.turn.0 ∙ h.rest.1.0, rest.turn.1 ∙ h.rest.1.1);
+  written = rest.written ∙ h.written;
   receive = rest.receive ∙ ap (λ (x : Faults). x.receive) h.faults ∙ marked_receive mark was.faults;
   refused = rest.refused ∙ ap (λ (x : Faults). x.refused) h.faults ∙ marked_refused mark was.faults;
   send = rest.send ∙ ap (λ (x : Faults). counted x.send (unsent_in said)) h.faults ∙ marked_send mark said was.faults;
@@ -69,10 +70,11 @@ sends_each sends (d ∷ more) messages was (mark ∷ said) is h =
 
 -- behind what an exchange was told of the event
 sends_after : {S : Type 0} (said : List (Option Mark)) (was told is : Exchange S) → told ≡ record was { journal = told.journal }
-    → OnlySends said told is → OnlySends said was is
-sends_after {S} said was told is rest s = record {
+    → told.journal.written ≡ was.journal.written → OnlySends said told is → OnlySends said was is
+sends_after {S} said was told is rest written s = record {
   read = s.read ∙ ap (λ (x : Exchange S). x.read) rest;
   turn = (s.turn.0 ∙ ap (λ (x : Exchange S). x.now) rest, s.turn.1 ∙ ap (λ (x : Exchange S). x.is_offering) rest);
+  written = s.written ∙ written;
   receive = s.receive ∙ ap (λ (x : Exchange S). x.faults.receive) rest;
   refused = s.refused ∙ ap (λ (x : Exchange S). x.faults.refused) rest;
   send = s.send ∙ ap (λ (x : Exchange S). counted x.faults.send (unsent_in said)) rest;
@@ -85,7 +87,7 @@ only_sends : {S : Type 0} (sends : S → SocketAddrV4 → List ℕ → Result �
     → (t : TakesBy (λ a gateway b. IsTold a gateway b) (λ a at bytes own mark b. HandsOver sends a at bytes own mark b) was from input event is sent)
     → OnlySends t.said from sent
 only_sends sends was from input event is sent t =
-    sends_after t.said from t.turned sent t.told.rest (sends_each sends t.takes.outputs is.gateway.account.sent t.turned t.said sent t.each)
+    sends_after t.said from t.turned sent t.told.rest t.told.records.1 (sends_each sends t.takes.outputs is.gateway.account.sent t.turned t.said sent t.each)
 
 -- it is taken over an exchange
 pub takes_over : {S : Type 0} (sends : S → SocketAddrV4 → List ℕ → Result ⊤ Fault → S → Type 0) (was : Live) (from sent to : Exchange S) (input : Input)

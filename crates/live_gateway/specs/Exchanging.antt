@@ -17,6 +17,7 @@ use Rattle.page_board.specs.declared.ring.Kind.TheVariants.{Sent as OfSent}
 use Rattle.plain_machine.specs.Event.{GatewayEvent}
 use Rattle.plain_machine.specs.declared.label.SentMessage.{SentMessage}
 use Rattle.told_messages.specs.Labelling.{sent_label}
+use Rattle.told_messages.specs.Logging.{Turns}
 use Rattle.told_messages.specs.Showing.{GoesOn, HappenedWith, Turned}
 use Rattle.live_play.specs.Coming.{Came}
 use Rattle.live_play.specs.Readable.{first_unread}
@@ -212,8 +213,8 @@ FoundSince traffic admission was found room is =
     HeardSince admission (received_by was.network (traffic was.around).received) (found_by found room)
     (received_by is.network (traffic is.around).received)
 
--- An exchange was told of an event by the gateway that took it: its journal shows and counts what that gateway tells of it, and nothing
--- else changes.
+-- An exchange was told of an event by the gateway that took it: its journal shows, counts and logs what that gateway tells of it; nothing
+-- is captured, and what became of records stays, as does all else.
 pub record IsTold {S : Type 0} (was : Exchange S) (gateway : GatewayState) (is : Exchange S) : Type 0 where
   pub shown : GoesOn (Turned was.now.clock gateway.outcomes gateway.account.given_up) was.journal.board is.journal.board
   pub texts : counts_in is.journal.tally.value.texts ≡ with_texts (counts_in was.journal.tally.value.texts) gateway.outcomes
@@ -224,16 +225,20 @@ pub record IsTold {S : Type 0} (was : Exchange S) (gateway : GatewayState) (is :
   pub unanswered : is.journal.tally.value.unanswered_since
       ≡ unanswered_after was.journal.tally.value.unanswered_since gateway.outcomes gateway.account.sent
   pub datagrams : CountsNoDatagram was.journal.tally.value is.journal.tally.value
+  pub logged : Turns was.journal.log.value was.now.time gateway.outcomes gateway.account.given_up is.journal.log.value
+  pub records : (is.journal.capture ≡ was.journal.capture) × (is.journal.written ≡ was.journal.written)
   pub rest : is ≡ record was { journal = is.journal }
 
 -- A datagram that has these messages was handed to an exchange: the page is shown it with these, and it is counted as handed out; it
--- became what is to be noted of it, and that it wasn't sent counts as a fault. Nothing was read, and no other fault counts.
+-- became what is to be noted of it, and that it wasn't sent counts as a fault. Nothing was read, no other fault counts, and what became of
+-- records stays.
 pub record HandsOver {S : Type 0} (sends : S → SocketAddrV4 → List ℕ → Result ⊤ Fault → S → Type 0)
     (was : Exchange S) (to : SocketAddrV4) (bytes : List ℕ) (messages : List SentMessage) (mark : Option Mark) (is : Exchange S) : Type 0 where
   pub shown : GoesOn (HappenedWith was.now.clock OfSent to bytes (map sent_label messages)) was.journal.board is.journal.board
   pub became : (became : Result Fate Fault) × Becomes sends was to bytes became is × (mark ≡ mark_of became)
   pub counted : is.journal.tally.value ≡ with_handed_out was.journal.tally.value
   pub faults : is.faults ≡ with_mark mark was.faults
+  pub written : is.journal.written ≡ was.journal.written
   pub rest : (is.read ≡ was.read) × IsSameTurn was is
 
 -- of datagrams of which this was said, so many weren't sent
@@ -243,11 +248,12 @@ unsent_in (None ∷ said) = unsent_in said
 unsent_in (Some Lost ∷ said) = unsent_in said
 unsent_in (Some Unsent ∷ said) = unsent_in said + 1
 
--- datagrams went over an exchange, which said this of each: nothing was read, the turn is the same, and of faults only this counts, that
--- those of which it said so weren't sent
+-- datagrams went over an exchange, which said this of each: nothing was read, the turn is the same, what became of records stays, and of
+-- faults only this counts, that those of which it said so weren't sent
 pub record OnlySends {S : Type 0} (said : List (Option Mark)) (was is : Exchange S) : Type 0 where
   pub read : is.read ≡ was.read
   pub turn : IsSameTurn was is
+  pub written : is.journal.written ≡ was.journal.written
   pub receive : is.faults.receive ≡ was.faults.receive
   pub refused : is.faults.refused ≡ was.faults.refused
   pub send : is.faults.send ≡ counted was.faults.send (unsent_in said)

@@ -11,6 +11,9 @@ use Rattle.surroundings.specs.Typing.{left_of}
 use Rattle.surroundings.specs.declared.lines.Lines.{Lines}
 use Rattle.surroundings.specs.declared.surroundings.Fault.{Fault}
 use Rattle.surroundings.specs.declared.surroundings.Told.{Told}
+use Rattle.exchange_log.specs.Pausing.{pause_line}
+use Rattle.told_messages.specs.Recording.{Records}
+use Rattle.turns.specs.declared.turn.Pause.{Pause}
 use Rattle.turns.specs.declared.turn.Turn.{Turn}
 use Rattle.turns.specs.declared.turn.Turn.TheVariants.{End, Look, Wait, Tick, Command, Datagram, Visit, Note}
 use Rattle.turns.specs.Schedule.{opening}
@@ -41,6 +44,11 @@ OnlyTicks moment was is = OnlyPlays was is × (is.exchange.now.clock ≡ moment)
 abbrev pub OnlyLogs : {S T : Type 0} → Desk S T → Desk S T → Type 0
 OnlyLogs was is =
     is ≡ record was { exchange = record was.exchange { journal = record was.exchange.journal { log = is.exchange.journal.log } } }
+
+-- a pause is noted: how much later it went on, and how many datagrams were read meanwhile, unless memory is refused for the log
+abbrev pub NotesPause : {S T : Type 0} → Pause → Desk S T → Desk S T → Type 0
+NotesPause pause was is = OnlyLogs was is × Records was.exchange.journal.log.value.record
+    (pause_line was.exchange.now.time pause.lateness pause.read) is.exchange.journal.log.value.record
 
 -- it looked for lines: only what is around it, how many datagrams were read, and the lines that are left change
 abbrev pub OnlyHears : {S T : Type 0} → Bool → Desk S T → Desk S T → Type 0
@@ -126,4 +134,4 @@ Leaves traffic tells serves now Command visitors left was is =
     (is.admission ≡ was.admission) × (is.schedule ≡ was.schedule) × (left ≡ visitors)
 Leaves traffic tells serves now Datagram visitors left was is = OnlyPlays was is × (left ≡ visitors)
 Leaves traffic tells serves now Visit visitors left was is = DoesVisit traffic tells serves now visitors left was is
-Leaves traffic tells serves now (Note pause) visitors left was is = OnlyLogs was is × (left ≡ visitors)
+Leaves traffic tells serves now (Note pause) visitors left was is = NotesPause pause was is × (left ≡ visitors)

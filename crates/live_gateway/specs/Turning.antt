@@ -23,7 +23,7 @@ use Rattle.turns.specs.declared.turn.Turn.{Turn}
 use Rattle.turns.specs.declared.turn.Turn.TheVariants.{End, Look, Wait, Tick, Command, Datagram, Visit, Note}
 use Rattle.turns.specs.Schedule.{next_of}
 use Rattle.live_play.specs.Running.{Ran}
-use Rattle.live_telephones.specs.Watching.{WatchesOn}
+use Rattle.live_telephones.specs.Watching.{WatchesOn, WatchesStill}
 use Rattle.live_gateway.specs.Leaving.{OnlyHears, TakesFromPage, Starts, Leaves}
 use Rattle.live_gateway.specs.declared.desk.Desk.{Desk}
 use Rattle.live_gateway.specs.declared.exchange.Exchange.{Exchange}
@@ -159,6 +159,7 @@ pub record DoesNext {S T V : Type 0}
   pub leaves : Leaves traffic tells serves at.moment turn visitors left begun done
   pub behind : is ≡ record done { exchange = record done.exchange { around = is.exchange.around }; watch = is.watch }
   pub kept : traffic is.exchange.around ≡ traffic done.exchange.around
+  pub still : WatchesStill answers done.watch.watchers.places is.exchange.around is.watch.watchers.places
   pub watch : (events : List GatewayEvent) → Stands done.play.gateway.value events
       → WatchesOn answers done.play.gateway.value.setup (plain done.play.gateway.value.setup events)
       done.exchange.around done.watch is.exchange.around is.watch

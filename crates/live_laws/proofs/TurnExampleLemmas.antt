@@ -1,5 +1,5 @@
 -- What the worked examples of turns, of visitors and of datagrams want shown.
-use Rattle.std.proofs.Common.{◌≡◌, ◌⊎◌, inl, inr, ℕ, Bool, true, false, List, [], ◌∷◌, Option, None, Some, ◌∙◌, refl, ap, subst}
+use Rattle.std.proofs.Common.{◌≡◌, ◌⊎◌, inl, inr, ℕ, Bool, true, false, List, [], ◌∷◌, ◌++◌, Option, None, Some, ◌∙◌, refl, ap, subst}
 use Rattle.std.specs.Prelude.{⊤, Result, Ok, Err, IsErr, is_some}
 use Rattle.std.specs.Global.{Box}
 use Rattle.std.specs.declared.net.socket_addr.SocketAddrV4.{SocketAddrV4}
@@ -13,7 +13,10 @@ use Rattle.traces.specs.declared.telling.Mark.{Mark}
 use Rattle.traces.specs.declared.telling.Mark.TheVariants.{Unsent}
 use Rattle.surroundings.specs.declared.surroundings.Fault.{Fault}
 use Rattle.live_ends.specs.declared.ending.CommonEnding.{CommonEnding}
-use Rattle.live_ends.specs.declared.ending.CommonEnding.TheVariants.{OutOfMemory}
+use Rattle.live_ends.specs.declared.ending.CommonEnding.TheVariants.{OutOfMemory as LacksMemory}
+use Rattle.live_outlets.specs.declared.record.RecordState.{RecordState}
+use Rattle.live_outlets.specs.declared.record.RecordState.TheVariants.{Off, On, OutOfMemory}
+use Rattle.told_messages.specs.Recording.{Puts}
 use Rattle.live_outlets.specs.declared.written.Written.{Written}
 use Rattle.live_ends.specs.Ending.{served_ending}
 use Rattle.live_outlets.specs.Written.{faults_in}
@@ -37,14 +40,14 @@ use Rattle.live_laws.specs.TurnExample.{one, HandsNowhere, HandsWith}
 
 -- memory was refused for a record: so it ends
 pub refused_ends : {S W : Type 0} (ends : List ℕ → W → Written → W → Type 0) (desk : Desk S Trace) (was is : W) (ending : CommonEnding)
-    → is_record_refused desk.play.teller desk.exchange.journal ≡ true → EndsWith ends desk was is ending → ending ≡ OutOfMemory
+    → is_record_refused desk.play.teller desk.exchange.journal ≡ true → EndsWith ends desk was is ending → ending ≡ LacksMemory
 refused_ends ends desk was is ending refused (inl none) = none.1
 refused_ends ends desk was is ending refused (inr told) = told.4 ∙ ap (λ (b : Bool). served_ending b (faults_in told.1)) refused
 
 -- what was counted is said last, or memory was refused for it
 pub counts_end : {S W : Type 0} (last : List ℕ) (desk : Desk S Trace) (was is : W) (ending : CommonEnding)
     → EndsWith (λ (words : List ℕ) (before : W) (written : Written) (after : W). words ≡ last) desk was is ending
-    → (ending ≡ OutOfMemory) ⊎ IsCounted desk last
+    → (ending ≡ LacksMemory) ⊎ IsCounted desk last
 counts_end last desk was is ending (inl none) = inl none.1
 counts_end last desk was is ending (inr told) = inr (subst (λ (words : List ℕ). IsCounted desk words) told.3 told.2)
 
@@ -130,3 +133,15 @@ pub tried_counts : (was is : Standing) (input : Input) (event : GatewayEvent) (f
     → (is.came.refused ≡ was.came.refused) ⊎ (to.faults.refused ≡ counted from.faults.refused 1)
 tried_counts was is input event from to (inl takes) = inl takes.1
 tried_counts was is input event from to (inr misses) = inr (ap (λ (x : Exchange ℕ). x.faults.refused) misses.1.rest)
+
+-- ---- what is noted
+
+-- a log that is told all, and still is, has a text behind what it had
+pub noted_on : (state : RecordState) (were text : List ℕ) (next : RecordState) (are : List ℕ) → state ≡ On → next ≡ On → Puts state were text next are
+    → are ≡ were ++ text
+noted_on Off were text next are on still puts = absurd cc
+noted_on On were text next are on still (inl put) = put.1
+noted_on On were text next are on still (inr refused) =
+    let other : next ≡ OutOfMemory = refused.0 in
+    absurd cc
+noted_on OutOfMemory were text next are on still puts = absurd cc

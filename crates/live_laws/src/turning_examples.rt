@@ -1,7 +1,7 @@
 //! Worked examples of what a turn does, as theorems.
 #![tactic(auto)]
 
-ghost use Rattle.std.specs.Prelude.{◌≡◌, ◌⊎◌, ◌∷◌, ⊤, codes, true, false, ℕ, List, [], Bool, Option, Some, None, is_some, Ok, Err};
+ghost use Rattle.std.specs.Prelude.{◌≡◌, ◌⊎◌, ◌∷◌, ◌++◌, ⊤, codes, true, false, ℕ, List, [], Bool, Option, Some, None, is_some, Ok, Err};
 ghost use Rattle.gateway_core.specs.GatewayState.{GatewayState};
 ghost use Rattle.gateway_rules.specs.declared.refusal.Refusal.{Refusal as Why};
 ghost use Rattle.live_ends.specs.declared.ending.CommonEnding.{CommonEnding};
@@ -28,7 +28,9 @@ ghost use Rattle.told_messages.specs.Labelling.{sent_label};
 ghost use Rattle.told_messages.specs.Showing.{HappenedWith};
 ghost use Rattle.traces.specs.declared.telling.Mark.{Mark};
 ghost use Rattle.traces.specs.declared.telling.Mark.TheVariants.{Unsent, Lost};
-ghost use Rattle.live_gateway.specs.Leaving.{OnlyShows, OnlyTells, OnlyPlays, OnlyTicks, OnlyLogs, OnlyHears, OnlyReplies, OnlyWaits, TakesIf, DoesVisit};
+ghost use Rattle.live_gateway.specs.Leaving.{OnlyShows, OnlyTells, OnlyPlays, OnlyTicks, OnlyLogs, NotesPause, OnlyHears, OnlyReplies, OnlyWaits, TakesIf, DoesVisit};
+ghost use Rattle.exchange_log.specs.Pausing.{pause_line};
+ghost use Rattle.live_outlets.specs.declared.record.RecordState.TheVariants.{On};
 ghost use Rattle.live_gateway.specs.Turning.{ready_at, RunsTurns, Tries};
 ghost use Rattle.surroundings.specs.Sending.{untold};
 ghost use Rattle.std.specs.Global.{Box};
@@ -40,6 +42,10 @@ pub fn what_stays_has_examples()
     ensures shown { (was is : Exchange ℕ) → OnlyShows was is → is.journal.board ≡ was.journal.board → is ≡ was }
     ensures played { (was is : Desk ℕ ℕ) → OnlyPlays was is → is.play ≡ was.play → is.exchange ≡ was.exchange → is ≡ was }
     ensures noted { (was is : Desk ℕ ℕ) → OnlyLogs was is → is.exchange.journal.log ≡ was.exchange.journal.log → is ≡ was }
+    ensures paused { (was is : Desk ℕ ℕ) → NotesPause (record { lateness = 31000; read = Some 12 }) was is
+        → was.exchange.journal.log.value.record.state ≡ On → is.exchange.journal.log.value.record.state ≡ On
+        → is.exchange.journal.log.value.record.out.items ≡ was.exchange.journal.log.value.record.out.items
+        ++ pause_line was.exchange.now.time 31000 (Some 12) }
     ensures heard { (was is : Desk ℕ ℕ) → OnlyHears false was is → is.exchange.around ≡ was.exchange.around → is.lines ≡ was.lines
         → is ≡ was }
     ensures said { (was is : Desk ℕ ℕ) → OnlyReplies was is → is.exchange.around ≡ was.exchange.around → is.lines ≡ was.lines → is ≡ was }
@@ -107,6 +113,11 @@ pub fn what_goes_over_an_exchange_has_examples()
     ensures sent { (was is : Exchange ℕ) → OnlySends (Some Unsent ∷ []) was is
         → (is.faults.send ≡ counted was.faults.send 1) × (is.read ≡ was.read) × (is.faults.receive ≡ was.faults.receive) }
     ensures told { (gateway : GatewayState) (was is : Exchange ℕ) → IsTold was gateway is → is.faults ≡ was.faults }
+    ensures recorded { (gateway : GatewayState) (was is : Exchange ℕ) → IsTold was gateway is
+        → (is.journal.written ≡ was.journal.written) × (is.journal.capture ≡ was.journal.capture) }
+    ensures unwritten { (mark : Option Mark) (was is : Exchange ℕ) → HandsAnywhere mark was is → is.journal.written ≡ was.journal.written }
+    ensures unfailed { (said : List (Option Mark)) (was is : Exchange ℕ) → OnlySends said was is
+        → is.journal.written ≡ was.journal.written }
     ensures quiet { (gateway : GatewayState) (was is : Exchange ℕ) → gateway.outcomes ≡ [] → IsTold was gateway is
         → counts_in is.journal.tally.value.texts ≡ counts_in was.journal.tally.value.texts }
     ensures gone { (was is : Exchange ℕ) → HandsAnywhere None was is → is.faults ≡ was.faults }

@@ -14,6 +14,15 @@ returns-clause-sent c = λ was is only. (only.send, only.read, only.receive)
 pub returns-clause-told : goal.returns-clause-told
 returns-clause-told c = λ gateway was is told. ap (λ (exchange : Exchange ℕ). exchange.faults) told.rest
 
+pub returns-clause-recorded : goal.returns-clause-recorded
+returns-clause-recorded c = λ gateway was is told. (told.records.1, told.records.0)
+
+pub returns-clause-unwritten : goal.returns-clause-unwritten
+returns-clause-unwritten c = λ mark was is hands. hands.written
+
+pub returns-clause-unfailed : goal.returns-clause-unfailed
+returns-clause-unfailed c = λ said was is only. only.written
+
 pub returns-clause-quiet : goal.returns-clause-quiet
 returns-clause-quiet c = λ gateway was is none told.
     told.texts ∙ ap (λ outcomes. with_texts (counts_in was.journal.tally.value.texts) outcomes) none

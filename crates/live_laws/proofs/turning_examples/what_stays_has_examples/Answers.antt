@@ -1,6 +1,7 @@
 use Rattle.std.proofs.Common.{ℕ, refl, ◌∙◌, ap}
 use Rattle.live_gateway.specs.declared.desk.Desk.{Desk}
 use Rattle.live_gateway.specs.declared.exchange.Exchange.{Exchange}
+use Rattle.live_laws.proofs.TurnExampleLemmas.{noted_on}
 use Rattle.live_laws.proofs.turning_examples.what_stays_has_examples.Goals as goal
 
 pub returns-clause-shown : goal.returns-clause-shown
@@ -14,6 +15,11 @@ returns-clause-played c = λ was is only play exchange.
 pub returns-clause-noted : goal.returns-clause-noted
 returns-clause-noted c = λ was is only log.
     only ∙ ap (λ x. record was { exchange = record was.exchange { journal = record was.exchange.journal { log = x } } }) log
+
+pub returns-clause-paused : goal.returns-clause-paused
+returns-clause-paused c = λ was is notes on still. noted_on was.exchange.journal.log.value.record.state
+    was.exchange.journal.log.value.record.out.items _ is.exchange.journal.log.value.record.state is.exchange.journal.log.value.record.out.items
+    on still notes.1
 
 pub returns-clause-heard : goal.returns-clause-heard
 returns-clause-heard c = λ was is only around lines.

@@ -58,4 +58,4 @@ pub returns-in-Visit-clause-leaves : goal.returns-in-Visit-clause-leaves
 returns-in-Visit-clause-leaves g c = rw (c.in-Visit.is) c.visit.ensures
 
 pub returns-in-Note-clause-leaves : goal.returns-in-Note-clause-leaves
-returns-in-Note-clause-leaves g c = rw (c.in-Note.is) (refl, refl)
+returns-in-Note-clause-leaves g c = rw (c.in-Note.is) ((refl, rw (c.deref_mut.ensures.value) at c.pause.ensures.puts), refl)

@@ -92,5 +92,6 @@ returns-clause-does g c =
       leaves = c.do_turn.ensures.leaves;
       behind = refl;
       kept = c.tell.ensures.traffic;
+      still = c.tell.ensures.watchers;
       watch = rw (c.deref-3.ensures) at c.tell.ensures.watch;
     }
