@@ -1,11 +1,11 @@
 //! Opens a gateway that runs, over surroundings that it is given: its journal, the way between it and others, its play and its desk, as
 //! is asked for. Each part is made by a function of its own, since a check pays for all that a value holds inline at each step of a
 //! function that has it.
-ghost use Rattle.std.specs.Prelude.{◌≡◌, false, is_some, IfOk};
+ghost use Rattle.std.specs.Prelude.{◌≡◌, [], false, is_some, IfOk};
 ghost use Rattle.turns.specs.Schedule.{opening};
 ghost use Rattle.live_journal.specs.Recording.{trace_head, Begins};
 ghost use Rattle.live_telephones.specs.Watching.{IsUnwatched};
-ghost use Rattle.live_gateway.specs.Opening.{CountsNothing};
+ghost use Rattle.live_gateway.specs.Opening.{CountsNothing, BeginsBoard, BeginsNetwork, IsUnused, IsUnplayed, IsUntyped};
 
 use crate::admission::Admission;
 use crate::desk::Desk;
@@ -57,7 +57,7 @@ fn capture_of(alloc: Global, settings: &DeskSettings<'_>) -> Result<Box<Capture>
 
 // What a page is shown, if there is one.
 fn board_of(alloc: Global, has_page: bool) -> Result<Option<Box<Board>>, AllocError>
-    ensures { IfOk result (λ board. is_some board ≡ has_page) }
+    ensures { IfOk result (λ board. BeginsBoard has_page board) }
 {
     if !has_page {
         return Ok(None);
@@ -70,7 +70,7 @@ fn journal_of(
     settings: &DeskSettings<'_>,
     domain: &[u8],
 ) -> Result<Journal, AllocError>
-    ensures page { IfOk result (λ journal. is_some journal.board ≡ settings.now.has_page) }
+    ensures page { IfOk result (λ journal. BeginsBoard settings.now.has_page journal.board) }
     ensures counted { IfOk result (λ journal. CountsNothing journal.tally.value) }
 {
     Ok(Journal {
@@ -87,7 +87,9 @@ fn spoilt_by(
     alloc: Global,
     spoiling: Spoiling,
     domain: &[u8],
-) -> Result<Box<SpoiltWay>, AllocError> {
+) -> Result<Box<SpoiltWay>, AllocError>
+    ensures { IfOk result (λ way. way.value.network.waiting.items ≡ []) }
+{
     let network = BadNetwork::new(alloc, spoiling.with_name(domain));
     boxed(alloc, SpoiltWay::new(alloc, network))
 }
@@ -98,7 +100,7 @@ fn network_of(
     asked: Option<Spoiling>,
     domain: &[u8],
 ) -> Result<Option<Box<SpoiltWay>>, AllocError>
-    ensures { IfOk result (λ network. is_some network ≡ is_some asked) }
+    ensures { IfOk result (λ network. BeginsNetwork asked network) }
 {
     match asked {
         Some(spoiling) => Ok(Some(spoilt_by(alloc, spoiling, domain)?)),
@@ -114,9 +116,10 @@ fn exchange_of<S: Surroundings + Drop>(
     around: Box<S>,
 ) -> Result<Exchange<S>, AllocError>
     ensures around { IfOk result (λ exchange. exchange.around ≡ around.value) }
-    ensures spoilt { IfOk result (λ exchange. is_some exchange.network ≡ is_some settings.now.network) }
-    ensures page { IfOk result (λ exchange. is_some exchange.journal.board ≡ settings.now.has_page) }
+    ensures spoilt { IfOk result (λ exchange. BeginsNetwork settings.now.network exchange.network) }
+    ensures page { IfOk result (λ exchange. BeginsBoard settings.now.has_page exchange.journal.board) }
     ensures counted { IfOk result (λ exchange. CountsNothing exchange.journal.tally.value) }
+    ensures unused { IfOk result (λ exchange. IsUnused exchange) }
 {
     let network = network_of(alloc, settings.network, domain)?;
     let journal = journal_of(alloc, settings, domain)?;
@@ -132,6 +135,7 @@ fn exchange_of<S: Surroundings + Drop>(
 fn play_of(alloc: Global, has_trace: bool, config: &[u8], gateway: Box<Gateway>) -> LivePlay<Trace>
     ensures gateway { result.gateway ≡ gateway }
     ensures trace { Begins has_trace (trace_head config.now gateway.value.setup.first) result.teller.record }
+    ensures unplayed { IsUnplayed result }
 {
     let trace = Trace::new(alloc, has_trace, config, gateway.setup().first);
     LivePlay::new(alloc, gateway, trace)
@@ -153,8 +157,11 @@ pub fn open_desk<S: Surroundings + Drop>(
     ensures end { IfOk result (λ desk. desk.value.end ≡ settings.now.end) }
     ensures trace { IfOk result (λ desk. Begins settings.now.has_trace (trace_head config.now gateway.value.setup.first)
         desk.value.play.teller.record) }
-    ensures spoilt { IfOk result (λ desk. is_some desk.value.exchange.network ≡ is_some settings.now.network) }
-    ensures page { IfOk result (λ desk. is_some desk.value.exchange.journal.board ≡ settings.now.has_page) }
+    ensures spoilt { IfOk result (λ desk. BeginsNetwork settings.now.network desk.value.exchange.network) }
+    ensures page { IfOk result (λ desk. BeginsBoard settings.now.has_page desk.value.exchange.journal.board) }
+    ensures unused { IfOk result (λ desk. IsUnused desk.value.exchange) }
+    ensures unplayed { IfOk result (λ desk. IsUnplayed desk.value.play) }
+    ensures untyped { IfOk result (λ desk. IsUntyped desk.value.lines) }
     ensures counted { IfOk result (λ desk. CountsNothing desk.value.exchange.journal.tally.value) }
     ensures begins { IfOk result (λ desk. (desk.value.is_of_page ≡ false) × (desk.value.schedule ≡ opening 0)
         × IsUnwatched desk.value.watch) }

@@ -41,7 +41,12 @@ ghost use Rattle.live_gateway.specs.declared.exchange.Exchange.{Exchange};
 ghost use Rattle.live_gateway.specs.declared.spoilt_way.SpoiltWay.{SpoiltWay};
 ghost use Rattle.live_gateway.specs.Offering.{came_from, came_over, brought};
 ghost use Rattle.live_gateway.specs.Exchanging.{faultless, received_by, refusals, with_refused, with_mark, with_unreceived, IsSameTurn};
-ghost use Rattle.live_gateway.specs.Opening.{CountsNothing};
+ghost use Rattle.bad_network.specs.declared.spoiling.Spoiling.{Spoiling};
+ghost use Rattle.page_board.specs.Showing.{BoardState};
+ghost use Rattle.surroundings.specs.Typing.{left_of};
+ghost use Rattle.surroundings.specs.declared.lines.Lines.{Lines};
+ghost use Rattle.live_play.specs.declared.play.LivePlay.{LivePlay};
+ghost use Rattle.live_gateway.specs.Opening.{CountsNothing, BeginsBoard, BeginsNetwork, IsUnused, IsUnplayed, IsUntyped};
 ghost use Rattle.live_gateway.specs.Noting.{TurnsAway, NotesArrival, NotesLate, with_strangers, with_found, CountsFound};
 
 /// Each sentence at an example.
@@ -126,6 +131,19 @@ pub fn what_comes_is_counted_once()
     ensures none { (was is : MessageTally) → CountsFound was None is → is.datagrams_in ≡ was.datagrams_in }
     ensures rest { (was is : MessageTally) (found : Option (SocketAddrV4 × ℕ)) → CountsFound was found is → is.sent ≡ was.sent }
     ensures at_first { (tally : MessageTally) → CountsNothing tally → tally.places.sends ≡ replicate 5 0 }
+{}
+
+/// A gateway begins with nothing: nobody typed, nobody asked the page for anything, no packet waits, nothing failed and nothing was played.
+pub fn a_gateway_begins_with_nothing()
+    ensures no_page { (board : Box BoardState) → BeginsBoard false (Some board) → ⊥ }
+    ensures page { BeginsBoard true None → ⊥ }
+    ensures unasked { (board : Box BoardState) → BeginsBoard true (Some board) → board.value.acts ≡ [] }
+    ensures unspoilt { (way : Box SpoiltWay) → BeginsNetwork None (Some way) → ⊥ }
+    ensures unsent { (spoiling : Spoiling) (way : Box SpoiltWay) → BeginsNetwork (Some spoiling) (Some way)
+        → way.value.network.waiting.items ≡ [] }
+    ensures unused { (exchange : Exchange ℕ) → IsUnused exchange → (exchange.faults.send ≡ 0) × (exchange.read ≡ 0) }
+    ensures unplayed { (play : LivePlay ℕ) → IsUnplayed play → play.printed.items ≡ [] }
+    ensures untyped { (lines : Lines) → IsUntyped lines → (left_of lines ≡ []) × (lines.sender ≡ None) }
 {}
 
 /// Each sentence at an example.
