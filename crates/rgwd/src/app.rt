@@ -222,7 +222,7 @@ fn serve_with<R: Files + Net + Clock + RandomSource + Alloc + Clone + Drop, P: R
         Ok(admission) => admission,
         Err(fault) => return fault.ending(),
     };
-    let asked = desk_settings(settings, own, gateway.setup().media_address);
+    let asked = desk_settings(settings, own[0], gateway.setup().media_address);
     let Ok(mut desk) = open_desk(alloc, &asked, config, gateway, live, admission) else {
         return Ending::Common(CommonEnding::OutOfMemory);
     };

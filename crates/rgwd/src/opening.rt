@@ -1,5 +1,5 @@
 //! Opens what the words ask for: sockets, and the page's site; and says what is asked of the desk of a gateway over these.
-ghost use Rattle.std.specs.Prelude.{◌≡◌, Some, is_some, IfOk, IfNone, IfSome};
+ghost use Rattle.std.specs.Prelude.{◌≡◌, ◌<◌, Some, is_some, IfOk, IfNone, IfSome};
 ghost use Rattle.std.specs.Net.Addr.{IsUnspecifiedV4};
 ghost use Rattle.std.specs.Net.Socket.{v4_ip, v4_port};
 ghost use Rattle.surroundings.specs.Speaking.{admitted_by, admitted_in};
@@ -39,7 +39,9 @@ pub fn open_site<R: Net, P: Reception>(
     alloc: Global,
     settings: &Settings<'_>,
     ready: &Readiness,
-) -> Result<Option<Box<PageReception<P>>>, Ending> {
+) -> Result<Option<Box<PageReception<P>>>, Ending>
+    ensures { IfOk result (λ site. is_some site ≡ is_some settings.now.sockets.http) }
+{
     let Some(address) = settings.sockets.http else {
         return Ok(None);
     };
@@ -85,6 +87,14 @@ pub fn admission_of(
     })
 }
 
+// Where the socket for commands is: where that doesn't tell where it is, it is where it was to be.
+fn place_of(own: SocketAddrV4, wanted: SocketAddrV4) -> SocketAddrV4
+    ensures untold { v4_port own ≡ 0 → result ≡ wanted }
+    ensures told { 0 < v4_port own → result ≡ own }
+{
+    if own.port() == 0 { wanted } else { own }
+}
+
 // The address that a capture tells of the gateway, whose socket is there: that of its media where the socket is at any address of
 // the machine, since no datagram comes from 0.0.0.0.
 fn captured_address(socket: SocketAddrV4, media: Ipv4Addr) -> SocketAddrV4
@@ -99,10 +109,10 @@ fn captured_address(socket: SocketAddrV4, media: Ipv4Addr) -> SocketAddrV4
     }
 }
 
-/// What is asked of a gateway whose sockets are at these addresses, and whose media is at that one.
+/// What is asked of a gateway whose socket for commands is at this address, and whose media is at that one.
 pub fn desk_settings<'w>(
     settings: &Settings<'w>,
-    own: [SocketAddrV4; 2],
+    own: SocketAddrV4,
     media: Ipv4Addr,
 ) -> DeskSettings<'w>
     ensures told { (result.has_trace ≡ settings.now.trace) × (result.has_log ≡ settings.now.log)
@@ -110,13 +120,12 @@ pub fn desk_settings<'w>(
     ensures captured { result.capture ≡ settings.now.capture }
     ensures spoilt { result.network ≡ settings.now.network }
     ensures ends { result.end ≡ settings.now.stop_after }
+    ensures port { (0 < v4_port own → v4_port result.here ≡ v4_port own)
+        × (v4_port own ≡ 0 → v4_port result.here ≡ v4_port settings.now.sockets.listen) }
+    ensures here { 0 < v4_port own → (IsUnspecifiedV4 (v4_ip own) → v4_ip result.here ≡ media)
+        × (¬ (IsUnspecifiedV4 (v4_ip own)) → v4_ip result.here ≡ v4_ip own) }
 {
-    // Where its socket doesn't tell where it is, that is where it was to be.
-    let socket = if own[0].port() == 0 {
-        settings.sockets.listen
-    } else {
-        own[0]
-    };
+    let socket = place_of(own, settings.sockets.listen);
     DeskSettings {
         has_trace: settings.trace,
         has_log: settings.log,
