@@ -64,7 +64,7 @@ arrival_strange admission was time source is notes strange = strange_found was t
 
 -- a heard one's arrival, and a stranger's
 
-not_both : (b : Bool) → b ≡ true → b ≡ false → ⊥
+pub not_both : (b : Bool) → b ≡ true → b ≡ false → ⊥
 not_both true heard strange = cc
 not_both false heard strange = cc
 

@@ -1,6 +1,7 @@
 pub mod SendingLemmas
 pub mod CameLemmas
 pub mod HearingLemmas
+pub mod PassingLemmas
 pub mod CountingLemmas
 pub mod EndingLemmas
 pub mod FrameLemmas

@@ -1,6 +1,7 @@
 pub mod Offering
 pub mod Exchanging
 pub mod Noting
+pub mod Passing
 pub mod Opening
 pub mod Admitting
 pub mod Naming

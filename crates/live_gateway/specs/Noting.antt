@@ -1,11 +1,16 @@
 -- What a journal gets of a datagram that comes, of one that isn't heard, and of one that couldn't be sent.
-use Rattle.std.specs.Prelude.{◌≡◌, ⊤, ℕ, true, false, nat_lt, if◌then◌else◌, Option, Some, None, Result, Ok, Err}
+use Rattle.std.specs.Prelude.{◌≡◌, ⊤, ℕ, true, false, nat_lt, if◌then◌else◌, List, Option, Some, None, Result, Ok, Err}
 use Rattle.std.specs.declared.net.socket_addr.SocketAddrV4.{SocketAddrV4}
 use Rattle.gateway_core.specs.Wire.{counted}
+use Rattle.page_board.specs.declared.ring.Kind.TheVariants.{Received as OfReceived}
 use Rattle.surroundings.specs.declared.surroundings.Fault.{Fault}
 use Rattle.told_messages.specs.Recording.{Records, unsent_text}
+use Rattle.told_messages.specs.Logging.{Receives}
+use Rattle.told_messages.specs.Showing.{GoesOn, Happened}
 use Rattle.told_messages.specs.Strangers.{quiet_after, stranger_text}
+use Rattle.live_outlets.specs.declared.now.Now.{Now}
 use Rattle.live_journal.specs.declared.journal.Journal.{Journal}
+use Rattle.live_journal.specs.Capturing.{Captures}
 use Rattle.message_counts.specs.Tallying.{with_received, with_stranger}
 use Rattle.message_counts.specs.declared.message_tally.MessageTally.{MessageTally}
 use Rattle.live_gateway.specs.declared.admission.Admission.{Admission}
@@ -16,6 +21,7 @@ pub record NotesStranger (was : Journal) (time : ℕ) (source : SocketAddrV4) (i
   pub tally : is.tally.value ≡ with_stranger was.tally.value
   pub told : Records was.log.value.record (stranger_text was.log.value.quiet time source) is.log.value.record
   pub quiet : is.log.value.quiet ≡ quiet_after was.log.value.quiet time
+  pub log : is.log.value ≡ record was.log.value { «record» = is.log.value.record; quiet = is.log.value.quiet }
   pub rest : (is.capture ≡ was.capture) × (is.board ≡ was.board) × (is.written ≡ was.written)
 
 -- one without a port can't be answered, and nothing is kept of it
@@ -27,6 +33,16 @@ pub record TurnsAway (was : Journal) (time : ℕ) (source : SocketAddrV4) (is : 
 pub record NotesArrival (admission : Admission) (was : Journal) (time : ℕ) (source : SocketAddrV4) (is : Journal) : Type 0 where
   pub heard : is_heard admission source ≡ true → is.tally.value ≡ with_received was.tally.value
   pub strange : is_heard admission source ≡ false → TurnsAway was time source is
+
+-- a datagram comes that is heard, so late: it counts as received, the log knows it, it is captured as it came to the gateway, and the page
+-- is shown it; what became of records stays
+pub record NotesReceived (now : Now) (late : ℕ) (source : SocketAddrV4) (bytes : List ℕ) (was is : Journal) : Type 0 where
+  pub tally : is.tally.value ≡ with_received was.tally.value
+  pub logged : Receives was.log.value (record { moment = now.time; peer = source }) bytes late is.log.value
+  pub captured : Captures was.capture.value
+      (record { moment = now.time; from = source; to = was.capture.value.here; bytes = bytes }) is.capture.value
+  pub shown : GoesOn (Happened now.clock OfReceived source bytes) was.board is.board
+  pub written : is.written ≡ was.written
 
 -- of what one look at a socket found one is counted: the one that is heard, or a stranger's, unless it has no port
 abbrev pub with_looked : Admission → Option (SocketAddrV4 × ℕ) → MessageTally → MessageTally
@@ -52,6 +68,7 @@ pub record CountsFound (was : MessageTally) (found : Option (SocketAddrV4 × ℕ
 pub record NotesUnsent (was : Journal) (time : ℕ) (to : SocketAddrV4) (is : Journal) : Type 0 where
   pub told : Records was.log.value.record (unsent_text time to) is.log.value.record
   pub quiet : is.log.value.quiet ≡ was.log.value.quiet
+  pub log : is.log.value ≡ record was.log.value { «record» = is.log.value.record }
   pub tally : is.tally ≡ was.tally
   pub rest : (is.capture ≡ was.capture) × (is.board ≡ was.board) × (is.written ≡ was.written)
 

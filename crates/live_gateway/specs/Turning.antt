@@ -28,6 +28,7 @@ use Rattle.live_gateway.specs.Leaving.{OnlyHears, TakesFromPage, Starts, Leaves}
 use Rattle.live_gateway.specs.declared.desk.Desk.{Desk}
 use Rattle.live_gateway.specs.declared.exchange.Exchange.{Exchange}
 use Rattle.live_gateway.specs.Answering.{DoesLine}
+use Rattle.live_gateway.specs.Passing.{Looks}
 use Rattle.live_gateway.specs.Visiting.{AreReady, ClosesAt}
 use Rattle.live_gateway.specs.Ending.{WroteTimes}
 use Rattle.live_gateway.specs.Desk.{Standing, at_desk, IsHeard}
@@ -55,7 +56,7 @@ TriesFound told traffic sends looked (Some found) room was is =
     × Tries sends (arrived found.0 (take found.1 room)) (datagram found.0 (take found.1 room))
     (at_desk told traffic was) looked (at_desk told traffic is) is.exchange
 
--- it was looked for a datagram at the desk's own exchange, once, and what was found was tried
+-- it was looked for a datagram at the desk's own exchange, once, and what was found was tried; nothing else came of the look
 pub record LooksForOne {S T : Type 0}
     (told : T → Option (List ℕ)) (traffic : S → Traffic)
     (receives : S → Result (Option (SocketAddrV4 × ℕ)) Fault → List ℕ → S → Type 0)
@@ -65,6 +66,7 @@ pub record LooksForOne {S T : Type 0}
   pub looked : Exchange S
   pub counts : CountsReceived receives was.admission was.exchange found room looked
   pub came : FoundSince traffic was.admission was.exchange found room looked
+  pub looks : Looks receives sends was.admission found room was.exchange looked
   pub tried : TriesFound told traffic sends looked found room was is
 
 -- Lines are heard where none is left; the first that is left is done, and no other one. Where none is left then, the page is asked for its

@@ -1,8 +1,6 @@
 //! What goes between the gateway and others: over sockets, behind a bad network where one is asked for; and its journal.
 ghost use Rattle.std.specs.Prelude.{◌≡◌, ◌<◌, ◌≤◌, ◌∷◌, ◌⊎◌, ⊤, [], true, false, length, take, ℕ, Bool, List, Option, Result, IfSome, is_some, option_map};
 ghost use Rattle.small_rules.specs.Counting.{counted};
-ghost use Rattle.page_board.specs.declared.ring.Kind.TheVariants.{Received as OfReceived};
-ghost use Rattle.told_messages.specs.Showing.{GoesOn, Happened};
 ghost use Rattle.surroundings.specs.declared.surroundings.Fault.{Fault};
 ghost use Rattle.surroundings.specs.Hearing.{Hears};
 ghost use Rattle.surroundings.specs.Sending.{Sent, Grows, found_by};
@@ -10,7 +8,8 @@ ghost use Rattle.live_gateway.specs.Admitting.{is_heard};
 ghost use Rattle.live_gateway.specs.Offering.{brought, TakesDue};
 ghost use Rattle.live_gateway.specs.Exchanging.{handed_by, received_by, came_by, next_due, moment_at, faultless, refusals, with_refused, with_unreceived, with_read, faults_by, Becomes, HandsOver, LosesOver, IsSameTurn, LooksOnce, CountsReceived, FoundSince};
 ghost use Rattle.live_gateway.specs.Visiting.{ServesOnce};
-ghost use Rattle.live_gateway.specs.Noting.{TurnsAway, NotesArrival, NotesLate, CountsFound};
+ghost use Rattle.live_gateway.specs.Noting.{NotesReceived, TurnsAway, NotesArrival, NotesLate, CountsFound};
+ghost use Rattle.live_gateway.specs.Passing.{HandsOut, GoesOver, LooksOver, LooksDirectly, Looks};
 ghost use Rattle.live_play.specs.Readable.{first_unread};
 
 use crate::admission::Admission;
@@ -27,6 +26,9 @@ use small_rules::count;
 use std::net::SocketAddrV4;
 use surroundings::{Fault, Lines, Surroundings};
 use traces::Mark;
+
+/// So many packets are handed out at most where the network before the socket is looked for one that comes in.
+pub(crate) const MOST_AT_ONCE: u16 = 65_535;
 
 /// The way between a gateway and others, and what is kept of what went over it.
 pub struct Exchange<S> {
@@ -227,10 +229,7 @@ impl<S: Surroundings + Drop> Exchange<S> {
     fn take_due(&mut self, room: &mut [u8]) -> Option<(Packet, usize)>
         ensures length { length room.new ≡ length room.old }
         ensures within { IfSome result (λ found. found.1 ≤ length room.new) }
-        ensures around { self.new.around ≡ self.old.around }
-        ensures faults { self.new.faults ≡ self.old.faults }
-        ensures read { self.new.read ≡ self.old.read }
-        ensures turn { IsSameTurn self.old self.new }
+        ensures rest { self.new ≡ record self.old { network = self.new.network } }
         ensures spoilt { is_some self.new.network ≡ is_some self.old.network }
         ensures handed { handed_by self.new.network (S.traffic self.new.around).sent
             ≡ handed_by self.old.network (S.traffic self.old.around).sent }
@@ -240,7 +239,6 @@ impl<S: Surroundings + Drop> Exchange<S> {
             (received_by self.new.network (S.traffic self.new.around).received) }
         ensures due { TakesDue self.old.now.clock self.old.network (option_map (λ found. found.0) result) self.new.network }
         ensures put { IfSome result (λ found. found.0.way ≡ Way.In → take found.1 room.new ≡ take (length room.old) found.0.bytes) }
-        ensures journal { self.new.journal ≡ self.old.journal }
     {
         match &mut self.network {
             Some(network) => network.take_due(self.now.clock, room),
@@ -251,11 +249,7 @@ impl<S: Surroundings + Drop> Exchange<S> {
     // A datagram has come from a stranger, which is counted, and told of now and then; one without a port can't be answered, and isn't
     // counted.
     fn turn_away(&mut self, source: SocketAddrV4)
-        ensures network { self.new.network ≡ self.old.network }
-        ensures around { self.new.around ≡ self.old.around }
-        ensures faults { self.new.faults ≡ self.old.faults }
-        ensures read { self.new.read ≡ self.old.read }
-        ensures turn { IsSameTurn self.old self.new }
+        ensures rest { self.new ≡ record self.old { journal = self.new.journal } }
         ensures noted { TurnsAway self.old.journal self.old.now.time source self.new.journal }
     {
         if 0 < source.port() {
@@ -266,14 +260,10 @@ impl<S: Surroundings + Drop> Exchange<S> {
     // A datagram has come, with these bytes, so many ms late by the network before the socket: whether it is heard.
     fn come(&mut self, admission: &Admission, source: SocketAddrV4, bytes: &[u8], late: u64) -> bool
         ensures heard { result ≡ is_heard admission.now source }
-        ensures network { self.new.network ≡ self.old.network }
-        ensures around { self.new.around ≡ self.old.around }
-        ensures faults { self.new.faults ≡ self.old.faults }
-        ensures read { self.new.read ≡ self.old.read }
-        ensures turn { IsSameTurn self.old self.new }
+        ensures rest { self.new ≡ record self.old { journal = self.new.journal } }
         ensures noted { NotesArrival admission.now self.old.journal self.old.now.time source self.new.journal }
-        ensures shown { is_heard admission.now source ≡ true → GoesOn (Happened self.old.now.clock OfReceived source bytes.now)
-            self.old.journal.board self.new.journal.board }
+        ensures received { is_heard admission.now source ≡ true
+            → NotesReceived self.old.now late source bytes.now self.old.journal self.new.journal }
     {
         if !admission.hears(source) {
             self.turn_away(source);
@@ -297,11 +287,8 @@ impl<S: Surroundings + Drop> Exchange<S> {
 
     // A datagram that the network hands out now is sent.
     fn send_late(&mut self, to: SocketAddrV4, bytes: &[u8])
-        ensures network { self.new.network ≡ self.old.network }
+        ensures rest { self.new ≡ record self.old { around = self.new.around; journal = self.new.journal } }
         ensures received { (S.traffic self.new.around).received ≡ (S.traffic self.old.around).received }
-        ensures faults { self.new.faults ≡ self.old.faults }
-        ensures read { self.new.read ≡ self.old.read }
-        ensures turn { IsSameTurn self.old self.new }
         ensures noted { (sent : Result ⊤ Fault) × S.sends self.old.around to bytes.now sent self.new.around
             × NotesLate self.old.journal self.old.now.time to sent self.new.journal }
         ensures tally { self.new.journal.tally ≡ self.old.journal.tally }
@@ -327,8 +314,9 @@ impl<S: Surroundings + Drop> Exchange<S> {
         ensures spoilt { is_some self.new.network ≡ is_some self.old.network }
         ensures came { FoundSince S.traffic admission.now self.old result room.new self.new }
         ensures tally { CountsFound self.old.journal.tally.value result self.new.journal.tally.value }
+        ensures hands { HandsOut S.sends admission.now result room.new self.old self.new }
     {
-        for _ in 0..u16::MAX {
+        for _ in 0..MOST_AT_ONCE {
             let (packet, len) = self.take_due(room)?;
             match packet.way {
                 Way::Out => self.send_late(packet.peer, packet.bytes.as_bytes()),
@@ -349,12 +337,9 @@ impl<S: Surroundings + Drop> Exchange<S> {
             ≡ received_by self.old.network (S.traffic self.old.around).received }
         ensures handed { handed_by self.new.network (S.traffic self.new.around).sent
             ≡ handed_by self.old.network (S.traffic self.old.around).sent }
-        ensures faults { self.new.faults ≡ self.old.faults }
-        ensures read { self.new.read ≡ self.old.read }
-        ensures turn { IsSameTurn self.old self.new }
+        ensures rest { self.new ≡ record self.old { network = self.new.network } }
         ensures spoilt { is_some self.new.network ≡ is_some self.old.network }
         ensures lost { LosesOver source bytes.now self.old.now.clock result self.old.network self.new.network }
-        ensures journal { self.new.journal ≡ self.old.journal }
     {
         let now = self.now.clock;
         match &mut self.network {
@@ -387,6 +372,7 @@ impl<S: Surroundings + Drop> Exchange<S> {
         ensures spoilt { is_some self.new.network ≡ is_some self.old.network }
         ensures came { FoundSince S.traffic admission.now self.old result room.new self.new }
         ensures tally { CountsFound self.old.journal.tally.value result self.new.journal.tally.value }
+        ensures over { GoesOver S.sends admission.now source (take len room.old) result room.new self.old self.new }
     {
         if self.is_lost(source, &room[..len]) {
             self.journal
@@ -400,13 +386,11 @@ impl<S: Surroundings + Drop> Exchange<S> {
     fn read_socket(&mut self, room: &mut [u8]) -> Option<(SocketAddrV4, usize)>
         ensures length { length room.new ≡ length room.old }
         ensures within { IfSome result (λ p. p.1 ≤ length room.new) }
-        ensures network { self.new.network ≡ self.old.network }
+        ensures rest { self.new ≡ record self.old { around = self.new.around; read = self.new.read; faults = self.new.faults } }
         ensures sent { (S.traffic self.new.around).sent ≡ (S.traffic self.old.around).sent }
         ensures received { Grows (S.traffic self.old.around).received (found_by result room.new) (S.traffic self.new.around).received }
         ensures refused { self.new.faults.refused ≡ self.old.faults.refused }
         ensures counts { LooksOnce S.receives self.old result room.new self.new }
-        ensures turn { IsSameTurn self.old self.new }
-        ensures journal { self.new.journal ≡ self.old.journal }
     {
         match self.around.receive(room) {
             Ok(Some(found)) => {
@@ -438,6 +422,7 @@ impl<S: Surroundings + Drop> Exchange<S> {
         ensures turn { IsSameTurn self.old self.new }
         ensures came { FoundSince S.traffic admission.now self.old result room.new self.new }
         ensures tally { CountsFound self.old.journal.tally.value result self.new.journal.tally.value }
+        ensures looks { LooksDirectly S.receives admission.now result room.new self.old self.new }
     {
         let (source, len) = self.read_socket(room)?;
         if self.come(admission, source, &room[..len], 0) {
@@ -464,6 +449,7 @@ impl<S: Surroundings + Drop> Exchange<S> {
         ensures turn { IsSameTurn self.old self.new }
         ensures came { FoundSince S.traffic admission.now self.old result room.new self.new }
         ensures tally { CountsFound self.old.journal.tally.value result self.new.journal.tally.value }
+        ensures looks { LooksOver S.receives S.sends admission.now result room.new self.old self.new }
     {
         if let Some(found) = self.handed_over(admission, room) {
             return Some(found);
@@ -493,6 +479,7 @@ impl<S: Surroundings + Drop> Exchange<S> {
         ensures turn { IsSameTurn self.old self.new }
         ensures came { FoundSince S.traffic admission.now self.old result room.new self.new }
         ensures tally { CountsFound self.old.journal.tally.value result self.new.journal.tally.value }
+        ensures looks { Looks S.receives S.sends admission.now result room.new self.old self.new }
     {
         if self.network.is_some() {
             self.receive_spoilt(admission, room)

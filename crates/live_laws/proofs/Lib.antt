@@ -8,3 +8,4 @@ pub mod HandedLaws
 pub mod Computing
 pub mod TurnExampleLemmas
 pub mod WayExampleLemmas
+pub mod PassingExampleLemmas

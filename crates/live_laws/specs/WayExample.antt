@@ -1,5 +1,5 @@
 -- What the worked examples of networks, looks and outlets speak of.
-use Rattle.std.specs.Prelude.{◌≡◌, ⊤, ℕ, zero, suc, ◌+◌, [], ◌∷◌, Option, None, Some, Result}
+use Rattle.std.specs.Prelude.{◌≡◌, ⊤, ℕ, zero, suc, ◌+◌, List, [], ◌∷◌, Option, None, Some, Result}
 use Rattle.std.specs.declared.net.socket_addr.SocketAddrV4.{SocketAddrV4}
 use Rattle.bad_network.specs.declared.fate.Fate.{Fate}
 use Rattle.bad_network.specs.declared.network.BadNetwork.{BadNetwork}
@@ -49,3 +49,13 @@ is_told_by teller was gateway is = gateway ≡ teller
 -- one that keeps what it has where it is told something
 abbrev pub stays_where_told : {O : Type 0} → O → GatewayState → O → Type 0
 stays_where_told was gateway is = is ≡ was
+
+-- surroundings that send whatever they are given; that send nothing; and for which nobody looks
+abbrev pub sends_any : ℕ → SocketAddrV4 → List ℕ → Result ⊤ Fault → ℕ → Type 0
+sends_any before to bytes sent after = ⊤
+
+abbrev pub sends_none : ℕ → SocketAddrV4 → List ℕ → Result ⊤ Fault → ℕ → Type 0
+sends_none before to bytes sent after = ⊥
+
+abbrev pub looks_never : ℕ → Result (Option (SocketAddrV4 × ℕ)) Fault → List ℕ → ℕ → Type 0
+looks_never before outcome room after = ⊥

@@ -4,6 +4,7 @@
 
 pub mod examples;
 pub mod laws;
+pub mod passing_examples;
 pub mod play_laws;
 pub mod turning_examples;
 pub mod way_examples;

@@ -19,6 +19,7 @@ returns-in_default-clause-looked g c = record {
   looked = c.receive.new.self;
   counts = c.in_default.ensures.counts;
   came = c.in_default.ensures.came;
+  looks = c.in_default.ensures.looks;
   tried = (refl, rw (c.receive.ensures.handed) refl, c.receive.ensures.refused);
 }
 
@@ -51,6 +52,7 @@ returns-clause-looked g c =
       looked = c.receive.new.self;
       counts = c.in-Some.ensures.counts;
       came = c.in-Some.ensures.came;
+      looks = c.in-Some.ensures.looks;
       tried = (
         c.in-Some.ensures.admitted,
         ap (λ (s : Standing). s.came.received) noted ∙ ap (λ (x : Came). x.received) same,

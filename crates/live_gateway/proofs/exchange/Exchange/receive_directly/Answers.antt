@@ -1,25 +1,28 @@
-use Rattle.std.proofs.Common.{None, Some, inl, refl, sym, ◌∙◌}
-use Rattle.live_gateway.proofs.ArrivalLemmas.{found_none, found_between, arrival_found, arrival_strange, heard_looked, strange_looked, tally_of}
+use Rattle.std.proofs.Common.{None, Some, inl, refl, sym, ◌∙◌, ap}
+use Rattle.live_gateway.specs.Admitting.{is_heard}
+use Rattle.live_gateway.specs.Exchanging.{handed_by, received_by}
+use Rattle.live_gateway.proofs.ArrivalLemmas.{found_none, found_between, arrival_found, arrival_strange, heard_looked, strange_looked}
 use Rattle.live_gateway.proofs.HearingLemmas.{heard_still, hears_nothing, hears_one, passes_over}
 use Rattle.live_gateway.proofs.CountingLemmas.{looked_before, heard_given, strange_kept}
+use Rattle.live_gateway.proofs.PassingLemmas.{heard_gives, strange_gives, handed_still}
 use Rattle.live_gateway.proofs.exchange.Exchange.receive_directly.Goals as goal
 
 pub returns-in_err-source-clause-came : goal.returns-in_err-source-clause-came
 returns-in_err-source-clause-came g c =
     rw (c.from_residual.ensures)
-    (hears_nothing c.args.admission.now c.args.self.now.network c.read_socket.new.self.network _ _ c.requires c.read_socket.ensures.network
+    (hears_nothing c.args.admission.now c.args.self.now.network c.read_socket.new.self.network _ _ c.requires (ap (λ e. e.network) c.read_socket.ensures.rest)
     c.in_err-source.ensures.received)
 
 pub returns-then-come-clause-came : goal.returns-then-come-clause-came
 returns-then-come-clause-came g c =
     heard_still c.args.admission.now _ _ _ _
-    (hears_one c.args.admission.now c.args.self.now.network c.read_socket.new.self.network _ _ _ _ _ c.requires c.read_socket.ensures.network
+    (hears_one c.args.admission.now c.args.self.now.network c.read_socket.new.self.network _ _ _ _ _ c.requires (ap (λ e. e.network) c.read_socket.ensures.rest)
     c.in_ok-source.ensures.received (sym c.come.ensures.heard ∙ c.if-come.true))
-    (rw (c.come.ensures.network, c.come.ensures.around) refl)
+    (ap (λ e. received_by e.network (g.S.Surroundings.traffic e.around).received) c.come.ensures.rest)
 
 pub returns-in_err-source-clause-counts : goal.returns-in_err-source-clause-counts
 returns-in_err-source-clause-counts g c =
-    inl (c.requires, (None, c.in_err-source.ensures.counts, c.from_residual.ensures, tally_of _ _ c.read_socket.ensures.journal))
+    inl (c.requires, (None, c.in_err-source.ensures.counts, c.from_residual.ensures, ap (λ e. e.journal.tally.value) c.read_socket.ensures.rest))
 
 pub returns-then-come-clause-counts : goal.returns-then-come-clause-counts
 returns-then-come-clause-counts g c =
@@ -27,23 +30,25 @@ returns-then-come-clause-counts g c =
       c.requires,
       (
         Some (c.in_ok-source.source, c.in_ok-source.len),
-        looked_before _ _ _ _ _ _ c.in_ok-source.ensures.counts c.come.ensures.around c.come.ensures.read c.come.ensures.faults,
+        looked_before _ _ _ _ _ _ c.in_ok-source.ensures.counts (ap (λ e. e.around) c.come.ensures.rest)
+            (ap (λ e. e.read) c.come.ensures.rest) (ap (λ e. e.faults) c.come.ensures.rest),
         heard_given c.args.admission.now (c.in_ok-source.source, c.in_ok-source.len) (sym c.come.ensures.heard ∙ c.if-come.true),
-        heard_looked c.args.admission.now _ _ _ _ (c.in_ok-source.source, c.in_ok-source.len) c.read_socket.ensures.journal c.come.ensures.noted
+        heard_looked c.args.admission.now _ _ _ _ (c.in_ok-source.source, c.in_ok-source.len)
+            (ap (λ e. e.journal) c.read_socket.ensures.rest) c.come.ensures.noted
             (sym c.come.ensures.heard ∙ c.if-come.true),
       ),
     )
 
 pub returns-then-come-clause-turn : goal.returns-then-come-clause-turn
 returns-then-come-clause-turn g c =
-    (c.come.ensures.turn.0 ∙ c.read_socket.ensures.turn.0, c.come.ensures.turn.1 ∙ c.read_socket.ensures.turn.1)
+    (ap (λ e. e.now) c.come.ensures.rest ∙ ap (λ e. e.now) c.read_socket.ensures.rest, ap (λ e. e.is_offering) c.come.ensures.rest ∙ ap (λ e. e.is_offering) c.read_socket.ensures.rest)
 
 pub returns-clause-came : goal.returns-clause-came
 returns-clause-came g c =
     heard_still c.args.admission.now _ _ _ _
-    (passes_over c.args.admission.now c.args.self.now.network c.read_socket.new.self.network _ _ _ _ _ c.requires c.read_socket.ensures.network
+    (passes_over c.args.admission.now c.args.self.now.network c.read_socket.new.self.network _ _ _ _ _ c.requires (ap (λ e. e.network) c.read_socket.ensures.rest)
     c.in_ok-source.ensures.received (sym c.come.ensures.heard ∙ c.if-come.false))
-    (rw (c.come.ensures.network, c.come.ensures.around) refl)
+    (ap (λ e. received_by e.network (g.S.Surroundings.traffic e.around).received) c.come.ensures.rest)
 
 pub returns-clause-counts : goal.returns-clause-counts
 returns-clause-counts g c =
@@ -51,26 +56,84 @@ returns-clause-counts g c =
       c.requires,
       (
         Some (c.in_ok-source.source, c.in_ok-source.len),
-        looked_before _ _ _ _ _ _ c.in_ok-source.ensures.counts c.come.ensures.around c.come.ensures.read c.come.ensures.faults,
+        looked_before _ _ _ _ _ _ c.in_ok-source.ensures.counts (ap (λ e. e.around) c.come.ensures.rest)
+            (ap (λ e. e.read) c.come.ensures.rest) (ap (λ e. e.faults) c.come.ensures.rest),
         strange_kept c.args.admission.now (c.in_ok-source.source, c.in_ok-source.len) (sym c.come.ensures.heard ∙ c.if-come.false),
-        strange_looked c.args.admission.now _ _ _ _ (c.in_ok-source.source, c.in_ok-source.len) c.read_socket.ensures.journal c.come.ensures.noted
+        strange_looked c.args.admission.now _ _ _ _ (c.in_ok-source.source, c.in_ok-source.len)
+            (ap (λ e. e.journal) c.read_socket.ensures.rest) c.come.ensures.noted
             (sym c.come.ensures.heard ∙ c.if-come.false),
       ),
     )
 
 pub returns-clause-turn : goal.returns-clause-turn
 returns-clause-turn g c =
-    (c.come.ensures.turn.0 ∙ c.read_socket.ensures.turn.0, c.come.ensures.turn.1 ∙ c.read_socket.ensures.turn.1)
+    (ap (λ e. e.now) c.come.ensures.rest ∙ ap (λ e. e.now) c.read_socket.ensures.rest, ap (λ e. e.is_offering) c.come.ensures.rest ∙ ap (λ e. e.is_offering) c.read_socket.ensures.rest)
 
 pub returns-in_err-source-clause-tally : goal.returns-in_err-source-clause-tally
-returns-in_err-source-clause-tally g c = rw (c.from_residual.ensures) (found_none _ _ (tally_of _ _ c.read_socket.ensures.journal))
+returns-in_err-source-clause-tally g c = rw (c.from_residual.ensures) (found_none _ _ (ap (λ e. e.journal.tally.value) c.read_socket.ensures.rest))
 
 pub returns-then-come-clause-tally : goal.returns-then-come-clause-tally
 returns-then-come-clause-tally g c =
-    found_between _ _ _ _ _ (tally_of _ _ c.read_socket.ensures.journal)
+    found_between _ _ _ _ _ (ap (λ e. e.journal.tally.value) c.read_socket.ensures.rest)
     (arrival_found _ _ _ _ _ _ c.come.ensures.noted (sym c.come.ensures.heard ∙ c.if-come.true)) refl
 
 pub returns-clause-tally : goal.returns-clause-tally
 returns-clause-tally g c =
-    found_between _ _ _ _ _ (tally_of _ _ c.read_socket.ensures.journal)
+    found_between _ _ _ _ _ (ap (λ e. e.journal.tally.value) c.read_socket.ensures.rest)
     (arrival_strange _ _ _ _ _ c.come.ensures.noted (sym c.come.ensures.heard ∙ c.if-come.false)) refl
+
+pub returns-in_err-source-clause-handed : goal.returns-in_err-source-clause-handed
+returns-in_err-source-clause-handed g c =
+    handed_still g.S.Surroundings.traffic c.args.self.now c.read_socket.new.self (ap (λ e. e.network) c.read_socket.ensures.rest) c.read_socket.ensures.sent
+
+pub returns-in_err-source-clause-turn : goal.returns-in_err-source-clause-turn
+returns-in_err-source-clause-turn g c = (ap (λ e. e.now) c.read_socket.ensures.rest, ap (λ e. e.is_offering) c.read_socket.ensures.rest)
+
+pub returns-in_err-source-clause-looks : goal.returns-in_err-source-clause-looks
+returns-in_err-source-clause-looks g c = record {
+  after = c.read_socket.new.self;
+  found = None;
+  looked = c.in_err-source.ensures.counts;
+  only = c.read_socket.ensures.rest;
+  gives = (c.from_residual.ensures, refl);
+}
+
+pub returns-then-come-clause-handed : goal.returns-then-come-clause-handed
+returns-then-come-clause-handed g c =
+    ap (λ e. handed_by e.network (g.S.Surroundings.traffic e.around).sent) c.come.ensures.rest
+    ∙ handed_still g.S.Surroundings.traffic c.args.self.now c.read_socket.new.self (ap (λ e. e.network) c.read_socket.ensures.rest) c.read_socket.ensures.sent
+
+pub returns-then-come-clause-refused : goal.returns-then-come-clause-refused
+returns-then-come-clause-refused g c = ap (λ e. e.faults.refused) c.come.ensures.rest ∙ c.read_socket.ensures.refused
+
+pub returns-then-come-clause-looks : goal.returns-then-come-clause-looks
+returns-then-come-clause-looks g c =
+    let may = sym c.come.ensures.heard ∙ c.if-come.true in
+    record {
+      after = c.read_socket.new.self;
+      found = Some (c.in_ok-source.source, c.in_ok-source.len);
+      looked = c.in_ok-source.ensures.counts;
+      only = c.read_socket.ensures.rest;
+      gives = heard_gives (is_heard c.args.admission.now c.in_ok-source.source) (c.in_ok-source.source, c.in_ok-source.len) c.read_socket.new.room
+          c.read_socket.new.self c.come.new.self may (c.come.ensures.received may) c.come.ensures.rest;
+    }
+
+pub returns-clause-handed : goal.returns-clause-handed
+returns-clause-handed g c =
+    ap (λ e. handed_by e.network (g.S.Surroundings.traffic e.around).sent) c.come.ensures.rest
+    ∙ handed_still g.S.Surroundings.traffic c.args.self.now c.read_socket.new.self (ap (λ e. e.network) c.read_socket.ensures.rest) c.read_socket.ensures.sent
+
+pub returns-clause-refused : goal.returns-clause-refused
+returns-clause-refused g c = ap (λ e. e.faults.refused) c.come.ensures.rest ∙ c.read_socket.ensures.refused
+
+pub returns-clause-looks : goal.returns-clause-looks
+returns-clause-looks g c =
+    let other = sym c.come.ensures.heard ∙ c.if-come.false in
+    record {
+      after = c.read_socket.new.self;
+      found = Some (c.in_ok-source.source, c.in_ok-source.len);
+      looked = c.in_ok-source.ensures.counts;
+      only = c.read_socket.ensures.rest;
+      gives = strange_gives (is_heard c.args.admission.now c.in_ok-source.source) (c.in_ok-source.source, c.in_ok-source.len) c.read_socket.new.room
+          c.read_socket.new.self c.come.new.self other (c.come.ensures.noted.strange other) c.come.ensures.rest;
+    }

@@ -1,7 +1,10 @@
-use Rattle.std.proofs.Common.{None, inl, inr, refl, ◌∙◌}
-use Rattle.live_gateway.proofs.ArrivalLemmas.{found_between, found_behind, strange_found, tally_of}
+use Rattle.std.proofs.Common.{None, Some, inl, inr, refl, sym, ◌∙◌, ap}
+use Rattle.live_gateway.specs.Admitting.{is_heard}
+use Rattle.live_gateway.specs.Exchanging.{handed_by, received_by}
+use Rattle.live_gateway.proofs.ArrivalLemmas.{found_between, found_behind, strange_found}
 use Rattle.live_gateway.proofs.HearingLemmas.{heard_still, hears_past_a_look, still_over}
 use Rattle.live_gateway.proofs.CountingLemmas.{read_behind_others}
+use Rattle.live_gateway.proofs.PassingLemmas.{heard_goes, strange_goes, handed_still}
 use Rattle.live_gateway.proofs.exchange.Exchange.receive_spoilt.Goals as goal
 
 pub returns-in-Some-clause-counts : goal.returns-in-Some-clause-counts
@@ -11,7 +14,7 @@ pub returns-in_err-source-clause-came : goal.returns-in_err-source-clause-came
 returns-in_err-source-clause-came g c =
     rw (c.from_residual.ensures)
     (heard_still c.args.admission.now _ _ _ _ c.in_default.ensures.came
-    (still_over c.handed_over.new.self.network c.read_socket.new.self.network _ _ (c.handed_over.ensures.spoilt ∙ c.requires) c.read_socket.ensures.network))
+    (still_over c.handed_over.new.self.network c.read_socket.new.self.network _ _ (c.handed_over.ensures.spoilt ∙ c.requires) (ap (λ e. e.network) c.read_socket.ensures.rest)))
 
 pub returns-in_err-source-clause-counts : goal.returns-in_err-source-clause-counts
 returns-in_err-source-clause-counts g c =
@@ -19,29 +22,30 @@ returns-in_err-source-clause-counts g c =
 
 pub returns-in_err-source-clause-turn : goal.returns-in_err-source-clause-turn
 returns-in_err-source-clause-turn g c =
-    (c.read_socket.ensures.turn.0 ∙ c.handed_over.ensures.turn.0, c.read_socket.ensures.turn.1 ∙ c.handed_over.ensures.turn.1)
+    (ap (λ e. e.now) c.read_socket.ensures.rest ∙ c.handed_over.ensures.turn.0, ap (λ e. e.is_offering) c.read_socket.ensures.rest ∙ c.handed_over.ensures.turn.1)
 
 pub returns-then-not-hears-clause-came : goal.returns-then-not-hears-clause-came
 returns-then-not-hears-clause-came g c =
     heard_still c.args.admission.now _ _ _ _ c.in_default.ensures.came
-    (rw (c.turn_away.ensures.network, c.turn_away.ensures.around)
-    (still_over c.handed_over.new.self.network c.read_socket.new.self.network _ _ (c.handed_over.ensures.spoilt ∙ c.requires) c.read_socket.ensures.network))
+    (ap (λ e. received_by e.network (g.S.Surroundings.traffic e.around).received) c.turn_away.ensures.rest
+    ∙ still_over c.handed_over.new.self.network c.read_socket.new.self.network _ _ (c.handed_over.ensures.spoilt ∙ c.requires)
+    (ap (λ e. e.network) c.read_socket.ensures.rest))
 
 pub returns-then-not-hears-clause-counts : goal.returns-then-not-hears-clause-counts
 returns-then-not-hears-clause-counts g c =
     read_behind_others _ c.args.admission.now _ _ _ _ _ None _ _ c.requires c.handed_over.ensures.read c.handed_over.ensures.faults c.read_socket.ensures.counts
-    c.turn_away.ensures.read c.turn_away.ensures.faults
+    (ap (λ e. e.read) c.turn_away.ensures.rest) (ap (λ e. e.faults) c.turn_away.ensures.rest)
 
 pub returns-then-not-hears-clause-turn : goal.returns-then-not-hears-clause-turn
-returns-then-not-hears-clause-turn g c = (
-  c.turn_away.ensures.turn.0 ∙ c.read_socket.ensures.turn.0 ∙ c.handed_over.ensures.turn.0,
-  c.turn_away.ensures.turn.1 ∙ c.read_socket.ensures.turn.1 ∙ c.handed_over.ensures.turn.1,
+returns-then-not-hears-clause-turn g c =  (
+  ap (λ e. e.now) c.turn_away.ensures.rest ∙ ap (λ e. e.now) c.read_socket.ensures.rest ∙ c.handed_over.ensures.turn.0,
+  ap (λ e. e.is_offering) c.turn_away.ensures.rest ∙ ap (λ e. e.is_offering) c.read_socket.ensures.rest ∙ c.handed_over.ensures.turn.1,
 )
 
 pub returns-clause-came : goal.returns-clause-came
 returns-clause-came g c =
     hears_past_a_look c.args.admission.now c.handed_over.new.self.network c.read_socket.new.self.network _ _ _ _ _ (c.handed_over.ensures.spoilt ∙ c.requires)
-    c.read_socket.ensures.network c.in_default.ensures.came c.pass.ensures.came
+    (ap (λ e. e.network) c.read_socket.ensures.rest) c.in_default.ensures.came c.pass.ensures.came
 
 pub returns-clause-counts : goal.returns-clause-counts
 returns-clause-counts g c =
@@ -49,21 +53,85 @@ returns-clause-counts g c =
     c.pass.ensures.read c.pass.ensures.faults
 
 pub returns-clause-turn : goal.returns-clause-turn
-returns-clause-turn g c = (
-  c.pass.ensures.turn.0 ∙ c.read_socket.ensures.turn.0 ∙ c.handed_over.ensures.turn.0,
-  c.pass.ensures.turn.1 ∙ c.read_socket.ensures.turn.1 ∙ c.handed_over.ensures.turn.1,
+returns-clause-turn g c =  (
+  c.pass.ensures.turn.0 ∙ ap (λ e. e.now) c.read_socket.ensures.rest ∙ c.handed_over.ensures.turn.0,
+  c.pass.ensures.turn.1 ∙ ap (λ e. e.is_offering) c.read_socket.ensures.rest ∙ c.handed_over.ensures.turn.1,
 )
 
 pub returns-in_err-source-clause-tally : goal.returns-in_err-source-clause-tally
 returns-in_err-source-clause-tally g c =
-    rw (c.from_residual.ensures) (found_between _ _ _ _ _ refl c.in_default.ensures.tally (tally_of _ _ c.read_socket.ensures.journal))
+    rw (c.from_residual.ensures) (found_between _ _ _ _ _ refl c.in_default.ensures.tally (ap (λ e. e.journal.tally.value) c.read_socket.ensures.rest))
 
 pub returns-then-not-hears-clause-tally : goal.returns-then-not-hears-clause-tally
 returns-then-not-hears-clause-tally g c =
-    found_behind _ _ _ _ (found_between _ _ _ _ _ refl c.in_default.ensures.tally (tally_of _ _ c.read_socket.ensures.journal))
+    found_behind _ _ _ _ (found_between _ _ _ _ _ refl c.in_default.ensures.tally (ap (λ e. e.journal.tally.value) c.read_socket.ensures.rest))
     (strange_found _ _ _ _ c.turn_away.ensures.noted)
 
 pub returns-clause-tally : goal.returns-clause-tally
 returns-clause-tally g c =
-    found_behind _ _ _ _ (found_between _ _ _ _ _ refl c.in_default.ensures.tally (tally_of _ _ c.read_socket.ensures.journal))
+    found_behind _ _ _ _ (found_between _ _ _ _ _ refl c.in_default.ensures.tally (ap (λ e. e.journal.tally.value) c.read_socket.ensures.rest))
     c.pass.ensures.tally
+
+pub returns-in_err-source-clause-handed : goal.returns-in_err-source-clause-handed
+returns-in_err-source-clause-handed g c =
+    handed_still g.S.Surroundings.traffic c.handed_over.new.self c.read_socket.new.self (ap (λ e. e.network) c.read_socket.ensures.rest) c.read_socket.ensures.sent ∙ c.handed_over.ensures.handed
+
+pub returns-then-not-hears-clause-handed : goal.returns-then-not-hears-clause-handed
+returns-then-not-hears-clause-handed g c =
+    ap (λ e. handed_by e.network (g.S.Surroundings.traffic e.around).sent) c.turn_away.ensures.rest
+    ∙ handed_still g.S.Surroundings.traffic c.handed_over.new.self c.read_socket.new.self (ap (λ e. e.network) c.read_socket.ensures.rest) c.read_socket.ensures.sent ∙ c.handed_over.ensures.handed
+
+pub returns-then-not-hears-clause-refused : goal.returns-then-not-hears-clause-refused
+returns-then-not-hears-clause-refused g c =
+    ap (λ e. e.faults.refused) c.turn_away.ensures.rest ∙ c.read_socket.ensures.refused ∙ ap (λ faults. faults.refused) c.handed_over.ensures.faults
+
+pub returns-clause-handed : goal.returns-clause-handed
+returns-clause-handed g c =
+    c.pass.ensures.handed
+    ∙ handed_still g.S.Surroundings.traffic c.handed_over.new.self c.read_socket.new.self (ap (λ e. e.network) c.read_socket.ensures.rest) c.read_socket.ensures.sent ∙ c.handed_over.ensures.handed
+
+-- what was looked for
+
+pub returns-in-Some-clause-looks : goal.returns-in-Some-clause-looks
+returns-in-Some-clause-looks g c = inl (refl, c.in-Some.ensures.hands)
+
+pub returns-in_err-source-clause-looks : goal.returns-in_err-source-clause-looks
+returns-in_err-source-clause-looks g c = inr (record {
+  before = c.handed_over.new.self;
+  after = c.read_socket.new.self;
+  found = None;
+  first = c.handed_over.new.room;
+  front = c.read_socket.new.room;
+  none = c.in_default.ensures.hands;
+  looked = c.in_err-source.ensures.counts;
+  only = c.read_socket.ensures.rest;
+  takes = (c.from_residual.ensures, refl);
+})
+
+pub returns-then-not-hears-clause-looks : goal.returns-then-not-hears-clause-looks
+returns-then-not-hears-clause-looks g c = inr (record {
+  before = c.handed_over.new.self;
+  after = c.read_socket.new.self;
+  found = Some (c.in_ok-source.source, c.in_ok-source.len);
+  first = c.handed_over.new.room;
+  front = c.read_socket.new.room;
+  none = c.in_default.ensures.hands;
+  looked = c.in_ok-source.ensures.counts;
+  only = c.read_socket.ensures.rest;
+  takes = strange_goes g.S.Surroundings.sends c.args.admission.now (is_heard c.args.admission.now c.in_ok-source.source) c.in_ok-source.source _ _
+      c.read_socket.new.self c.turn_away.new.self (sym c.hears.ensures ∙ c.if-not-hears.true) c.turn_away.ensures.noted c.turn_away.ensures.rest;
+})
+
+pub returns-clause-looks : goal.returns-clause-looks
+returns-clause-looks g c = inr (record {
+  before = c.handed_over.new.self;
+  after = c.read_socket.new.self;
+  found = Some (c.in_ok-source.source, c.in_ok-source.len);
+  first = c.handed_over.new.room;
+  front = c.read_socket.new.room;
+  none = c.in_default.ensures.hands;
+  looked = c.in_ok-source.ensures.counts;
+  only = c.read_socket.ensures.rest;
+  takes = heard_goes g.S.Surroundings.sends c.args.admission.now (is_heard c.args.admission.now c.in_ok-source.source) c.in_ok-source.source _ _ _
+      c.read_socket.new.self c.pass.new.self (sym c.hears.ensures ∙ c.if-not-hears.false) c.pass.ensures.over;
+})
