@@ -29,7 +29,7 @@ pub fn what_waits_on_has_examples()
     ensures begins { (was is : Player) (turn : Option Turn) → WaitsFor was is turn None 500 1000 → was.until ≡ None
         → is.is_refused ≡ false → (turn ≡ Some (turns.Wait 1500)) × (is.until ≡ Some 1500) }
     ensures has_begun { (was is : Player) (turn : Option Turn) → WaitsFor was is turn None 500 1400 → was.until ≡ Some 1500
-        → is.is_refused ≡ false → (turn ≡ Some (turns.Wait 1500)) × (is.until ≡ Some 1500) }
+        → is.is_refused ≡ false → (turn ≡ Some (turns.Wait 1500)) × (is.until ≡ Some 1500) × (is.begun ≡ was.begun) }
     ensures unasked { (was is : Player) (turn : Option Turn) → WaitsForUnasked was is turn None 1000 → was.until ≡ None
         → is.is_refused ≡ false → turn ≡ Some (turns.Wait 5000) }
     // For an answer too, which has its longest time since the step began.
@@ -42,6 +42,7 @@ pub fn what_waits_on_has_examples()
     ensures since_then { begun_in None (Some 1000) 30500 ≡ Some 1000 }
     ensures since_before { begun_in (Some 3000) (Some 1000) 2000 ≡ Some 1000 }
     // What is to come again has so long behind the last time.
+    ensures none_asked { repeat_until None ≡ 0 }
     ensures again { repeat_until (Some (record { count = 2; first = 500; last = 500; previous = 1000 })) ≡ 5000 }
     ensures repeat { (was is : Player) (turn : Option Turn) → WaitsForRepeat was is turn None → is.is_refused ≡ false
         → (turn ≡ Some (turns.Wait (again_until was))) × (is.until ≡ was.until) × (is.begun ≡ was.begun) }

@@ -54,6 +54,10 @@ pub fn what_is_waited_for_anew_has_examples()
     ensures same { (names : Names) (step : Step) → awaited_by steps.Same names step ≡ Some (id_in names step.first.now) }
     ensures silence { (names : Names) (step : Step) → awaited_by steps.Silence names step ≡ None }
     ensures notified { (names : Names) (step : Step) → awaited_by steps.Notified names step ≡ None }
+    ensures quiet { (names : Names) (step : Step) → awaited_by steps.Quiet names step ≡ None }
+    ensures again { (names : Names) (step : Step) → awaited_by steps.Again names step ≡ None }
+    ensures wait { (names : Names) (step : Step) → awaited_by steps.Wait names step ≡ None }
+    ensures act { (names : Names) (step : Step) → awaited_by steps.Act names step ≡ None }
     ensures no_step { (names : Names) → awaited_for names None ≡ None }
     ensures step { (names : Names) (step : Step) → awaited_for names (Some step) ≡ awaited_by step.asks names step }
     // A provisional response to it, from where it went out, has it waited for anew, and no other has.

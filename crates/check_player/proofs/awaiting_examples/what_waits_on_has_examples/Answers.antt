@@ -32,9 +32,10 @@ pub returns-clause-has_begun : goal.returns-clause-has_begun
 unfolding WaitsOn
 returns-clause-has_begun c = λ was is turn waits some kept.
     subst
-        (λ (until : Option ℕ). (turn ≡ Some (turns.Wait (until_in until 500 1400))) × (is.until ≡ Some (until_in until 500 1400)))
+        (λ (until : Option ℕ). (turn ≡ Some (turns.Wait (until_in until 500 1400))) × (is.until ≡ Some (until_in until 500 1400))
+        × (is.begun ≡ was.begun))
         some
-        ((waits kept).0, (waits kept).1)
+        (waits kept)
 
 pub returns-clause-unasked : goal.returns-clause-unasked
 unfolding WaitsOn
