@@ -1,5 +1,5 @@
 -- What a turn makes of a check.
-use Rattle.std.proofs.Common.{◌≡◌, ℕ, suc, ◌+◌, true, false, Option, Some, None, refl, ap, ◌∙◌, subst, inl, inr, arith}
+use Rattle.std.proofs.Common.{◌≡◌, ℕ, suc, ◌+◌, true, false, Option, Some, None, refl, sym, ap, ◌∙◌, subst, inl, inr, ⊎_elim, arith}
 use Rattle.std.specs.Prelude.{is_some}
 use Rattle.check_matching.specs.declared.step.Step.{Step}
 use Rattle.check_matching.specs.declared.unasked.Unasked.{Unasked}
@@ -10,7 +10,8 @@ use Rattle.check_player.specs.declared.player.Turn.TheVariants as turns
 use Rattle.check_player.specs.Awaiting.{Waits}
 use Rattle.check_player.specs.Leaving.{Leaves}
 use Rattle.check_player.specs.Playing.{ComesTo, outcome_of}
-use Rattle.check_player.specs.Turning.{TakesStep, TakesLast, AnswersLast, AnswersLeft, Further, FurtherTimes}
+use Rattle.check_player.specs.Telling.{Tells, TellsStep}
+use Rattle.check_player.specs.Turning.{TakesStep, TakesLast, AnswersLast, AnswersLeft, PlaysStep, Further, FurtherTimes}
 
 -- nothing was left to answer
 pub none_left : (was is : Player) → TakesLast was is None → AnswersLast was is None
@@ -49,9 +50,34 @@ further_over now was taken left takes answers none =
 -- the step was played
 pub further_played : (now : ℕ) (was taken left is : Player) (turn : Option Turn) (step : Step) → TakesStep was taken
     → AnswersLeft taken left None → taken.step ≡ Some step → ComesTo left is turn (outcome_of left step now) → Leaves left is turn step
-    → Waits left is turn step now → Further now was is turn
+    → Waits left is turn step now → TellsStep left is step now → Further now was is turn
 unfolding Further AnswersLeft
-further_played now was taken left is turn step takes answers some comes leaves waits =
-    (taken, left, None, takes, answers, inr (refl, inr (step, ap (λ (player : Player). player.step) answers.0 ∙ some, comes, leaves, waits)))
+further_played now was taken left is turn step takes answers some comes leaves waits tells = (
+  taken,
+  left,
+  None,
+  takes,
+  answers,
+  inr (refl, inr (step, ap (λ (player : Player). player.step) answers.0 ∙ some, comes, leaves, waits, tells)),
+)
 
 pub ruleset steps_further = (further_left, further_over, further_played)
+
+-- Memory that was refused stays so
+
+step_memory : (now : ℕ) (was is : Player) (turn : Option Turn) → PlaysStep now was is turn → is.is_refused ≡ false → was.is_refused ≡ false
+unfolding TellsStep Tells
+step_memory now was is turn plays kept =
+    ⊎_elim (λ over. ap (λ (player : Player). player.is_refused) (sym over.1) ∙ kept) (λ played. (played.5 kept).0) plays
+
+pub further_memory : (now : ℕ) (was is : Player) (turn : Option Turn) → Further now was is turn → is.is_refused ≡ false
+    → was.is_refused ≡ false
+unfolding Further TakesStep AnswersLeft
+further_memory now was is turn further kept =
+    let left : further.1.is_refused ≡ false =
+        ⊎_elim
+            (λ answered. ap (λ (player : Player). player.is_refused) (sym answered.1) ∙ kept)
+            (λ plays. step_memory now further.1 is turn plays.1 kept)
+            further.5
+    in
+    ap (λ (player : Player). player.is_refused) (sym further.3.7) ∙ further.4.3 left

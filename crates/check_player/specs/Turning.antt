@@ -12,6 +12,7 @@ use Rattle.check_player.specs.declared.player.Turn.TheVariants as turns
 use Rattle.check_player.specs.Awaiting.{Waits}
 use Rattle.check_player.specs.Leaving.{Leaves}
 use Rattle.check_player.specs.Playing.{ComesTo, outcome_of}
+use Rattle.check_player.specs.Telling.{TellsStep}
 
 -- Which step is played
 
@@ -73,20 +74,21 @@ AnswersIt is turn (Some unasked) =
 unfoldable pub AnswersLast : Player → Player → Option Turn → Type 0
 AnswersLast was is turn = (unasked : Option Unasked) × TakesLast was is unasked × AnswersIt is turn unasked
 
--- nothing else changes by that
+-- nothing else changes by that; where memory was refused before, it stays so
 unfoldable pub AnswersLeft : Player → Player → Option Turn → Type 0
 AnswersLeft was is turn =
     (is ≡ record was { mailbox = is.mailbox; sent = is.sent; is_refused = is.is_refused })
     × (needs_no_answer was ≡ true → (is ≡ was) × (turn ≡ None))
     × (needs_no_answer was ≡ false → AnswersLast was is turn)
+    × (is.is_refused ≡ false → was.is_refused ≡ false)
 
--- the step that is to be played comes to what it expects, leaves what it asked for, and asks for no more than it waits for; where none
--- is left the check is over
+-- the step that is to be played comes to what it expects, leaves what it asked for, asks for no more than it waits for, and tells what
+-- went, what wasn't done, and what was due; where none is left the check is over
 abbrev pub PlaysStep : ℕ → Player → Player → Option Turn → Type 0
 PlaysStep now was is turn =
     ((was.step ≡ None) × (is ≡ was) × (turn ≡ Some turns.Over))
     ⊎ ((step : Step) × (was.step ≡ Some step) × ComesTo was is turn (outcome_of was step now) × Leaves was is turn step
-    × Waits was is turn step now)
+    × Waits was is turn step now × TellsStep was is step now)
 
 -- one step further, or something is answered in its place
 unfoldable pub Further : ℕ → Player → Player → Option Turn → Type 0

@@ -9,5 +9,6 @@ pub mod keeping_examples;
 pub mod laws;
 pub mod leaving_examples;
 mod player;
+pub mod telling_examples;
 
 pub use crate::player::{Player, Turn};

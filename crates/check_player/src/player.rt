@@ -1,8 +1,9 @@
 //! Plays a check: what is to be sent, until when something is waited for, and what comes of it.
 ghost use Rattle.std.specs.Prelude.{◌≡◌, ◌⊎◌, ◌==◌, ◌++◌, [], length, map, not, true, false, Some, None};
-ghost use Rattle.std.specs.Prelude.{IfOk, OnOk, string_bytes, string_len};
+ghost use Rattle.std.specs.Prelude.{IfOk, OnOk, OnErr, string_bytes, string_len};
 ghost use Rattle.std.specs.Str.Lossy.{utf8_lossy};
 ghost use Rattle.piggyback.specs.Parts.{parts_of};
+ghost use Rattle.check_matching.specs.declared.socket.Socket.TheVariants.{First};
 ghost use Rattle.check_matching.specs.Hearing.{came_as, awaits_answer, kept_of, kept_in};
 ghost use Rattle.gateway_checks.specs.Judging.{verdict_of};
 ghost use Rattle.check_matching.specs.Matching.{last_text, left_for};
@@ -10,22 +11,26 @@ ghost use Rattle.gateway_checks.specs.Naming.{id_in, names_kept, kept_with};
 ghost use Rattle.check_player.specs.Awaiting.{WaitsFor, begun_in, WaitsForAnswer, WaitsForAct, AsksNothing, Waits};
 ghost use Rattle.check_player.specs.Keeping.{said_as, left_if, left_of, left_in, awaited_in, until_behind, until_of, until_after};
 ghost use Rattle.check_player.specs.Leaving.{OnlyWaits, Sends, AsksFor, TakesAnswer, TakesCopy, named_at_once, KeepsValue, Leaves};
-ghost use Rattle.check_player.specs.Playing.{counted, fault_unless, LeavesRest, ComesTo, due_until, passed_by, until_in, answer_until, answer_outcome};
+ghost use Rattle.check_player.specs.Playing.{ComesTo, due_until, passed_by, until_in, answer_until, answer_outcome};
 ghost use Rattle.check_player.specs.Playing.{answer_in, same_outcome, is_silent_in, silence_outcome, acted_by};
 ghost use Rattle.check_player.specs.Playing.{met_at_once, outcome_at_once, outcome_of};
 ghost use Rattle.check_player.specs.Responding.{is_left_to_steps, response_of, is_first_behind, responses_from};
+ghost use Rattle.check_player.specs.Taking.{Takes};
+ghost use Rattle.check_player.specs.Telling.{told_unless, sent_mark, came_mark, came_in, came_behind, came_since, act_told, silence_told};
+ghost use Rattle.check_player.specs.Telling.{Tells, TellsStep};
 ghost use Rattle.check_player.specs.Turning.{AnswersLast, AnswersLeft, Further, Plays};
 ghost use Rattle.check_player.specs.declared.player.Turn.TheVariants as turns;
 
 mod finding;
 mod stepping;
+mod telling;
 
-use crate::dialogue::{put_said, told_due};
+use crate::dialogue::{came_mark, sent_mark};
 use check_matching::{
     Arrived, Asks, Heard, Inbox, Mailbox, Socket, Step, Unasked, code_fault, hear_text, is_as_due,
     is_for_check, is_prolonged, is_told, keep_value, put_response, waited_until,
 };
-use gateway_checks::{Check, Fault, Names, Verdict, append, judged, settled, verdict_of};
+use gateway_checks::{Check, Fault, Names, Verdict, append, verdict_of};
 use mg_bytes::{Draft, OutOfMemory};
 use piggyback::parts;
 use std::alloc::{AllocError, Global};
@@ -125,7 +130,11 @@ impl<'a> Player<'a> {
     pub fn new(alloc: Global, check: &Check<'a>, names: Names<'a>) -> Player<'a>
         ensures lines { (result.lines ≡ check.now.steps) × (result.undo ≡ check.now.undo) × (result.is_undoing ≡ false) }
         ensures none { (result.step ≡ None) × (result.fault ≡ None) }
+        ensures not_begun { (result.begun ≡ None) × (result.until ≡ None) × (result.acted ≡ None) × (result.is_refused ≡ false) }
         ensures empty { (result.inbox.waiting.items ≡ []) × (result.inbox.taken.items ≡ []) }
+        ensures nothing_said { (result.mailbox.waiting.items ≡ []) × (result.mailbox.heard.items ≡ []) }
+        ensures nothing_told { (string_bytes result.said ≡ []) × (string_bytes result.due ≡ []) × (came_in result ≡ []) }
+        ensures nothing_sent { (result.sent.items ≡ []) × (result.from ≡ First) }
         ensures names { result.names ≡ names.entry }
     {
         Player {
@@ -211,78 +220,11 @@ impl<'a> Player<'a> {
         !self.inbox.last().is_empty()
     }
 
-    // Notes what came or went; what undoes the check isn't told.
-    fn note(&mut self, mark: &str, bytes: &[u8]) -> Result<(), OutOfMemory>
-        ensures { self.new ≡ record self.old { said = self.new.said } }
-    {
-        if self.is_undoing {
-            return Ok(());
-        }
-        put_said(&mut self.said, mark, bytes)
-    }
-
-    // Notes that a datagram came.
-    fn note_came(&mut self, mark: &str, datagram: &[u8]) -> Result<(), OutOfMemory>
-        ensures { self.new ≡ record self.old { said = self.new.said; came = self.new.came } }
-    {
-        self.note(mark, datagram)?;
-        if self.is_undoing {
-            return Ok(());
-        }
-        let datagram = Vec::from_slice(self.alloc, datagram)?;
-        self.came.push(datagram)?;
-        Ok(())
-    }
-
-    // Notes that what is there goes out: what came before that is told no more.
-    fn note_sent(&mut self, mark: &str) -> Result<(), OutOfMemory>
-        ensures { self.new ≡ record self.old { said = self.new.said; came = self.new.came } }
-    {
-        if self.is_undoing {
-            return Ok(());
-        }
-        put_said(&mut self.said, mark, self.sent.as_slice())?;
-        self.came = Vec::new(self.alloc);
-        Ok(())
-    }
-
-    // The step is done, with this fault in it or none, and asks for nothing more. The first fault is told; those of steps that undo the
-    // check don't count.
-    fn finish(&mut self, fault: Option<Fault>) -> Option<Turn>
-        ensures none { result ≡ None }
-        ensures fault { self.new.fault ≡ counted self.old.is_undoing self.old.fault fault }
-        ensures step { self.new.step ≡ None }
-        ensures rest { LeavesRest self.old self.new }
-    {
-        self.step = None;
-        if self.is_undoing {
-            return None;
-        }
-        let was_faultless = self.fault.is_none();
-        self.fault = settled(self.fault, fault);
-        if was_faultless && fault.is_some() {
-            match told_due(&self.names, &mut self.said, self.line) {
-                Ok(due) => self.due = due,
-                Err(_) => self.is_refused = true,
-            }
-        }
-        None
-    }
-
-    // The step is done, and met or not.
-    fn finish_met(&mut self, is_met: bool) -> Option<Turn>
-        ensures none { result ≡ None }
-        ensures fault { self.new.fault ≡ counted self.old.is_undoing self.old.fault (fault_unless is_met) }
-        ensures step { self.new.step ≡ None }
-        ensures rest { LeavesRest self.old self.new }
-    {
-        self.finish(judged(is_met, false, 0))
-    }
-
     /// What is asked for at this moment, in ms. It is asked again once that was done.
     pub fn turn(&mut self, now: u64) -> Result<Turn, OutOfMemory>
         ensures plays { IfOk result (λ turn. Plays now self.old self.new turn) }
         ensures refused { OnOk result (self.new.is_refused ≡ false) }
+        ensures refusal { OnErr result (self.new.is_refused ≡ true) }
     {
         let turn = self.next_turn(now);
         if self.is_refused {
@@ -344,6 +286,7 @@ impl<'a> Player<'a> {
     #[tactic(auto, using(crate::proofs::TurnLemmas::answers_last))]
     fn answer_last(&mut self) -> Option<Turn>
         ensures answers { AnswersLast self.old self.new result }
+        ensures refused { self.new.is_refused ≡ false → self.old.is_refused ≡ false }
         ensures rest { self.new ≡ record self.old { mailbox = self.new.mailbox; sent = self.new.sent; is_refused = self.new.is_refused } }
     {
         let Some(unasked) = self.mailbox.take() else {
@@ -361,11 +304,12 @@ impl<'a> Player<'a> {
     }
 
     // Plays a step: what it asks for, or nothing where it is done.
-    #[tactic(auto, using(crate::proofs::PlayLemmas::comes_same, crate::proofs::LeaveLemmas::leaves, crate::proofs::WaitLemmas::waits))]
+    #[tactic(auto, using(crate::proofs::PlayLemmas::comes_same, crate::proofs::LeaveLemmas::leaves, crate::proofs::WaitLemmas::waits, crate::proofs::TellLemmas::tells))]
     fn play(&mut self, step: Step<'a>, now: u64) -> Option<Turn>
         ensures comes { ComesTo self.old self.new result (outcome_of self.old step.entry now) }
         ensures leaves { Leaves self.old self.new result step.entry }
         ensures waits { Waits self.old self.new result step.entry now }
+        ensures tells { TellsStep self.old self.new step.entry now }
     {
         let line = self.line;
         let (at, first, second) = (step.at, step.first, step.second);
@@ -409,9 +353,10 @@ impl<'a> Player<'a> {
     }
 
     // Plays such a step.
-    #[tactic(auto, using(crate::proofs::PlayLemmas::comes_at_once), unfolding(crate::specs::Leaving::KeepsValue))]
+    #[tactic(auto, using(crate::proofs::PlayLemmas::comes_at_once, crate::proofs::TellLemmas::tells_more), unfolding(crate::specs::Leaving::KeepsValue))]
     fn play_at_once(&mut self, step: Step<'a>) -> Option<Turn>
         ensures comes { ComesTo self.old self.new result (outcome_at_once self.old step.entry) }
+        ensures tells { Tells self.old self.new (outcome_at_once self.old step.entry) [] (came_in self.old) }
         ensures keeps { KeepsValue self.old self.new step.entry }
         ensures nothing { AsksNothing self.new result }
     {
@@ -422,9 +367,11 @@ impl<'a> Player<'a> {
     }
 
     // What is there goes out from a socket.
-    #[tactic(auto, using(crate::proofs::PlayLemmas::comes_at_once))]
+    #[tactic(auto, using(crate::proofs::PlayLemmas::comes_at_once, crate::proofs::TellLemmas::tells_sent))]
     fn send_now(&mut self, from: Socket) -> Option<Turn>
         ensures comes { ComesTo self.old self.new result (Some None) }
+        ensures tells { Tells self.old self.new (Some None)
+            (told_unless self.old.is_undoing (sent_mark from) self.old.sent.items) (came_since self.old) }
         ensures turn { self.new.is_refused ≡ false → result ≡ Some (turns.Send from) }
         ensures from { self.new.from ≡ from }
         ensures rest { self.new ≡ record self.old {
@@ -437,9 +384,8 @@ impl<'a> Player<'a> {
           is_refused = self.new.is_refused;
         } }
     {
-        let mark = if from.is_second() { ">> " } else { "> " };
         self.from = from;
-        if self.note_sent(mark).is_err() {
+        if self.note_sent(sent_mark(from)).is_err() {
             return self.refused();
         }
         let _ = self.finish(None);
@@ -447,9 +393,11 @@ impl<'a> Player<'a> {
     }
 
     // This goes out from a socket, or what went out last does again.
-    #[tactic(auto, using(crate::proofs::PlayLemmas::comes_sent), unfolding(crate::specs::Leaving::Sends))]
+    #[tactic(auto, using(crate::proofs::PlayLemmas::comes_sent, crate::proofs::TellLemmas::tells_going), unfolding(crate::specs::Leaving::Sends))]
     fn send(&mut self, from: Socket, text: &str) -> Option<Turn>
         ensures comes { ComesTo self.old self.new result (Some None) }
+        ensures tells { Tells self.old self.new (Some None)
+            (told_unless self.old.is_undoing (sent_mark from) self.new.sent.items) (came_since self.old) }
         ensures sends { Sends self.old self.new result from text.now }
     {
         if text == "again" {
@@ -498,9 +446,10 @@ impl<'a> Player<'a> {
     }
 
     // Waits for an answer; where none came in time the step isn't met.
-    #[tactic(auto, using(crate::proofs::PlayLemmas::comes_in_time, crate::proofs::WaitLemmas::waits_in_time), unfolding(crate::specs::Leaving::OnlyWaits))]
+    #[tactic(auto, using(crate::proofs::PlayLemmas::comes_in_time, crate::proofs::WaitLemmas::waits_in_time, crate::proofs::TellLemmas::tells_in_time), unfolding(crate::specs::Leaving::OnlyWaits))]
     fn await_answer(&mut self, now: u64) -> Option<Turn>
         ensures comes { ComesTo self.old self.new result (due_until (answer_until self.old.until self.old.begun now) now) }
+        ensures tells { Tells self.old self.new (due_until (answer_until self.old.until self.old.begun now) now) [] (came_in self.old) }
         ensures waits { WaitsForAnswer self.old self.new result (due_until (answer_until self.old.until self.old.begun now) now) now }
         ensures rest { OnlyWaits self.old self.new }
     {
@@ -522,10 +471,11 @@ impl<'a> Player<'a> {
     }
 
     // The answer with this id is to come, with one of these codes.
-    #[tactic(auto, using(crate::proofs::PlayLemmas::comes_on, crate::proofs::WaitLemmas::waits_on), unfolding(crate::specs::Leaving::TakesAnswer, crate::specs::Leaving::OnlyWaits))]
+    #[tactic(auto, using(crate::proofs::PlayLemmas::comes_on, crate::proofs::WaitLemmas::waits_on, crate::proofs::TellLemmas::tells_more), unfolding(crate::specs::Leaving::TakesAnswer, crate::specs::Leaving::OnlyWaits))]
     fn answered(&mut self, codes: &str, id: &str, is_optional: bool, now: u64) -> Option<Turn>
         ensures comes { ComesTo self.old self.new result (answer_outcome self.old codes.now id.now is_optional now) }
         ensures takes { TakesAnswer self.old self.new (id_in self.old.names id.now) }
+        ensures tells { Tells self.old self.new (answer_outcome self.old codes.now id.now is_optional now) [] (came_in self.old) }
         ensures waits { WaitsForAnswer self.old self.new result (answer_outcome self.old codes.now id.now is_optional now) now }
     {
         let Ok(id) = self.names.id_in(id) else {
@@ -544,10 +494,11 @@ impl<'a> Player<'a> {
     }
 
     // The answer with this id is to come again as it first came.
-    #[tactic(auto, using(crate::proofs::PlayLemmas::comes_on, crate::proofs::WaitLemmas::waits_on), unfolding(crate::specs::Leaving::TakesCopy, crate::specs::Leaving::OnlyWaits))]
+    #[tactic(auto, using(crate::proofs::PlayLemmas::comes_on, crate::proofs::WaitLemmas::waits_on, crate::proofs::TellLemmas::tells_more), unfolding(crate::specs::Leaving::TakesCopy, crate::specs::Leaving::OnlyWaits))]
     fn answered_again(&mut self, id: &str, now: u64) -> Option<Turn>
         ensures comes { ComesTo self.old self.new result (same_outcome self.old id.now now) }
         ensures takes { TakesCopy self.old self.new (id_in self.old.names id.now) }
+        ensures tells { Tells self.old self.new (same_outcome self.old id.now now) [] (came_in self.old) }
         ensures waits { WaitsForAnswer self.old self.new result (same_outcome self.old id.now now) now }
     {
         let Ok(id) = self.names.id_in(id) else {
@@ -563,13 +514,15 @@ impl<'a> Player<'a> {
     }
 
     // It is waited for so long; then the step is met or not.
-    #[tactic(auto, using(crate::proofs::PlayLemmas::comes_in_time, crate::proofs::WaitLemmas::waits_in_time), unfolding(crate::specs::Leaving::OnlyWaits))]
+    #[tactic(auto, using(crate::proofs::PlayLemmas::comes_in_time, crate::proofs::WaitLemmas::waits_in_time, crate::proofs::TellLemmas::tells_in_time), unfolding(crate::specs::Leaving::OnlyWaits))]
     fn waited(&mut self, ms: u64, is_met: bool, now: u64) -> Option<Turn>
         ensures rest { OnlyWaits self.old self.new }
         ensures passes { is_met ≡ true → ComesTo self.old self.new result (passed_by (until_in self.old.until ms now) now) }
         ensures is_due { is_met ≡ false → ComesTo self.old self.new result (due_until (until_in self.old.until ms now) now) }
         ensures waits { is_met ≡ true → WaitsFor self.old self.new result (passed_by (until_in self.old.until ms now) now) ms now }
         ensures waits_for_it { is_met ≡ false → WaitsFor self.old self.new result (due_until (until_in self.old.until ms now) now) ms now }
+        ensures tells { is_met ≡ true → Tells self.old self.new (passed_by (until_in self.old.until ms now) now) [] (came_in self.old) }
+        ensures tells_of_it { is_met ≡ false → Tells self.old self.new (due_until (until_in self.old.until ms now) now) [] (came_in self.old) }
     {
         let until = self.deadline(ms, now);
         if now < until {
@@ -591,10 +544,12 @@ impl<'a> Player<'a> {
     }
 
     // No answer is to come for so long, or the gateway is to say nothing by itself.
-    #[tactic(auto, using(crate::proofs::PlayLemmas::comes, crate::proofs::WaitLemmas::waits_or_not), unfolding(crate::specs::Leaving::OnlyWaits))]
+    #[tactic(auto, using(crate::proofs::PlayLemmas::comes, crate::proofs::WaitLemmas::waits_or_not, crate::proofs::TellLemmas::tells_silence), unfolding(crate::specs::Leaving::OnlyWaits))]
     fn quiet(&mut self, ms: u64, is_unasked: bool, now: u64) -> Option<Turn>
         ensures comes { ComesTo self.old self.new result (silence_outcome self.old ms is_unasked now) }
         ensures waits { WaitsFor self.old self.new result (silence_outcome self.old ms is_unasked now) ms now }
+        ensures tells { Tells self.old self.new (silence_outcome self.old ms is_unasked now)
+            (silence_told self.old.is_undoing (silence_outcome self.old ms is_unasked now)) (came_in self.old) }
         ensures rest { OnlyWaits self.old self.new }
     {
         let until = self.deadline(ms, now);
@@ -612,11 +567,13 @@ impl<'a> Player<'a> {
     }
 
     // This is to be done at the line's telephone, or with the gateway.
-    #[tactic(auto, using(crate::proofs::PlayLemmas::comes, crate::proofs::WaitLemmas::waits_for_act), unfolding(crate::specs::Leaving::AsksFor))]
+    #[tactic(auto, using(crate::proofs::PlayLemmas::comes, crate::proofs::WaitLemmas::waits_for_act, crate::proofs::TellLemmas::tells_act), unfolding(crate::specs::Leaving::AsksFor))]
     fn ask_for(&mut self, act: &'a str) -> Option<Turn>
         ensures comes { ComesTo self.old self.new result (acted_by self.old.acted) }
         ensures asks { AsksFor self.old self.new result act.now }
         ensures waits { WaitsForAct self.old self.new result }
+        ensures tells { Tells self.old self.new (acted_by self.old.acted)
+            (act_told self.old.is_undoing self.old.acted act.now) (came_in self.old) }
     {
         match self.acted {
             None => {
@@ -769,9 +726,13 @@ impl<'a> Player<'a> {
     }
 
     /// A datagram has come to a socket at this moment, in ms. Whatever it is, the step that waits began when it began.
-    #[tactic(auto, unfolding(check_matching::specs::Hearing::kept_in, crate::specs::Keeping::left_in, crate::specs::Keeping::until_after))]
+    #[tactic(auto, unfolding(check_matching::specs::Hearing::kept_in, crate::specs::Keeping::left_in, crate::specs::Keeping::until_after, crate::specs::Taking::Takes))]
     pub fn take(&mut self, at: Socket, datagram: &[u8], moment: u64) -> Result<(), OutOfMemory>
+        ensures takes { OnOk result (Takes self.old at datagram.now moment self.new) }
         ensures begun { self.new.begun ≡ self.old.begun }
+        ensures told { OnOk result (string_bytes self.new.said
+            ≡ string_bytes self.old.said ++ told_unless self.old.is_undoing (came_mark at) datagram.now) }
+        ensures came { OnOk result (came_in self.new ≡ came_behind self.old datagram.now) }
         ensures waiting { OnOk result (map came_as self.new.inbox.waiting.items ≡ map came_as self.old.inbox.waiting.items
             ++ kept_in self.old.names.base (awaits_answer self.old.step) at (parts_of datagram.now)) }
         ensures left { OnOk result (map said_as self.new.mailbox.waiting.items
@@ -787,8 +748,7 @@ impl<'a> Player<'a> {
           came = self.new.came;
         } }
     {
-        let mark = if at.is_second() { "<< " } else { "< " };
-        self.note_came(mark, datagram)?;
+        self.note_came(came_mark(at), datagram)?;
         for text in parts(datagram) {
             self.hear(at, text, moment)?;
         }

@@ -1,16 +1,18 @@
 //! Steps that expect what the gateway says by itself.
+ghost use Rattle.std.specs.Prelude.{[]};
 ghost use Rattle.gateway_checks.specs.Naming.{filled};
 ghost use Rattle.check_matching.specs.Unasked.{likeness_at, announced_by};
 ghost use Rattle.check_player.specs.Awaiting.{WaitsForUnasked, WaitsForRepeat};
 ghost use Rattle.check_player.specs.Leaving.{OnlyWaits, NamesFound, found_in};
 ghost use Rattle.check_player.specs.Playing.{ComesTo, found_outcome, like_at, notice_due, again_outcome};
+ghost use Rattle.check_player.specs.Telling.{came_in, Tells};
 
 use crate::player::{Player, Turn};
 use check_matching::{Expected, Socket, UNASKED_TIME, first_word, name_id};
 
 impl<'a> Player<'a> {
     // This is to come to a socket: whether as due or not, its id has this name from here on.
-    #[tactic(auto, using(crate::proofs::PlayLemmas::comes_on, crate::proofs::WaitLemmas::waits_on), unfolding(crate::specs::Leaving::NamesFound, crate::specs::Leaving::OnlyWaits))]
+    #[tactic(auto, using(crate::proofs::PlayLemmas::comes_on, crate::proofs::WaitLemmas::waits_on, crate::proofs::TellLemmas::tells_more), unfolding(crate::specs::Leaving::NamesFound, crate::specs::Leaving::OnlyWaits))]
     fn find(&mut self, at: Socket, expected: &Expected<'_>, name: &'a str, now: u64) -> Option<Turn>
         ensures comes { ComesTo self.old self.new result (found_outcome self.old
             (likeness_at self.old.mailbox.heard.items at expected.now) now) }
@@ -18,6 +20,8 @@ impl<'a> Player<'a> {
             (found_in self.old (likeness_at self.old.mailbox.heard.items at expected.now)) }
         ensures waits { WaitsForUnasked self.old self.new result (found_outcome self.old
             (likeness_at self.old.mailbox.heard.items at expected.now) now) now }
+        ensures tells { Tells self.old self.new (found_outcome self.old
+            (likeness_at self.old.mailbox.heard.items at expected.now) now) [] (came_in self.old) }
     {
         match self.mailbox.first_meant(at, expected) {
             Ok(Some((place, is_due))) => {
@@ -32,7 +36,7 @@ impl<'a> Player<'a> {
     }
 
     // A notification is to come to a socket: the endpoint, X and O that are due have blanks between them.
-    #[tactic(auto, using(crate::proofs::PlayLemmas::comes_notified, crate::proofs::LeaveLemmas::names_notified, crate::proofs::WaitLemmas::waits_for_notice))]
+    #[tactic(auto, using(crate::proofs::PlayLemmas::comes_notified, crate::proofs::LeaveLemmas::names_notified, crate::proofs::WaitLemmas::waits_for_notice, crate::proofs::TellLemmas::tells_notified))]
     pub(crate) fn notified(
         &mut self,
         at: Socket,
@@ -46,6 +50,8 @@ impl<'a> Player<'a> {
             (like_at self.old.mailbox.heard.items at (notice_due (filled self.old.names due.now)))) }
         ensures waits { WaitsForUnasked self.old self.new result (found_outcome self.old
             (like_at self.old.mailbox.heard.items at (notice_due (filled self.old.names due.now))) now) now }
+        ensures tells { Tells self.old self.new (found_outcome self.old
+            (like_at self.old.mailbox.heard.items at (notice_due (filled self.old.names due.now))) now) [] (came_in self.old) }
     {
         let Ok(due) = self.names.filled(due) else {
             return self.refused();
@@ -61,7 +67,7 @@ impl<'a> Player<'a> {
     }
 
     // An announcement with this method is to come to a socket.
-    #[tactic(auto, using(crate::proofs::PlayLemmas::announced_comes, crate::proofs::LeaveLemmas::announced_named, crate::proofs::WaitLemmas::announced_waits))]
+    #[tactic(auto, using(crate::proofs::PlayLemmas::announced_comes, crate::proofs::LeaveLemmas::announced_named, crate::proofs::WaitLemmas::announced_waits, crate::proofs::TellLemmas::announced_tells))]
     pub(crate) fn announced(
         &mut self,
         at: Socket,
@@ -75,16 +81,19 @@ impl<'a> Player<'a> {
             (like_at self.old.mailbox.heard.items at (announced_by method.now))) }
         ensures waits { WaitsForUnasked self.old self.new result (found_outcome self.old
             (like_at self.old.mailbox.heard.items at (announced_by method.now)) now) now }
+        ensures tells { Tells self.old self.new (found_outcome self.old
+            (like_at self.old.mailbox.heard.items at (announced_by method.now)) now) [] (came_in self.old) }
     {
         let method = method.as_bytes();
         self.find(at, &Expected::Announcement { method }, name, now)
     }
 
     // What a step asked for last is to come so often again, each time within a time of its own.
-    #[tactic(auto, using(crate::proofs::PlayLemmas::comes_in_time, crate::proofs::WaitLemmas::waits_for_repeat), unfolding(crate::specs::Leaving::OnlyWaits))]
+    #[tactic(auto, using(crate::proofs::PlayLemmas::comes_in_time, crate::proofs::WaitLemmas::waits_for_repeat, crate::proofs::TellLemmas::tells_at_once), unfolding(crate::specs::Leaving::OnlyWaits))]
     pub(crate) fn came_again(&mut self, times: u64, grows: bool, now: u64) -> Option<Turn>
         ensures comes { ComesTo self.old self.new result (again_outcome self.old times grows now) }
         ensures waits { WaitsForRepeat self.old self.new result (again_outcome self.old times grows now) }
+        ensures tells { Tells self.old self.new (again_outcome self.old times grows now) [] (came_in self.old) }
         ensures rest { OnlyWaits self.old self.new }
     {
         let Some(gaps) = self.mailbox.gaps() else {
