@@ -1,1 +1,3 @@
+pub mod CountLemmas
+pub mod PlayLemmas
 pub mod ReportLemmas

@@ -1,1 +1,3 @@
 pub mod Report
+pub mod Playing
+pub mod Checking

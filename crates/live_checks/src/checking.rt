@@ -1,4 +1,13 @@
 //! Plays all checks at a gateway, and reports.
+ghost use Rattle.std.specs.Prelude.{◌≡◌, [], ◌++◌, true, None, Some, Err, codes, string_bytes, IsOk, IfOk, IfSome};
+ghost use Rattle.gateway_checks.specs.Reporting.{with_verdict};
+ghost use Rattle.live_outlets.specs.Backlog.{is_kept};
+ghost use Rattle.live_outlets.specs.declared.backlog.TheConstants.{TEXT_ROOM};
+ghost use Rattle.live_checks.specs.declared.checking.SocketNames.{SocketNames};
+ghost use Rattle.live_checks.specs.Checking.{IsBegun, base_behind, verdict_in, CountsOne, Counts, Rests, status_of, IsStatusOf};
+ghost use Rattle.live_checks.specs.Checking.{IsObjectLine, report_data};
+ghost use Rattle.live_checks.specs.Report.{tally_data};
+
 use crate::check_fault::CheckFault;
 use crate::ends::Ends;
 use crate::json::{check_text, tally_text};
@@ -94,7 +103,10 @@ fn first_base<R: Clock>(rt: &R) -> u32 {
 fn put_out<F: Write + Drop>(
     said: &mut Outlet<F>,
     text: Result<String, OutOfMemory>,
-) -> Option<CheckFault> {
+) -> Option<CheckFault>
+    ensures made { result ≡ None → IsOk text }
+    ensures kept { result ≡ None → IfOk text (λ told. is_kept TEXT_ROOM said.old.backlog (string_bytes told) ≡ true) }
+{
     let Ok(text) = text else {
         return Some(CheckFault::OutOfMemory);
     };
@@ -131,6 +143,7 @@ fn is_possible(settings: &CheckSettings<'_>, check: &Check<'_>) -> bool {
 }
 
 // The player of a check at a line, whose two sockets have these names, with the ids from behind this number on.
+#[tactic(auto, unfolding(crate::specs::Checking::IsBegun))]
 fn player_of<'a>(
     alloc: Global,
     settings: &CheckSettings<'a>,
@@ -138,7 +151,9 @@ fn player_of<'a>(
     line: &'a str,
     base: u32,
     check: &Check<'static>,
-) -> Player<'a> {
+) -> Player<'a>
+    ensures { IsBegun check.now settings.now names.now line.now base result }
+{
     let places = Places {
         domain: settings.domain,
         local: line,
@@ -163,11 +178,36 @@ fn is_wanted(settings: &CheckSettings<'_>, check: &Check<'_>) -> bool {
     is_asked && is_possible(settings, check)
 }
 
-// An object in a line of its own.
-fn line_of(object: Result<String, OutOfMemory>) -> Result<String, OutOfMemory> {
-    let mut line = object?;
-    line.push('\n')?;
+// The line that a text is.
+fn line_of(text: String) -> Result<String, OutOfMemory>
+    ensures { IfOk result (λ line. string_bytes line ≡ string_bytes text ++ codes "\n") }
+{
+    let mut line = text;
+    line.push_str("\n")?;
     Ok(line)
+}
+
+// The report of a check as JSON.
+fn check_line(
+    alloc: Global,
+    check: &Check<'_>,
+    verdict: Option<Verdict>,
+    said: &str,
+    due: &str,
+    came: &[Vec<u8>],
+) -> Result<String, OutOfMemory>
+    ensures { IfOk result (λ line. IsObjectLine (report_data check.now verdict said.now due.now came.now) (string_bytes line)) }
+{
+    let text = check_text(alloc, check, verdict, said, due, came)?;
+    line_of(text)
+}
+
+// How many checks came to what, as JSON.
+fn tally_line(alloc: Global, tally: &Tally) -> Result<String, OutOfMemory>
+    ensures { IfOk result (λ line. IsObjectLine (tally_data tally.now) (string_bytes line)) }
+{
+    let text = tally_text(alloc, tally)?;
+    line_of(text)
 }
 
 // The report of a check, of which this was said, this was due, and this came. Where JUnit's XML is wanted its case is put there, too.
@@ -180,12 +220,15 @@ fn report_of(
     said: &str,
     due: &str,
     came: &[Vec<u8>],
-) -> Result<String, OutOfMemory> {
+) -> Result<String, OutOfMemory>
+    ensures { settings.now.is_json ≡ true → IfOk result (λ line.
+        IsObjectLine (report_data check.now verdict said.now due.now came.now) (string_bytes line)) }
+{
     if settings.is_junit {
         put_case(cases, check, verdict, due, said)?;
     }
     if settings.is_json {
-        return line_of(check_text(alloc, check, verdict, said, due, came));
+        return check_line(alloc, check, verdict, said, due, came);
     }
     let mut text = String::new(alloc);
     put_check(&mut text, check, verdict, said)?;
@@ -194,7 +237,11 @@ fn report_of(
 
 impl<'a> Checking<'a> {
     // The player has the next check from here on, at this line, with the next ids.
-    fn begin(&mut self, check: &Check<'static>, line: &'a str) {
+    fn begin(&mut self, check: &Check<'static>, line: &'a str)
+        ensures begun { IsBegun check.now self.old.settings.now self.old.names.now line.now self.old.base self.new.player.value }
+        ensures base { self.new.base ≡ base_behind self.old.base }
+        ensures rest { self.new ≡ record self.old { player = self.new.player; base = self.new.base } }
+    {
         let next = player_of(
             self.alloc,
             self.settings,
@@ -208,7 +255,13 @@ impl<'a> Checking<'a> {
     }
 
     // Counts a check that was played, of which the player has what came, and gives its report.
-    fn report_played(&mut self, check: &Check<'_>) -> Result<String, OutOfMemory> {
+    fn report_played(&mut self, check: &Check<'_>) -> Result<String, OutOfMemory>
+        ensures counts { self.new.tally ≡ with_verdict self.old.tally (Some (verdict_in self.old.player.value)) }
+        ensures reports { self.old.settings.now.is_json ≡ true → IfOk result (λ line. IsObjectLine
+            (report_data check.now (Some (verdict_in self.old.player.value)) (string_bytes self.old.player.value.said)
+            (string_bytes self.old.player.value.due) self.old.player.value.came.items) (string_bytes line)) }
+        ensures rest { self.new ≡ record self.old { tally = self.new.tally; cases = self.new.cases } }
+    {
         let player = &*self.player;
         let verdict = Some(player.verdict());
         self.tally.count(verdict);
@@ -225,7 +278,12 @@ impl<'a> Checking<'a> {
     }
 
     // Counts a check that wasn't played, and gives its report.
-    fn report_unplayed(&mut self, check: &Check<'_>) -> Result<String, OutOfMemory> {
+    fn report_unplayed(&mut self, check: &Check<'_>) -> Result<String, OutOfMemory>
+        ensures counts { self.new.tally ≡ with_verdict self.old.tally None }
+        ensures reports { self.old.settings.now.is_json ≡ true → IfOk result (λ line.
+            IsObjectLine (report_data check.now None [] [] []) (string_bytes line)) }
+        ensures rest { self.new ≡ record self.old { tally = self.new.tally; cases = self.new.cases } }
+    {
         self.tally.count(None);
         report_of(
             self.alloc,
@@ -240,9 +298,11 @@ impl<'a> Checking<'a> {
     }
 
     // How many checks have come to what.
-    fn counts(&self) -> Result<String, OutOfMemory> {
+    fn counts(&self) -> Result<String, OutOfMemory>
+        ensures { self.now.settings.now.is_json ≡ true → IfOk result (λ line. IsObjectLine (tally_data self.now.tally) (string_bytes line)) }
+    {
         if self.settings.is_json {
-            return line_of(tally_text(self.alloc, &self.tally));
+            return tally_line(self.alloc, &self.tally);
         }
         let mut text = String::new(self.alloc);
         put_tally(&mut text, &self.tally)?;
@@ -250,7 +310,11 @@ impl<'a> Checking<'a> {
     }
 
     // What came of all checks, where nothing has failed.
-    fn outcome(&self, fault: Option<CheckFault>) -> Result<Checked, CheckFault> {
+    fn outcome(&self, fault: Option<CheckFault>) -> Result<Checked, CheckFault>
+        ensures status { IfOk result (λ checked. checked.status ≡ status_of self.now.tally) }
+        ensures faultless { IfOk result (λ checked. fault ≡ None) }
+        ensures fault { IfSome fault (λ why. result ≡ Err why) }
+    {
         if let Some(fault) = fault {
             return Err(fault);
         }
@@ -291,7 +355,9 @@ fn ask<R: Net + Clock>(ends: &mut Ends<'_, R>, player: &mut Box<Player<'_>>) -> 
 }
 
 // Waits until the gateway serves; else nothing can be checked.
-fn find<R: Net + Clock>(checking: &mut Checking<'_>, ends: &mut Ends<'_, R>) {
+fn find<R: Net + Clock>(checking: &mut Checking<'_>, ends: &mut Ends<'_, R>)
+    ensures { checking.new ≡ record checking.old { player = checking.new.player; base = checking.new.base } }
+{
     let line = checking.settings.line;
     let mut silent: u32 = 0;
     for _ in 0..MOST_TRIES {
@@ -314,7 +380,9 @@ fn holds<'a, R: Net + Clock>(
     ends: &mut Ends<'_, R>,
     line: &'a str,
     block: &'static str,
-) -> bool {
+) -> bool
+    ensures { checking.new ≡ record checking.old { player = checking.new.player; base = checking.new.base } }
+{
     checking.begin(&check_of(block), line);
     ends.play(&mut checking.player);
     matches!(checking.player.verdict(), Verdict::Passed)
@@ -326,7 +394,9 @@ fn find_idle<'a, R: Net + Clock>(
     ends: &mut Ends<'_, R>,
     line: &'a str,
     is_other: bool,
-) {
+)
+    ensures { checking.new ≡ record checking.old { player = checking.new.player; base = checking.new.base } }
+{
     if holds(checking, ends, line, UNKNOWN) {
         return ends.keep(Some(CheckFault::NoSuchLine { is_other }));
     }
@@ -338,7 +408,9 @@ fn find_idle<'a, R: Net + Clock>(
 }
 
 // The lines are there, and aren't in use; else nothing can be checked.
-fn find_lines<R: Net + Clock>(checking: &mut Checking<'_>, ends: &mut Ends<'_, R>) {
+fn find_lines<R: Net + Clock>(checking: &mut Checking<'_>, ends: &mut Ends<'_, R>)
+    ensures { checking.new ≡ record checking.old { player = checking.new.player; base = checking.new.base } }
+{
     let line = checking.settings.line;
     let other = checking.settings.other;
     find_idle(checking, ends, line, false);
@@ -350,14 +422,21 @@ fn find_lines<R: Net + Clock>(checking: &mut Checking<'_>, ends: &mut Ends<'_, R
 // Plays a check, where it is asked for, and reports what came of it. Behind one that has the gateway started anew it is waited for:
 // what it announces is answered meanwhile, so that the checks behind aren't refused with 405. One that doesn't serve then shows in
 // these.
+#[tactic(auto, using(crate::proofs::CountLemmas::counts_one))]
 fn check_one<R: Net + Clock, F: Write + Drop>(
     out: &mut Outlet<F>,
     checking: &mut Checking<'_>,
     ends: &mut Ends<'_, R>,
     check: &Check<'static>,
-) {
+)
+    ensures counts { CountsOne checking.old.settings.now checking.old.names.now checking.old.tally checking.new.tally }
+    ensures rest { Rests checking.old checking.new }
+{
     let settings = checking.settings;
-    if ends.fault().is_some() || !is_named(settings, check) {
+    if ends.fault().is_some() {
+        return;
+    }
+    if !is_named(settings, check) {
         return;
     }
     if !is_wanted(settings, check) {
@@ -376,23 +455,30 @@ fn check_one<R: Net + Clock, F: Write + Drop>(
 }
 
 // Plays the checks of a text that are asked for.
+#[tactic(auto, using(crate::proofs::CountLemmas::counts_none, crate::proofs::CountLemmas::counts_more))]
 fn check_each<R: Net + Clock, F: Write + Drop>(
     out: &mut Outlet<F>,
     checking: &mut Checking<'_>,
     ends: &mut Ends<'_, R>,
     text: &'static str,
-) {
+)
+    ensures counts { Counts checking.old.settings.now checking.old.names.now checking.old.tally checking.new.tally }
+    ensures rest { Rests checking.old checking.new }
+{
     for block in text.split("\n= ").skip(1) {
         check_one(out, checking, ends, &check_of(block));
     }
 }
 
 // Plays all checks that are asked for, and tells how many have come to what.
+#[tactic(auto, using(crate::proofs::CountLemmas::counts_none, crate::proofs::CountLemmas::counts_both))]
 fn check_all<R: Net + Clock, F: Write + Drop>(
     out: &mut Outlet<F>,
     checking: &mut Checking<'_>,
     ends: &mut Ends<'_, R>,
-) {
+)
+    ensures counts { Counts checking.old.settings.now checking.old.names.now checking.old.tally checking.new.tally }
+{
     find(checking, ends);
     find_lines(checking, ends);
     let texts = all_checks();
@@ -412,7 +498,9 @@ fn check_from<'a, R: Net + Clock, F: Write + Drop>(
     base: u32,
     ends: &mut Ends<'_, R>,
     out: &mut Outlet<F>,
-) -> Result<Checked, CheckFault> {
+) -> Result<Checked, CheckFault>
+    ensures { IfOk result (λ checked. IsStatusOf settings.now names.now checked.status) }
+{
     let first = check_of(SERVES);
     let player = player_of(alloc, settings, names, settings.line, base, &first);
     let Ok(player) = boxed(alloc, player) else {
@@ -450,7 +538,9 @@ fn check_by<R: AllocGlobal + Net + Clock, F: Write + Drop>(
     settings: &CheckSettings<'_>,
     ends: &mut Ends<'_, R>,
     out: &mut Outlet<F>,
-) -> Result<Checked, CheckFault> {
+) -> Result<Checked, CheckFault>
+    ensures { IfOk result (λ checked. (names : SocketNames) × IsStatusOf settings.now names checked.status) }
+{
     let alloc = rt.alloc();
     let Ok(names) = socket_names(alloc, settings.own, ends.second_port()) else {
         return Err(CheckFault::OutOfMemory);
@@ -464,7 +554,9 @@ pub fn check_gateway<R: AllocGlobal + Net + Clock, F: Write + Drop>(
     rt: &R,
     settings: &CheckSettings<'_>,
     out: &mut Outlet<F>,
-) -> Result<Checked, CheckFault> {
+) -> Result<Checked, CheckFault>
+    ensures { IfOk result (λ checked. (names : SocketNames) × IsStatusOf settings.now names checked.status) }
+{
     let telephone = settings.telephone;
     match Ends::open(rt, rt.alloc(), settings.gateway, settings.own, telephone) {
         Ok(mut ends) => check_by(rt, settings, &mut ends, out),

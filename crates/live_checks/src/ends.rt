@@ -1,4 +1,9 @@
 //! The two sockets of a check, the one by which telephones are worked, and the clock.
+ghost use Rattle.std.specs.Prelude.{◌≡◌, true, false, None};
+ghost use Rattle.check_player.specs.declared.player.Turn.TheVariants as turns;
+ghost use Rattle.check_player.specs.Turning.{Plays};
+ghost use Rattle.live_checks.specs.Playing.{first_of, Hears, TurnsOnce, PlaysOut};
+
 use crate::check_fault::CheckFault;
 use crate::telephone::Telephone;
 use check_matching::Socket;
@@ -213,12 +218,17 @@ impl<'a, R: Net + Clock> Ends<'a, R> {
     }
 
     /// What has failed first, if anything has.
-    pub(crate) fn fault(&self) -> Option<CheckFault> {
+    pub(crate) fn fault(&self) -> Option<CheckFault>
+        ensures { result ≡ self.now.fault }
+    {
         self.fault
     }
 
     /// Keeps what fails, if anything does, where nothing has failed before.
-    pub(crate) fn keep(&mut self, fault: Option<CheckFault>) {
+    pub(crate) fn keep(&mut self, fault: Option<CheckFault>)
+        ensures first { self.new.fault ≡ first_of self.old.fault fault }
+        ensures none { self.new.fault ≡ None → (self.old.fault ≡ None) × (fault ≡ None) }
+    {
         if self.fault.is_none() {
             self.fault = fault;
         }
@@ -236,7 +246,9 @@ impl<'a, R: Net + Clock> Ends<'a, R> {
     }
 
     // The moment, in ms; the last one where the clock fails.
-    fn now(&mut self) -> u64 {
+    fn now(&mut self) -> u64
+        ensures { self.new.fault ≡ None → self.old.fault ≡ None }
+    {
         match self.clock.passed() {
             Ok(moment) => moment,
             Err(_) => {
@@ -254,50 +266,77 @@ impl<'a, R: Net + Clock> Ends<'a, R> {
     }
 
     // Sends to the gateway. What finds no room counts as lost in the network.
-    fn send(&mut self, from: Socket, bytes: &[u8]) {
+    fn send(&mut self, from: Socket, bytes: &[u8])
+        ensures { self.new.fault ≡ None → self.old.fault ≡ None }
+    {
         let sent = send_by(self.socket(from), bytes, self.gateway);
         if let Sent::Refused = sent {
             self.keep(Some(CheckFault::NoAnswer));
         }
     }
 
+    // Sends responses, if there are any.
+    fn respond(&mut self, at: Socket, responses: &str)
+        ensures { self.new.fault ≡ None → self.old.fault ≡ None }
+    {
+        if !responses.is_empty() {
+            self.send(at, responses.as_bytes());
+        }
+    }
+
     // Gives the player a datagram that has come to a socket, and answers the gateway's commands in it.
-    fn give(&mut self, player: &mut Box<Player<'_>>, at: Socket, datagram: &[u8]) {
+    #[tactic(auto, using(crate::proofs::PlayLemmas::hears_given))]
+    fn give(&mut self, player: &mut Box<Player<'_>>, at: Socket, datagram: &[u8])
+        ensures still { self.new.fault ≡ None → self.old.fault ≡ None }
+        ensures hears { self.new.fault ≡ None → Hears player.old.value player.new.value }
+    {
         let mut responses = String::new(self.alloc);
         if player.put_responses(&mut responses, datagram).is_err() {
             return self.keep(Some(CheckFault::OutOfMemory));
         }
-        if !responses.is_empty() {
-            self.send(at, responses.as_bytes());
-        }
+        self.respond(at, responses.as_str());
         let now = self.now();
         if player.take(at, datagram, now).is_err() {
-            self.keep(Some(CheckFault::OutOfMemory));
+            return self.keep(Some(CheckFault::OutOfMemory));
         }
     }
 
     // Gives the player what has come to a socket, of the gateway's; whether anything has.
-    fn look(&mut self, player: &mut Box<Player<'_>>, at: Socket) -> bool {
+    #[tactic(auto, using(crate::proofs::PlayLemmas::hears_nothing))]
+    fn look(&mut self, player: &mut Box<Player<'_>>, at: Socket) -> bool
+        ensures still { self.new.fault ≡ None → self.old.fault ≡ None }
+        ensures hears { self.new.fault ≡ None → Hears player.old.value player.new.value }
+    {
         let mut room = [0u8; ROOM];
         let Some((source, len)) = receive_by(self.socket(at), &mut room) else {
             return false;
         };
-        if is_of_host(source, self.gateway) {
-            self.give(player, at, room.get(..len).unwrap_or(&[]));
+        if !is_of_host(source, self.gateway) {
+            return true;
         }
+        self.give(player, at, room.get(..len).unwrap_or(&[]));
         true
     }
 
     /// Waits for so long, in ms, or until something comes; where something has failed it doesn't.
-    pub(crate) fn rest(&mut self, longest: u64) {
+    pub(crate) fn rest(&mut self, longest: u64)
+        ensures { self.new.fault ≡ None → self.old.fault ≡ None }
+    {
         if self.fault.is_none() && !wait_by(&mut self.sockets, longest) {
             self.fault = Some(CheckFault::System);
         }
     }
 
     // Gives the player what comes next, but waits no longer than until this moment.
-    fn hear(&mut self, player: &mut Box<Player<'_>>, until: u64) {
-        if self.look(player, Socket::First) || self.look(player, Socket::Second) {
+    #[tactic(auto, using(crate::proofs::PlayLemmas::hears_both))]
+    fn hear(&mut self, player: &mut Box<Player<'_>>, until: u64)
+        ensures still { self.new.fault ≡ None → self.old.fault ≡ None }
+        ensures hears { self.new.fault ≡ None → Hears player.old.value player.new.value }
+    {
+        if self.look(player, Socket::First) {
+            return;
+        }
+        if self.look(player, Socket::Second) {
             return;
         }
         let now = self.now();
@@ -310,7 +349,10 @@ impl<'a, R: Net + Clock> Ends<'a, R> {
         telephone: SocketAddrV4,
         player: &mut Box<Player<'_>>,
         until: u64,
-    ) -> bool {
+    ) -> bool
+        ensures still { self.new.fault ≡ None → self.old.fault ≡ None }
+        ensures hears { self.new.fault ≡ None → Hears player.old.value player.new.value }
+    {
         for _ in 0..u64::MAX {
             match told_by(&self.sockets.third, telephone) {
                 Told::Done(is_done) => return is_done,
@@ -332,7 +374,11 @@ impl<'a, R: Net + Clock> Ends<'a, R> {
     }
 
     // Has what the player asks for at this moment done at the line's telephone, or with the gateway; whether it was.
-    fn act(&mut self, player: &mut Box<Player<'_>>, now: u64) -> bool {
+    #[tactic(auto, using(crate::proofs::PlayLemmas::hears_nothing))]
+    fn act(&mut self, player: &mut Box<Player<'_>>, now: u64) -> bool
+        ensures still { self.new.fault ≡ None → self.old.fault ≡ None }
+        ensures hears { self.new.fault ≡ None → Hears player.old.value player.new.value }
+    {
         let Some(telephone) = self.telephone else {
             return false;
         };
@@ -349,27 +395,47 @@ impl<'a, R: Net + Clock> Ends<'a, R> {
     }
 
     // Does what the player asks for at this moment: whether it may ask for more.
-    fn turn(&mut self, player: &mut Box<Player<'_>>, now: u64) -> bool {
+    #[tactic(auto, using(crate::proofs::PlayLemmas::turned))]
+    fn turn(&mut self, player: &mut Box<Player<'_>>, now: u64) -> bool
+        ensures turns { result ≡ true → self.new.fault ≡ None → TurnsOnce player.old.value player.new.value }
+        ensures over { result ≡ false → Plays now player.old.value player.new.value turns.Over }
+    {
         match player.turn(now) {
-            Ok(Turn::Send { from }) => self.send(from, player.sent()),
-            Ok(Turn::Wait { until }) => self.hear(player, until),
+            Ok(Turn::Send { from }) => {
+                self.send(from, player.sent());
+                true
+            }
+            Ok(Turn::Wait { until }) => {
+                self.hear(player, until);
+                true
+            }
             Ok(Turn::Act) => {
                 let is_done = self.act(player, now);
                 player.acted(is_done);
+                true
             }
-            Ok(Turn::Over) => return false,
-            Err(_) => self.keep(Some(CheckFault::OutOfMemory)),
+            Ok(Turn::Over) => false,
+            Err(_) => {
+                self.keep(Some(CheckFault::OutOfMemory));
+                true
+            }
         }
-        true
     }
 
     /// Plays a check to its end, or until something fails.
-    pub(crate) fn play(&mut self, player: &mut Box<Player<'_>>) {
+    pub(crate) fn play(&mut self, player: &mut Box<Player<'_>>)
+        ensures { self.new.fault ≡ None → PlaysOut player.old.value player.new.value }
+    {
         for _ in 0..u64::MAX {
             let now = self.now();
-            if self.fault.is_some() || !self.turn(player, now) {
+            if self.fault.is_some() {
+                return;
+            }
+            if !self.turn(player, now) {
                 return;
             }
         }
+        // No check has so many turns.
+        self.keep(Some(CheckFault::System));
     }
 }

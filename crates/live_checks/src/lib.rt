@@ -8,6 +8,7 @@
 
 mod check_fault;
 mod checking;
+pub mod counting_examples;
 mod ends;
 mod json;
 mod phones;

@@ -1,0 +1,41 @@
+use Rattle.live_checks.specs.Playing.{Hears, TurnsOnce, PlaysOut}
+use Rattle.live_checks.proofs.counting_examples.how_a_check_is_played_has_examples.Goals as goal
+
+pub returns-clause-given : goal.returns-clause-given
+returns-clause-given c = λ was is given. given
+
+pub returns-clause-nothing : goal.returns-clause-nothing
+returns-clause-nothing c = λ was is same. same
+
+pub returns-clause-one : goal.returns-clause-one
+returns-clause-one c = λ was is hears. hears
+
+pub returns-clause-hears : goal.returns-clause-hears
+unfolding Hears
+returns-clause-hears c = λ was is hears. hears
+
+pub returns-clause-sends : goal.returns-clause-sends
+returns-clause-sends c = λ at asked is same. same
+
+pub returns-clause-waits : goal.returns-clause-waits
+returns-clause-waits c = λ until asked is hears. hears
+
+pub returns-clause-acts : goal.returns-clause-acts
+returns-clause-acts c = λ asked is acts. acts
+
+pub returns-clause-over : goal.returns-clause-over
+returns-clause-over c = λ asked is none. none
+
+pub returns-clause-turn : goal.returns-clause-turn
+unfolding TurnsOnce
+returns-clause-turn c = λ was is turns. turns
+
+pub returns-clause-none : goal.returns-clause-none
+returns-clause-none c = λ was is same. same
+
+pub returns-clause-once : goal.returns-clause-once
+returns-clause-once c = λ was is turns. turns
+
+pub returns-clause-plays : goal.returns-clause-plays
+unfolding PlaysOut
+returns-clause-plays c = λ was is plays. plays

@@ -1,0 +1,25 @@
+use Rattle.live_checks.specs.Checking.{CountsPlayed, Counts}
+use Rattle.live_checks.proofs.counting_examples.what_counts_has_examples.Goals as goal
+
+pub returns-clause-played : goal.returns-clause-played
+unfolding CountsPlayed
+returns-clause-played c = λ settings names was is played. played
+
+pub returns-clause-one : goal.returns-clause-one
+returns-clause-one c = λ settings names was is counts. counts
+
+pub returns-clause-none : goal.returns-clause-none
+returns-clause-none c = λ settings names was is same. same
+
+pub returns-clause-once : goal.returns-clause-once
+returns-clause-once c = λ settings names was is counts. counts
+
+pub returns-clause-all : goal.returns-clause-all
+unfolding Counts
+returns-clause-all c = λ settings names was is counts. counts
+
+pub returns-clause-status : goal.returns-clause-status
+returns-clause-status c = λ settings names status is. is
+
+pub returns-clause-line : goal.returns-clause-line
+returns-clause-line c = λ told line is. is

@@ -1,0 +1,103 @@
+//! Worked examples of how a check is played, and what counts of it, as theorems: each sentence of a definition has one that a slip in it
+//! breaks.
+#![tactic(auto)]
+
+ghost use Rattle.std.specs.Prelude.{◌≡◌, ◌⊎◌, ◌++◌, [], ℕ, List, Bool, false, codes, string_bytes, Option, Some, None};
+ghost use Rattle.serde_json.specs.Data.{Data};
+ghost use Rattle.serde_json.specs.Written.{IsInOrder};
+ghost use Rattle.gateway_checks.specs.declared.check.Check.{Check};
+ghost use Rattle.gateway_checks.specs.declared.report.Tally.{Tally};
+ghost use Rattle.gateway_checks.specs.Judging.{verdict_of};
+ghost use Rattle.gateway_checks.specs.Reporting.{with_verdict};
+ghost use Rattle.check_matching.specs.declared.socket.Socket.{Socket};
+ghost use Rattle.check_player.specs.declared.player.Player.{Player};
+ghost use Rattle.check_player.specs.declared.player.Turn.{Turn};
+ghost use Rattle.check_player.specs.declared.player.Turn.TheVariants as turns;
+ghost use Rattle.check_player.specs.Taking.{Takes};
+ghost use Rattle.check_player.specs.Turning.{Plays};
+ghost use Rattle.live_checks.specs.declared.check_fault.CheckFault.{CheckFault};
+ghost use Rattle.live_checks.specs.declared.check_fault.CheckFault.TheVariants.{NoAnswer};
+ghost use Rattle.live_checks.specs.declared.checking.CheckSettings.{CheckSettings};
+ghost use Rattle.live_checks.specs.declared.checking.SocketNames.{SocketNames};
+ghost use Rattle.live_checks.specs.Checking.{IsBegun, base_behind, verdict_in, CountsPlayed, CountsOne, CountsTimes, Counts, nothing_counted};
+ghost use Rattle.live_checks.specs.Checking.{status_of, IsStatusOf, IsObjectLine};
+ghost use Rattle.live_checks.specs.Playing.{first_of, IsGiven, HearsTimes, Hears, Answers, TurnsOnce, TurnsTimes, PlaysOut};
+
+/// Each sentence at an example.
+pub fn how_a_check_is_played_has_examples()
+    // What fails first is kept.
+    ensures first { (fault : Option CheckFault) → first_of None fault ≡ fault }
+    ensures second { (fault : Option CheckFault) → first_of (Some NoAnswer) fault ≡ Some NoAnswer }
+    // What comes is given to the player, one behind the other.
+    ensures given { (was is : Player) → IsGiven was is
+        → (at : Socket) × (datagram : List ℕ) × (moment : ℕ) × Takes was at datagram moment is }
+    ensures nothing { (was is : Player) → HearsTimes 0 was is → is ≡ was }
+    ensures one { (was is : Player) → HearsTimes 1 was is → (between : Player) × (between ≡ was) × IsGiven between is }
+    ensures hears { (was is : Player) → Hears was is → (count : ℕ) × HearsTimes count was is }
+    // What is asked for is done, and told.
+    ensures sends { (at : Socket) (asked is : Player) → Answers (turns.Send at) asked is → is ≡ asked }
+    ensures waits { (until : ℕ) (asked is : Player) → Answers (turns.Wait until) asked is → Hears asked is }
+    ensures acts { (asked is : Player) → Answers turns.Act asked is
+        → (heard : Player) × (is_done : Bool) × Hears asked heard × (is ≡ record heard { acted = Some is_done }) }
+    ensures over { (asked is : Player) → Answers turns.Over asked is → ⊥ }
+    ensures turn { (was is : Player) → TurnsOnce was is
+        → (now : ℕ) × (turn : Turn) × (asked : Player) × Plays now was asked turn × Answers turn asked is }
+    ensures none { (was is : Player) → TurnsTimes 0 was is → is ≡ was }
+    ensures once { (was is : Player) → TurnsTimes 1 was is → (between : Player) × (between ≡ was) × TurnsOnce between is }
+    // It is played until it is over.
+    ensures plays { (was is : Player) → PlaysOut was is
+        → (count : ℕ) × (last : Player) × (now : ℕ) × TurnsTimes count was last × Plays now last is turns.Over }
+{}
+
+/// Each sentence at an example.
+pub fn how_a_check_begins_has_examples()
+    ensures lines { (check : Check) (settings : CheckSettings) (names : SocketNames) (player : Player)
+        → IsBegun check settings names (codes "aaln/1") 1000 player → (player.lines ≡ check.steps) × (player.undo ≡ check.undo) }
+    ensures place { (check : Check) (settings : CheckSettings) (names : SocketNames) (player : Player)
+        → IsBegun check settings names (codes "aaln/1") 1000 player
+        → (player.names.places.local.now ≡ codes "aaln/1") × (player.names.places.domain ≡ settings.domain) }
+    ensures sockets { (check : Check) (settings : CheckSettings) (names : SocketNames) (player : Player)
+        → IsBegun check settings names (codes "aaln/1") 1000 player
+        → (player.names.places.here.now ≡ string_bytes names.here) × (player.names.places.there.now ≡ string_bytes names.there) }
+    ensures ids { (check : Check) (settings : CheckSettings) (names : SocketNames) (player : Player)
+        → IsBegun check settings names (codes "aaln/1") 1000 player → (player.names.base ≡ 1000) × (player.names.kept.items ≡ []) }
+    ensures not_begun { (check : Check) (settings : CheckSettings) (names : SocketNames) (player : Player)
+        → IsBegun check settings names (codes "aaln/1") 1000 player → (player.step ≡ None) × (player.is_undoing ≡ false) }
+    ensures faultless { (check : Check) (settings : CheckSettings) (names : SocketNames) (player : Player)
+        → IsBegun check settings names (codes "aaln/1") 1000 player → (player.fault ≡ None) × (player.is_refused ≡ false) }
+    ensures not_acted { (check : Check) (settings : CheckSettings) (names : SocketNames) (player : Player)
+        → IsBegun check settings names (codes "aaln/1") 1000 player → player.acted ≡ None }
+    ensures unanswered { (check : Check) (settings : CheckSettings) (names : SocketNames) (player : Player)
+        → IsBegun check settings names (codes "aaln/1") 1000 player → (player.inbox.waiting.items ≡ []) × (player.inbox.taken.items ≡ []) }
+    ensures unheard { (check : Check) (settings : CheckSettings) (names : SocketNames) (player : Player)
+        → IsBegun check settings names (codes "aaln/1") 1000 player
+        → (player.mailbox.waiting.items ≡ []) × (player.mailbox.heard.items ≡ []) }
+    // The ids of the next check are others.
+    ensures next { base_behind 1000 ≡ 1010 }
+    ensures last { base_behind 4294967290 ≡ 4294967295 }
+{}
+
+/// Each sentence at an example.
+pub fn what_counts_has_examples()
+    ensures verdict { (player : Player) → verdict_in player ≡ verdict_of player.is_open player.fault }
+    ensures played { (settings : CheckSettings) (names : SocketNames) (was is : Tally) → CountsPlayed settings names (codes "aaln/1") was is
+        → (check : Check) × (base : ℕ) × (begun : Player) × (over : Player) × IsBegun check settings names (codes "aaln/1") base begun
+        × PlaysOut begun over × (is ≡ with_verdict was (Some (verdict_in over))) }
+    ensures one { (settings : CheckSettings) (names : SocketNames) (was is : Tally) → CountsOne settings names was is
+        → (is ≡ was) ⊎ ((is ≡ with_verdict was None) ⊎ CountsPlayed settings names settings.line.now was is) }
+    ensures none { (settings : CheckSettings) (names : SocketNames) (was is : Tally) → CountsTimes 0 settings names was is → is ≡ was }
+    ensures once { (settings : CheckSettings) (names : SocketNames) (was is : Tally) → CountsTimes 1 settings names was is
+        → (between : Tally) × (between ≡ was) × CountsOne settings names between is }
+    ensures all { (settings : CheckSettings) (names : SocketNames) (was is : Tally) → Counts settings names was is
+        → (count : ℕ) × CountsTimes count settings names was is }
+    ensures nothing { nothing_counted ≡ record { passed = 0; failed = 0; left_open = 0; not_supported = 0; not_played = 0 } }
+    // A check that failed shows in the exit status.
+    ensures none_failed { status_of (record { passed = 3; failed = 0; left_open = 1; not_supported = 1; not_played = 1 }) ≡ 0 }
+    ensures failed { status_of (record { passed = 3; failed = 1; left_open = 0; not_supported = 0; not_played = 0 }) ≡ 1 }
+    ensures failed_twice { status_of (record { passed = 3; failed = 2; left_open = 0; not_supported = 0; not_played = 0 }) ≡ 1 }
+    ensures status { (settings : CheckSettings) (names : SocketNames) (status : ℕ) → IsStatusOf settings names status
+        → (tally : Tally) × Counts settings names nothing_counted tally × (status ≡ status_of tally) }
+    // An object has its line.
+    ensures line { (told : Data) (line : List ℕ) → IsObjectLine told line
+        → (object : List ℕ) × IsInOrder object told × (line ≡ object ++ codes "\n") }
+{}
