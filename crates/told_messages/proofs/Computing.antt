@@ -8,8 +8,10 @@ use Rattle.told_messages.specs.Coming.{waited_for, came_text, texts_came, datagr
 use Rattle.told_messages.specs.Explaining.{reason_text}
 use Rattle.told_messages.specs.Sending.{sent_text, datagram_text, last_with, last_behind}
 
-unfoldable pub on_examples : ⊤
-unfolding count_examples part_examples latest_said texts_of reason_text sent_text datagram_text last_with last_behind
+unfoldable pub log_examples : ⊤
+unfolding sent_text datagram_text last_with last_behind waited_for came_text texts_came datagram_came given_up_text
+log_examples = tt
 
-unfolding waited_for came_text texts_came datagram_came given_up_text
+unfoldable pub on_examples : ⊤
+unfolding count_examples part_examples log_examples latest_said texts_of reason_text
 on_examples = tt
