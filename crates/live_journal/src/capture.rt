@@ -67,9 +67,9 @@ impl Capture {
         file: Option<&str>,
         here: SocketAddrV4,
     ) -> Result<Capture, OutOfMemory>
-        ensures head { IfOk result (λ capture. Begins (is_some file) file_head capture.record) }
+        ensures head { IfOk result (λ capture. Begins (is_some file.entry) file_head capture.record) }
         ensures here { IfOk result (λ capture. capture.here ≡ here) }
-        ensures named { IfOk result (λ capture. IfSome file (λ name. capture.name ≡ name.now) × IfNone file (capture.name ≡ [])) }
+        ensures named { IfOk result (λ made. IfSome file.entry (λ name. made.name ≡ name.now) × IfNone file.entry (made.name ≡ [])) }
     {
         let name = file.unwrap_or("").as_bytes();
         Ok(Capture {
