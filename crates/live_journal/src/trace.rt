@@ -116,6 +116,7 @@ impl Trace {
         ensures ended { result ≡ has_ended self.old }
         ensures off { has_ended self.old ≡ true → self.new.record.state ≡ Off }
         ensures on { has_ended self.old ≡ false → self.new ≡ self.old }
+        ensures out { self.old.record.out.items ≡ [] → self.new.record.out.items ≡ [] }
         ensures room { (self.new.room ≡ self.old.room) × (self.new.is_broken_off ≡ self.old.is_broken_off) }
     {
         let has_ended = self.is_broken_off && self.record.is_on();
