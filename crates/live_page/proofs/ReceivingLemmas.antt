@@ -1,5 +1,6 @@
 -- Who has a place, and whose turn it is.
-use Rattle.std.proofs.Common.{◌≡◌, ℕ, zero, suc, true, List, [], ◌∷◌, map, slice_get, slice_set, Option, None, Some, refl, sym, ◌∙◌, ap, subst}
+use Rattle.std.proofs.Common.{◌≡◌, ℕ, zero, suc, ◌≤◌, true, List, [], ◌∷◌, length, map, slice_get, slice_set, Option, None, Some, refl, sym, ◌∙◌, ap, subst}
+use Rattle.std.proofs.lemmas.Option.{slice_get_past}
 use Rattle.std.specs.Global.{Box}
 use Rattle.std.specs.declared.net.ipv4_addr.Ipv4Addr.{Ipv4Addr}
 use Rattle.std.specs.declared.net.socket_addr.SocketAddr.{SocketAddr}
@@ -32,9 +33,9 @@ seats_there found host now place visitor were are some new set =
 
 -- or isn't there
 pub seats_nowhere : (found : Option ℕ) (host : Ipv4Addr) (now place : ℕ) (visitor : Box Visitor) (were : List (Option (Box Visitor)))
-    → found ≡ Some place → IsNew host now visitor.value → slice_get were place ≡ None → SeatsAt found host now were were
-seats_nowhere found host now place visitor were some new none =
-    seats_there found host now place visitor were were some new (sym (set_nowhere were place (Some visitor) none))
+    → found ≡ Some place → IsNew host now visitor.value → length were ≤ place → SeatsAt found host now were were
+seats_nowhere found host now place visitor were some new past =
+    seats_there found host now place visitor were were some new (sym (set_nowhere were place (Some visitor) (slice_get_past were place past)))
 
 -- somebody has come, and is served
 pub let_in : (now : ℕ) (host : Ipv4Addr) (source : SocketAddr) (was is : Site) → host ≡ host_of source → was.may_accept ≡ true
