@@ -17,3 +17,4 @@ pub mod Asked
 pub mod Success
 pub mod Due
 pub mod Over
+pub mod Telephones

@@ -1,8 +1,9 @@
 //! A bench: its gateways and lines, from the first question to the end.
-ghost use Rattle.std.specs.Prelude.{◌≡◌, [], true, is_some, Option, Some};
+ghost use Rattle.std.specs.Prelude.{◌≡◌, ◌⊎◌, [], true, is_some, Option, Some, None};
 ghost use Rattle.load_bench.specs.Due.{behind_start, bench_due, due_at_line, sooner};
 ghost use Rattle.load_bench.specs.declared.settings.LoadFault.TheVariants.{OutOfMemory};
 ghost use Rattle.load_bench.specs.Over.{bench_over, given_up};
+ghost use Rattle.load_bench.specs.Telephones.{BeginsBy, CountsCame, CountsSent, Ends, Passes, TellsProgress};
 ghost use Rattle.load_bench.specs.Success.{is_success};
 
 use crate::boxing::boxed;
@@ -259,7 +260,9 @@ impl Bench {
     }
 
     // This is to be said to telephones.
-    pub(crate) fn say(&mut self, to: SocketAddrV4, order: Order) {
+    pub(crate) fn say(&mut self, to: SocketAddrV4, order: Order)
+        ensures { self.new.course.value.started ≡ self.old.course.value.started }
+    {
         if self.said.push(Said { to, order }).is_err() {
             self.refuse();
         }
@@ -301,7 +304,9 @@ impl Bench {
 
     // Asks a gateway to tell what changes, where that is due, and one that isn't watched yet how its lines are, where it may be waited
     // for: whether it is now.
-    fn ask_one(&mut self, place: usize, now: u64, may_wait: bool) -> bool {
+    fn ask_one(&mut self, place: usize, now: u64, may_wait: bool) -> bool
+        ensures { self.new.course.value.started ≡ self.old.course.value.started }
+    {
         let Some(gateway) = self.gateways.get_mut(place) else {
             return false;
         };
@@ -320,7 +325,9 @@ impl Bench {
 
     /// Asks gateways to tell what changes, and those that aren't watched yet how their lines are: those that never were asked, and those
     /// that were long ago; of the others few at a time, since the socket has room for few answers.
-    pub fn ask(&mut self, now: u64) {
+    pub fn ask(&mut self, now: u64)
+        ensures { self.new.course.value.started ≡ self.old.course.value.started }
+    {
         let mut waited = self.waited_for(now);
         for place in 0..self.gateways.len() {
             if self.ask_one(place, now, waited < MOST_WAITED_FOR) {
@@ -340,14 +347,18 @@ impl Bench {
     }
 
     // A line is idle, or is so again.
-    pub(crate) fn free(&mut self, place: usize) {
+    pub(crate) fn free(&mut self, place: usize)
+        ensures { self.new.course.value.started ≡ self.old.course.value.started }
+    {
         if self.course.idle.put(place).is_err() {
             self.refuse();
         }
     }
 
     // Begins, once all gateways are watched: the lines that are at rest are idle.
-    fn begin(&mut self, now: u64) {
+    fn begin(&mut self, now: u64)
+        ensures { (self.new.course.value.started ≡ self.old.course.value.started) ⊎ (self.new.course.value.started ≡ Some now) }
+    {
         if let Some(address) = self.unwatched() {
             if now >= self.course.opened.saturating_add(LONGEST_OPENING) {
                 return self.give_up(LoadFault::NoAnswer { address });
@@ -377,27 +388,52 @@ impl Bench {
         }
     }
 
-    /// It is this moment, in ms: what is due is done.
-    pub fn pass(&mut self, now: u64) {
+    // Calls begin now, where they may and haven't begun yet.
+    fn begin_once(&mut self, now: u64)
+        ensures { BeginsBy now self.old.course.value.started self.new.course.value.started }
+    {
         if self.course.started.is_none() {
             self.begin(now);
         }
-        let Some(started) = self.course.started else {
-            return;
-        };
-        let passed = now.saturating_sub(started);
+    }
+
+    // The calls of all lines go on as far as they can now.
+    fn go_on_all(&mut self, now: u64)
+        ensures { self.new.course.value.started ≡ self.old.course.value.started }
+    {
+        for place in 0..self.attempts.len() {
+            self.go_on(place, now);
+        }
+    }
+
+    // What is due of calls is done, which began so long ago.
+    fn pass_begun(&mut self, passed: u64, now: u64)
+        ensures { self.new.course.value.started ≡ self.old.course.value.started }
+    {
         if self.tally.pass(self.alloc, passed).is_err() {
             self.refuse();
         }
         self.attempt_due(passed, now);
-        for place in 0..self.attempts.len() {
-            self.go_on(place, now);
-        }
+        self.go_on_all(now);
         self.ask(now);
     }
 
+    /// It is this moment, in ms: what is due is done.
+    #[tactic(auto, unfolding(crate::specs::Telephones::Passes))]
+    pub fn pass(&mut self, now: u64)
+        ensures { Passes now self.old self.new }
+    {
+        self.begin_once(now);
+        if let Some(started) = self.course.started {
+            self.pass_begun(now.saturating_sub(started), now);
+        }
+    }
+
     /// Puts how far it is, in a line, where it wasn't told yet of this second.
-    pub fn tell_progress(&mut self, out: &mut Vec<u8>, now: u64) {
+    pub fn tell_progress(&mut self, out: &mut Vec<u8>, now: u64)
+        ensures told { TellsProgress now self.old.course.value.started self.old.course.value self.new.course.value }
+        ensures rest { self.new ≡ record self.old { course = self.new.course } }
+    {
         let Some(started) = self.course.started else {
             return;
         };
@@ -448,21 +484,29 @@ impl Bench {
     }
 
     /// A datagram is sent to a gateway, for the first time or again, at this moment, in ms.
-    pub fn sent(&mut self, to: SocketAddrV4, bytes: &[u8], is_repeat: bool, now: u64) {
+    #[tactic(auto, unfolding(crate::specs::Telephones::CountsSent))]
+    pub fn sent(&mut self, to: SocketAddrV4, bytes: &[u8], is_repeat: bool, now: u64)
+        ensures { CountsSent to bytes.now is_repeat now self.old self.new }
+    {
         if let Some(verbs) = &mut self.verbs {
             verbs.send(to, bytes, is_repeat, now);
         }
     }
 
     /// A datagram came from a gateway at this moment, in ms.
-    pub fn came(&mut self, from: SocketAddrV4, bytes: &[u8], now: u64) {
+    #[tactic(auto, unfolding(crate::specs::Telephones::CountsCame))]
+    pub fn came(&mut self, from: SocketAddrV4, bytes: &[u8], now: u64)
+        ensures { CountsCame from bytes.now now self.old self.new }
+    {
         if let Some(verbs) = &mut self.verbs {
             verbs.hear(from, bytes, now);
         }
     }
 
     // Nothing more is to be told.
-    fn leave(&mut self) {
+    fn leave(&mut self)
+        ensures { self.new.course.value.started ≡ self.old.course.value.started }
+    {
         for place in 0..self.gateways.len() {
             if let Some(to) = self.address_of(place) {
                 self.say(to, Order::Leave);
@@ -471,7 +515,10 @@ impl Bench {
     }
 
     /// It is over, at this moment of the clock by which commands were counted, in ms.
-    pub fn end(&mut self, now: u64) {
+    #[tactic(auto, unfolding(crate::specs::Telephones::Ends))]
+    pub fn end(&mut self, now: u64)
+        ensures { Ends now self.old self.new }
+    {
         self.leave();
         if let Some(verbs) = &mut self.verbs {
             verbs.end(now);
@@ -502,7 +549,10 @@ impl Bench {
     }
 
     /// Puts the report of a load whose configuration has this name, and whose call agent is there; nothing where it was given up.
-    pub fn put_report(&mut self, out: &mut Vec<u8>, config: &str, agent: &str) {
+    pub fn put_report(&mut self, out: &mut Vec<u8>, config: &str, agent: &str)
+        ensures course { (self.new.course.value ≡ self.old.course.value) ⊎ (self.new.course.value ≡ given_up OutOfMemory self.old.course.value) }
+        ensures rest { self.new ≡ record self.old { course = self.new.course } }
+    {
         if self.course.fault.is_some() {
             return;
         }

@@ -1,7 +1,9 @@
 //! Worked examples of the definitions, as theorems: each sentence of a definition has one that a slip in it breaks.
 #![tactic(auto, unfolding(crate::proofs::Computing::on_examples))]
 
-ghost use Rattle.std.specs.Prelude.{◌≡◌, ◌^◌, ◌-◌, codes, [], ◌∷◌, map, true, false, is_some, Some, None};
+ghost use Rattle.std.specs.Prelude.{◌≡◌, ◌^◌, ◌-◌, ℕ, codes, [], ◌∷◌, map, true, false, is_some, Option, Some, None};
+ghost use Rattle.std.specs.declared.net.socket_addr.SocketAddr.{SocketAddr};
+ghost use Rattle.std.specs.declared.net.socket_addr.SocketAddrV4.{SocketAddrV4};
 ghost use Rattle.connections.specs.declared.mode.Mode.TheVariants as modes;
 ghost use Rattle.load_bench.specs.declared.phone.Heard.TheVariants as heard;
 ghost use Rattle.mg_packages.specs.declared.signal.Signal.TheVariants as signals;
@@ -15,6 +17,7 @@ ghost use Rattle.load_bench.specs.declared.stage.Stage.TheVariants as stages;
 ghost use Rattle.load_bench.specs.Due.{behind_start, due_among, due_begun, sooner};
 ghost use Rattle.load_bench.specs.declared.settings.LoadFault.TheVariants as faults;
 ghost use Rattle.load_bench.specs.Over.{given_up, is_at_end, is_past, last_moment, bench_over};
+ghost use Rattle.load_bench.specs.Telephones.{seconds_behind, BeginsBy, CountsCame, CountsSent, Ends, Hears, Passes, TellsProgress};
 ghost use Rattle.load_bench.specs.Planning.{due_after};
 ghost use Rattle.load_bench.specs.Success.{success_of, is_success};
 
@@ -128,4 +131,23 @@ pub fn when_a_load_is_over_has_examples()
     ensures given_up { (bench : Bench) → is_some bench.course.value.fault ≡ true → bench_over 0 bench ≡ true }
     ensures goes_on { (bench : Bench) → is_some bench.course.value.fault ≡ false → bench.course.value.started ≡ None →
         bench_over 900000 bench ≡ false }
+{}
+
+/// What time makes of a load, and what telephones say.
+pub fn what_time_makes_of_a_load_has_examples()
+    // Calls begin now or later; once they began that stands.
+    ensures begins { BeginsBy 700 None (Some 700) }
+    ensures waits { BeginsBy 700 None None }
+    ensures stands { (is : Option ℕ) → BeginsBy 700 (Some 500) is → is ≡ Some 500 }
+    ensures not_later { BeginsBy 700 None (Some 800) → ⊥ }
+    ensures passes { (was is : Bench) → was.course.value.started ≡ Some 500 → Passes 700 was is → is.course.value.started ≡ Some 500 }
+    ensures hears { (source : SocketAddr) (was is : Bench) → Hears source [] 700 was is → is.course.value.started ≡ was.course.value.started }
+    ensures ends { (was is : Bench) → Ends 700 was is → is.course.value.started ≡ was.course.value.started }
+    ensures sent { (to : SocketAddrV4) (was is : Bench) → CountsSent to [] true 700 was is → is.course ≡ was.course }
+    ensures came { (from : SocketAddrV4) (was is : Bench) → CountsCame from [] 700 was is → is.course ≡ was.course }
+    // How far it is is told once of each second.
+    ensures seconds { seconds_behind 500 3499 ≡ 2 }
+    ensures tells { (was : Course) → was.told ≡ 1 → TellsProgress 3499 (Some 500) was (record was { told = 2 }) }
+    ensures told { (was : Course) → was.told ≡ 2 → TellsProgress 3499 (Some 500) was was }
+    ensures not_begun { (was is : Course) → TellsProgress 3499 None was is → is ≡ was }
 {}

@@ -1,4 +1,6 @@
 //! The calls of a bench: attempted, gone on with by what their telephones show and by time, and ended.
+ghost use Rattle.std.specs.Prelude.{◌≡◌};
+
 use crate::bench::{Attempt, Bench};
 use crate::call::Call;
 use crate::line::Asked;
@@ -25,14 +27,18 @@ impl Bench {
     }
 
     // A line makes this call, or none.
-    fn put_attempt(&mut self, caller: usize, attempt: Option<Attempt>) {
+    fn put_attempt(&mut self, caller: usize, attempt: Option<Attempt>)
+        ensures { self.new.course.value.started ≡ self.old.course.value.started }
+    {
         if let Some(slot) = self.attempts.get_mut(caller) {
             *slot = attempt;
         }
     }
 
     // A line is in the call that this one makes, or in none.
-    fn bind(&mut self, line: usize, caller: Option<usize>) {
+    fn bind(&mut self, line: usize, caller: Option<usize>)
+        ensures { self.new.course.value.started ≡ self.old.course.value.started }
+    {
         if let Some(line) = self.lines.get_mut(line) {
             line.caller = caller;
             line.asked = None;
@@ -40,7 +46,9 @@ impl Bench {
     }
 
     // A line calls another one.
-    fn begin_call(&mut self, caller: usize, called: usize, now: u64) {
+    fn begin_call(&mut self, caller: usize, called: usize, now: u64)
+        ensures { self.new.course.value.started ≡ self.old.course.value.started }
+    {
         self.bind(caller, Some(caller));
         self.bind(called, Some(caller));
         self.course.active = self.course.active.saturating_add(1);
@@ -50,7 +58,9 @@ impl Bench {
     }
 
     // Both lines of a call that is over are idle again.
-    fn end_call(&mut self, caller: usize, called: usize) {
+    fn end_call(&mut self, caller: usize, called: usize)
+        ensures { self.new.course.value.started ≡ self.old.course.value.started }
+    {
         self.put_attempt(caller, None);
         self.course.active = self.course.active.saturating_sub(1);
         self.bind(caller, None);
@@ -60,7 +70,9 @@ impl Bench {
     }
 
     // The handset of a line is lifted or put back, where it isn't so.
-    fn work_hook(&mut self, place: usize, is_off: bool, now: u64) {
+    fn work_hook(&mut self, place: usize, is_off: bool, now: u64)
+        ensures { self.new.course.value.started ≡ self.old.course.value.started }
+    {
         let Some(line) = self.lines.get_mut(place) else {
             return;
         };
@@ -88,7 +100,9 @@ impl Bench {
     }
 
     // A key is pressed at the telephone of a line.
-    fn press(&mut self, place: usize, key: u8) {
+    fn press(&mut self, place: usize, key: u8)
+        ensures { self.new.course.value.started ≡ self.old.course.value.started }
+    {
         let Some(line) = self.lines.get(place) else {
             return;
         };
@@ -97,7 +111,9 @@ impl Bench {
     }
 
     // The next key is pressed, where that is due.
-    fn work_key(&mut self, caller: usize, attempt: Attempt, now: u64) {
+    fn work_key(&mut self, caller: usize, attempt: Attempt, now: u64)
+        ensures { self.new.course.value.started ≡ self.old.course.value.started }
+    {
         let Stage::Dialling { pressed } = attempt.call.stage else {
             return;
         };
@@ -114,7 +130,9 @@ impl Bench {
     }
 
     // What becomes of a call now, by its telephones or by time: whether anything does.
-    fn step(&mut self, caller: usize, now: u64) -> bool {
+    fn step(&mut self, caller: usize, now: u64) -> bool
+        ensures { self.new.course.value.started ≡ self.old.course.value.started }
+    {
         let Some(mut attempt) = self.attempt_at(caller) else {
             return false;
         };
@@ -133,7 +151,9 @@ impl Bench {
     }
 
     // The handsets of a call are as is wanted in its stage, and the next key is pressed where that is due.
-    fn work(&mut self, caller: usize, attempt: Attempt, now: u64) {
+    fn work(&mut self, caller: usize, attempt: Attempt, now: u64)
+        ensures { self.new.course.value.started ≡ self.old.course.value.started }
+    {
         let stage = attempt.call.stage;
         self.work_hook(caller, is_wanted_off(stage, End::Caller), now);
         self.work_hook(attempt.called, is_wanted_off(stage, End::Called), now);
@@ -141,7 +161,9 @@ impl Bench {
     }
 
     /// The call that a line makes goes on as far as it can now, and its handsets are as is wanted then.
-    pub(crate) fn go_on(&mut self, caller: usize, now: u64) {
+    pub(crate) fn go_on(&mut self, caller: usize, now: u64)
+        ensures { self.new.course.value.started ≡ self.old.course.value.started }
+    {
         for _ in 0..MOST_STEPS {
             if !self.step(caller, now) {
                 break;
@@ -158,7 +180,9 @@ impl Bench {
     }
 
     // The next call is attempted, which was due at this moment, so long behind the start, where it is now that one, in ms.
-    fn attempt(&mut self, moment: u64, passed: u64, now: u64) {
+    fn attempt(&mut self, moment: u64, passed: u64, now: u64)
+        ensures { self.new.course.value.started ≡ self.old.course.value.started }
+    {
         self.course.plan.begin();
         match self.course.idle.take_pair() {
             Some((caller, called)) => {
@@ -170,7 +194,9 @@ impl Bench {
     }
 
     /// All calls are attempted that are due by now, so long behind the start, in ms.
-    pub(crate) fn attempt_due(&mut self, passed: u64, now: u64) {
+    pub(crate) fn attempt_due(&mut self, passed: u64, now: u64)
+        ensures { self.new.course.value.started ≡ self.old.course.value.started }
+    {
         for _ in 0..MOST_BEGUN {
             match self.course.plan.due() {
                 Some(moment) if moment <= passed => self.attempt(moment, passed, now),

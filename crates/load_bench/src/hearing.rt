@@ -1,4 +1,7 @@
 //! What telephones say to a bench: what changes, how lines are, and what they refuse.
+ghost use Rattle.std.specs.Prelude.{◌≡◌};
+ghost use Rattle.load_bench.specs.Telephones.{Hears};
+
 use crate::bench::Bench;
 use crate::said::Order;
 use crate::settings::LoadFault;
@@ -21,7 +24,9 @@ impl Bench {
     }
 
     // Where changes of a gateway weren't told it is asked how all its lines are.
-    fn note_missing(&mut self, place: usize, missing: u64) {
+    fn note_missing(&mut self, place: usize, missing: u64)
+        ensures { self.new.course.value.started ≡ self.old.course.value.started }
+    {
         if missing > 0 {
             self.tally.lost = self.tally.lost.saturating_add(missing);
             if let Some(to) = self.address_of(place) {
@@ -31,7 +36,9 @@ impl Bench {
     }
 
     // The call of a line goes on, if it is in one.
-    fn go_on_at(&mut self, at: usize, now: u64) {
+    fn go_on_at(&mut self, at: usize, now: u64)
+        ensures { self.new.course.value.started ≡ self.old.course.value.started }
+    {
         let Some(line) = self.lines.get(at) else {
             return;
         };
@@ -41,7 +48,9 @@ impl Bench {
     }
 
     // A line changes so, at this moment, in ms.
-    fn change(&mut self, at: usize, what: What, moment: u64) {
+    fn change(&mut self, at: usize, what: What, moment: u64)
+        ensures { self.new.course.value.started ≡ self.old.course.value.started }
+    {
         let Some(line) = self.lines.get_mut(at) else {
             return;
         };
@@ -60,7 +69,9 @@ impl Bench {
         moment: u64,
         line: u16,
         now: u64,
-    ) -> Option<(usize, u64)> {
+    ) -> Option<(usize, u64)>
+        ensures { self.new.course.value.started ≡ self.old.course.value.started }
+    {
         let Some(gateway) = self.gateways.get_mut(place) else {
             return None;
         };
@@ -79,7 +90,9 @@ impl Bench {
     }
 
     // A line of a gateway changed: its call goes on.
-    fn hear_change(&mut self, place: usize, telling: Telling, now: u64) {
+    fn hear_change(&mut self, place: usize, telling: Telling, now: u64)
+        ensures { self.new.course.value.started ≡ self.old.course.value.started }
+    {
         let Telling {
             number,
             moment,
@@ -93,7 +106,9 @@ impl Bench {
     }
 
     // It is told from which number on changes are told, and the gateway's moment.
-    fn hear_watching(&mut self, place: usize, watching: Watching, now: u64) {
+    fn hear_watching(&mut self, place: usize, watching: Watching, now: u64)
+        ensures { self.new.course.value.started ≡ self.old.course.value.started }
+    {
         let Some(gateway) = self.gateways.get_mut(place) else {
             return;
         };
@@ -104,7 +119,9 @@ impl Bench {
     }
 
     // The place of a line of a gateway, which shows how its lines are.
-    fn shown_at(&mut self, place: usize, line: u16) -> Option<usize> {
+    fn shown_at(&mut self, place: usize, line: u16) -> Option<usize>
+        ensures { self.new.course.value.started ≡ self.old.course.value.started }
+    {
         let Some(gateway) = self.gateways.get_mut(place) else {
             return None;
         };
@@ -113,7 +130,9 @@ impl Bench {
     }
 
     // A line is so, as it was shown.
-    fn put_telephone(&mut self, at: usize, telephone: Telephone, now: u64) {
+    fn put_telephone(&mut self, at: usize, telephone: Telephone, now: u64)
+        ensures { self.new.course.value.started ≡ self.old.course.value.started }
+    {
         let Some(line) = self.lines.get_mut(at) else {
             return;
         };
@@ -122,7 +141,9 @@ impl Bench {
     }
 
     // A line of a gateway is so, as it was shown: its call goes on.
-    fn hear_shown(&mut self, place: usize, shown: Shown, now: u64) {
+    fn hear_shown(&mut self, place: usize, shown: Shown, now: u64)
+        ensures { self.new.course.value.started ≡ self.old.course.value.started }
+    {
         let Shown { line, telephone } = shown;
         if let Some(at) = self.shown_at(place, line) {
             self.put_telephone(at, telephone, now);
@@ -139,7 +160,9 @@ impl Bench {
     }
 
     // Something is refused: a telephone does it not, or, before it is watched, nothing is told.
-    fn hear_refusal(&mut self, place: usize) {
+    fn hear_refusal(&mut self, place: usize)
+        ensures { self.new.course.value.started ≡ self.old.course.value.started }
+    {
         match self.untold_at(place) {
             Some(address) => self.give_up(LoadFault::Unwatched { address }),
             None => self.tally.refused = self.tally.refused.saturating_add(1),
@@ -147,7 +170,9 @@ impl Bench {
     }
 
     // A gateway's telephones say this line, which tells of no change, and isn't where it is watched from on.
-    fn hear_other(&mut self, place: usize, line: &[u8], now: u64) {
+    fn hear_other(&mut self, place: usize, line: &[u8], now: u64)
+        ensures { self.new.course.value.started ≡ self.old.course.value.started }
+    {
         match shown_in(self.alloc, line) {
             Ok(Some(shown)) => self.hear_shown(place, shown, now),
             Ok(None) => match line {
@@ -159,7 +184,9 @@ impl Bench {
     }
 
     // A gateway's telephones say this line.
-    fn hear_line(&mut self, place: usize, line: &[u8], now: u64) {
+    fn hear_line(&mut self, place: usize, line: &[u8], now: u64)
+        ensures { self.new.course.value.started ≡ self.old.course.value.started }
+    {
         match telling_in(self.alloc, line) {
             Ok(Some(telling)) => self.hear_change(place, telling, now),
             Ok(None) => match watching_in(line) {
@@ -171,7 +198,10 @@ impl Bench {
     }
 
     /// Telephones say this at this moment, in ms. Nothing is made of what comes from elsewhere.
-    pub fn hear(&mut self, source: SocketAddr, text: &[u8], now: u64) {
+    #[tactic(auto, unfolding(crate::specs::Telephones::Hears))]
+    pub fn hear(&mut self, source: SocketAddr, text: &[u8], now: u64)
+        ensures { Hears source text.now now self.old self.new }
+    {
         let Some(place) = self.place_of(source) else {
             return;
         };
