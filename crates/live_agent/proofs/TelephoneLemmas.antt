@@ -4,13 +4,14 @@ use Rattle.std.proofs.lemmas.List.{drop_more, at_drop_all}
 use Rattle.std.specs.Prelude.{◌&&◌}
 use Rattle.std.specs.Global.{Box}
 use Rattle.std.specs.declared.net.socket_addr.SocketAddr.{SocketAddr}
-use Rattle.load_bench.specs.Over.{bench_over}
+use Rattle.load_bench.specs.Over.{bench_over, given_up}
 use Rattle.load_bench.specs.declared.bench.Bench.{Bench}
 use Rattle.load_bench.specs.declared.bench.Course.{Course}
 use Rattle.load_bench.specs.declared.said.Said.{Said}
+use Rattle.load_bench.specs.declared.settings.LoadFault.TheVariants.{OutOfMemory}
 use Rattle.live_agent.specs.declared.loading.Load.{Load}
 use Rattle.live_agent.specs.declared.wire.Wire.{Wire}
-use Rattle.live_agent.specs.Telephones.{end_of, load_over, OfLoad, Passes, PassesLoad, SaysEach, SaysOne}
+use Rattle.live_agent.specs.Telephones.{course_behind, end_of, load_over, CountsFor, OfLoad, Passes, PassesLoad, SaysAll, SaysEach, SaysOne}
 
 both_true : (all : Bool) → (all && true) ≡ all
 both_true true = refl
@@ -24,6 +25,14 @@ both_both false told rest = refl
 pub of_load : (Does : Bench → Bench → Type 0) (load : Option (Box Load)) (was is : Box Load) → load ≡ Some was → Does was.value.bench.value is.value.bench.value
     → OfLoad Does load (Some is)
 of_load Does load was is made does = subst (λ (one : Option (Box Load)). OfLoad Does one (Some is)) (sym made) does
+
+-- something counts for it, where one is made
+pub counts_for : (Counts : Bench → Bench → Type 0) (load : Option (Box Load)) (was is : Box Load) → load ≡ Some was
+    → Counts was.value.bench.value is.value.bench.value → CountsFor Counts load (Some is)
+counts_for Counts load was is made counts = subst (λ (one : Option (Box Load)). CountsFor Counts one (Some is)) (sym made) counts
+
+pub counts_none : (Counts : Bench → Bench → Type 0) (load : Option (Box Load)) → load ≡ None → CountsFor Counts load load
+counts_none Counts load none = subst (λ (one : Option (Box Load)). CountsFor Counts one one) (sym none) refl
 
 -- its end comes as its bench says
 pub ended_so : (moment : ℕ) (load : Box Load) (is_over : Bool) (was is : Option ℕ) → is_over ≡ bench_over moment load.value.bench.value
@@ -60,3 +69,30 @@ module _ {S : Type 0} (answers : S → SocketAddr → List ℕ → S → Type 0)
   pub passes_some : (moment : ℕ) (load : Option (Box Load)) (made : Box Load) (was is : Wire S) → load ≡ Some made → Passes answers moment was is
       → PassesLoad answers moment load was is
   passes_some moment load made was is some passes = subst (λ (one : Option (Box Load)). PassesLoad answers moment one was is) (sym some) passes
+
+  -- all that waited was said
+  pub said_all : (orders : List Said) (all : Bool) (before after : S) (was is : Bench) → orders ≡ was.said.items → SaysEach answers orders all before after
+      → is.said.items ≡ [] → is ≡ record was { said = is.said } → all ≡ true → SaysAll answers before was after is
+  said_all orders all before after was is orders_are says none rest told = record {
+    all = all;
+    says = subst (λ (list : List Said). SaysEach answers list all before after) orders_are says;
+    none_waits = none;
+    course = subst (λ (one : Bool). is.course.value ≡ course_behind one was.course.value) (sym told) (ap (λ (one : Bench). one.course.value) rest);
+    rest = rest ∙ ap (λ (one : Bench). record was { said = is.said; course = one.course }) (sym rest);
+  }
+
+  -- memory was refused for some of it
+  pub said_some : (orders : List Said) (all : Bool) (before after : S) (was cleared is : Bench) → orders ≡ was.said.items
+      → SaysEach answers orders all before after → cleared.said.items ≡ [] → cleared ≡ record was { said = cleared.said }
+      → is ≡ record cleared { course = is.course } → is.course.value ≡ given_up OutOfMemory cleared.course.value → all ≡ false
+      → SaysAll answers before was after is
+  said_some orders all before after was cleared is orders_are says none clears rest gives lost =
+      let both : is ≡ record was { said = cleared.said; course = is.course } = rest ∙ ap (λ (one : Bench). record one { course = is.course }) clears in
+      record {
+        all = all;
+        says = subst (λ (list : List Said). SaysEach answers list all before after) orders_are says;
+        none_waits = ap (λ (one : Bench). one.said.items) rest ∙ none;
+        course = subst (λ (one : Bool). is.course.value ≡ course_behind one was.course.value) (sym lost)
+            (gives ∙ ap (λ (one : Bench). given_up OutOfMemory one.course.value) clears);
+        rest = both ∙ ap (λ (one : Bench). record was { said = one.said; course = is.course }) (sym both);
+      }

@@ -7,6 +7,9 @@ use Rattle.agent_texts.specs.declared.journal.Journal.{Journal}
 use Rattle.load_bench.specs.declared.bench.Bench.{Bench}
 use Rattle.surroundings.specs.Sending.{untold, Traffic}
 use Rattle.surroundings.specs.declared.surroundings.Fault.{Fault}
+use Rattle.live_outlets.specs.declared.written.Written.{Written}
+use Rattle.switchboard.specs.declared.switchboard.Switchboard.{Switchboard}
+use Rattle.live_agent.specs.declared.wire.Wire.{Wire}
 
 abbrev pub no_traffic : ℕ → Traffic
 no_traffic around = untold
@@ -50,3 +53,13 @@ writes_nothing before journal time after left = left ≡ journal
 -- a bench of which nothing is asked
 abbrev pub becomes_any : Bench → Bench → Type 0
 becomes_any was is = ⊤
+
+-- who serves, and who ends, of whom nothing is asked; who never serves
+abbrev pub serves_any : Result ⊤ Fault → Switchboard → Wire ℕ → Switchboard → Wire ℕ → Type 0
+serves_any result board was now is = ⊤
+
+abbrev pub serves_never : Result ⊤ Fault → Switchboard → Wire ℕ → Switchboard → Wire ℕ → Type 0
+serves_never result board was now is = ⊥
+
+abbrev pub ends_any : List ℕ → ℕ → Written → ℕ → Type 0
+ends_any last was written is = ⊤

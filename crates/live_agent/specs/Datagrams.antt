@@ -1,5 +1,5 @@
 -- What a datagram does at a board and over a wire.
-use Rattle.std.specs.Prelude.{◌≡◌, ⊤, ℕ, zero, suc, Bool, true, false, is_some, position, List, [], ◌∷◌, take, Option, Some, None, IfNone, IfOk, OnErr, Result, Ok, slice_get}
+use Rattle.std.specs.Prelude.{◌≡◌, ◌/◌, ⊤, ℕ, zero, suc, Bool, true, false, is_some, position, List, [], ◌∷◌, take, Option, Some, None, IfNone, IfOk, OnErr, Result, Ok, slice_get}
 use Rattle.std.specs.Result.{result_err}
 use Rattle.std.specs.declared.net.socket_addr.SocketAddrV4.{SocketAddrV4}
 use Rattle.agent_texts.specs.declared.tally.Tally.{Tally}
@@ -15,6 +15,8 @@ use Rattle.surroundings.specs.declared.surroundings.Fault.{Fault}
 use Rattle.transmission.specs.declared.output.OutDatagram.{OutDatagram}
 use Rattle.transmission.specs.Texts.{texts_of}
 use Rattle.switchboard.specs.declared.switchboard.Switchboard.{Switchboard}
+use Rattle.load_bench.specs.Telephones.{CountsCame}
+use Rattle.live_agent.specs.declared.serving.TheConstants.{MICROSECONDS}
 use Rattle.live_agent.specs.declared.wire.Wire.{Wire}
 use Rattle.switchboard.specs.Boards.{is_at, taking_in}
 use Rattle.switchboard.specs.Hearing.{HearsText}
@@ -24,6 +26,7 @@ use Rattle.live_agent.specs.Settling.{SettlesAll}
 use Rattle.switchboard.specs.Steps.{AtPlace, OthersStay, Refuses}
 use Rattle.switchboard.specs.Taking.{taken_place, TakesOf}
 use Rattle.switchboard.specs.Tallying.{counted_if}
+use Rattle.live_agent.specs.Telephones.{CountsFor}
 use Rattle.live_agent.specs.Tallying.{looked_counted, OnlyCounts, OnlyNotes, OnlyRecords, OnlyTells}
 use Rattle.call_office.specs.Waiting.{Settles}
 use Rattle.live_agent.specs.Wiring.{heard_at, read_at}
@@ -133,6 +136,7 @@ pub record HearsDatagram {S : Type 0} (sends : S → SocketAddrV4 → List ℕ �
   pub records : OnlyRecords was.journal.value came.journal.value
   pub leaves : came ≡ record was { journal = came.journal; load = came.load }
   pub load : is_some came.load ≡ is_some was.load
+  pub counts_for : CountsFor (CountsCame source bytes (was.now.time / MICROSECONDS)) was.load came.load
   pub hears : HearsBy sends (position (is_at source) board.gateways.items) source bytes board came now is
 
 -- Where it came from

@@ -1,8 +1,11 @@
 -- How a call agent serves: one turn behind another, until the end comes.
-use Rattle.std.specs.Prelude.{◌≡◌, ◌⊎◌, ⊤, ℕ, zero, suc, ◌-◌, ◌^◌, true, false, List, Option, Result, Ok, Err}
+use Rattle.std.specs.Prelude.{◌≡◌, ◌⊎◌, ⊤, ℕ, zero, suc, ◌-◌, ◌^◌, true, false, is_err, List, Option, Result, Ok, Err}
 use Rattle.std.specs.declared.net.socket_addr.SocketAddr.{SocketAddr}
 use Rattle.std.specs.declared.net.socket_addr.SocketAddrV4.{SocketAddrV4}
 use Rattle.agent_texts.specs.declared.journal.Journal.{Journal}
+use Rattle.live_ends.specs.declared.ending.CommonEnding.{CommonEnding}
+use Rattle.live_ends.specs.declared.ending.CommonEnding.TheVariants.{Served, Clock, OutOfMemory}
+use Rattle.live_outlets.specs.declared.written.Written.{Written}
 use Rattle.surroundings.specs.Sending.{Traffic}
 use Rattle.surroundings.specs.declared.surroundings.Fault.{Fault}
 use Rattle.surroundings.specs.declared.surroundings.Told.{Told}
@@ -10,6 +13,7 @@ use Rattle.switchboard.specs.declared.switchboard.Switchboard.{Switchboard}
 use Rattle.turns.specs.Schedule.{opening}
 use Rattle.turns.specs.declared.schedule.Schedule.{Schedule}
 use Rattle.live_agent.specs.declared.wire.Wire.{Wire}
+use Rattle.live_agent.specs.Ending.{EndsWith}
 use Rattle.live_agent.specs.Turning.{DoesNext}
 use Rattle.live_agent.specs.Wiring.{AsksNext}
 
@@ -68,3 +72,37 @@ abbrev pub Serves :
 Serves passes tells turns result board was now is =
     ((start : ℕ) × passes was.around (Ok start) × Runs passes tells turns result board was (opening start) now is)
     ⊎ ((fault : Fault) × passes was.around (Err fault) × (result ≡ Err fault) × (now ≡ board) × (is ≡ was))
+
+-- From its beginning to its end
+
+-- It serves; then what was recorded is written, and written to its end, and so it ends.
+pub record ServesToEnd {S W : Type 0}
+    (serves : Result ⊤ Fault → Switchboard → Wire S → Switchboard → Wire S → Type 0) (ends : List ℕ → W → Written → W → Type 0)
+    (board : Switchboard) (was is : Wire S) (recorder : W) (ending : CommonEnding)
+    : Type 0 where
+  pub served : Result ⊤ Fault
+  pub now : Switchboard
+  pub done : Wire S
+  pub does : serves served board was now done
+  pub ends_so : EndsWith ends (is_err served) is.journal.value recorder ending
+  pub counts : is.journal.value.tally ≡ done.journal.value.tally
+  pub rest : is ≡ record done { journal = is.journal }
+
+-- with a desk; or memory is refused for that, and nothing is done
+abbrev pub ServesOver :
+    {S W : Type 0} → (Result ⊤ Fault → Switchboard → Wire S → Switchboard → Wire S → Type 0) → (List ℕ → W → Written → W → Type 0)
+    → Wire S → Wire S → W → CommonEnding → Type 0
+ServesOver serves ends was is recorder ending =
+    ((ending ≡ OutOfMemory) × (is ≡ was)) ⊎ ((board : Switchboard) × ServesToEnd serves ends board was is recorder ending)
+
+-- how a load's exchange ends that served, or whose clock failed
+abbrev pub served_ending : Result ⊤ Fault → CommonEnding
+served_ending (Ok done) = Served
+served_ending (Err fault) = Clock
+
+-- so it serves while a load is made, by such a desk
+abbrev pub ServesLoad :
+    {S : Type 0} → (Result ⊤ Fault → Switchboard → Wire S → Switchboard → Wire S → Type 0) → Wire S → Wire S → CommonEnding → Type 0
+ServesLoad serves was is ending =
+    ((ending ≡ OutOfMemory) × (is ≡ was))
+    ⊎ ((board now : Switchboard) × (served : Result ⊤ Fault) × serves served board was now is × (ending ≡ served_ending served))

@@ -1,17 +1,32 @@
 -- What a load makes of time, and of what its telephones say: what is said to them then, and whether it is over.
-use Rattle.std.specs.Prelude.{◌≡◌, ℕ, Bool, true, false, ◌&&◌, if◌then◌else◌, is_some, unwrap_or, List, [], ◌∷◌, Option, Some, None}
+use Rattle.std.specs.Prelude.{◌≡◌, ◌⊎◌, ◌/◌, ℕ, Bool, true, false, ◌&&◌, if◌then◌else◌, is_some, take, List, [], ◌∷◌, Option, Some, None}
 use Rattle.std.specs.Global.{Box}
 use Rattle.std.specs.declared.net.socket_addr.SocketAddr.{SocketAddr}
 use Rattle.std.specs.declared.net.socket_addr.SocketAddr.TheVariants.{V4}
 use Rattle.load_bench.specs.Asked.{order_text}
-use Rattle.load_bench.specs.Over.{bench_over}
+use Rattle.load_bench.specs.Over.{bench_over, given_up}
+use Rattle.load_bench.specs.Telephones.{Ends as EndsThem, Hears as HearsThem, Passes as PassesBench, TellsProgress}
 use Rattle.load_bench.specs.declared.bench.Bench.{Bench}
 use Rattle.load_bench.specs.declared.bench.Course.{Course}
 use Rattle.load_bench.specs.declared.said.Said.{Said}
+use Rattle.load_bench.specs.Success.{is_success}
+use Rattle.load_bench.specs.declared.settings.LoadFault.{LoadFault}
 use Rattle.load_bench.specs.declared.settings.LoadFault.TheVariants.{OutOfMemory}
+use Rattle.live_ends.specs.declared.ending.CommonEnding.{CommonEnding}
 use Rattle.live_agent.specs.declared.loading.Load.{Load}
+use Rattle.live_agent.specs.declared.loading.LoadEnding.{LoadEnding}
+use Rattle.live_agent.specs.declared.loading.LoadEnding.TheVariants.{Unmade, Made}
+use Rattle.live_agent.specs.declared.serving.TheConstants.{MICROSECONDS}
 use Rattle.live_agent.specs.declared.wire.Wire.{Wire}
 use Rattle.live_agent.specs.Wiring.{with_read}
+
+-- What counts
+
+-- where a load is made this counts for it; what it has to say, and how far it is, stays
+abbrev pub CountsFor : (Bench → Bench → Type 0) → Option (Box Load) → Option (Box Load) → Type 0
+CountsFor Counts None is = is ≡ None
+CountsFor Counts (Some was) None = ⊥
+CountsFor Counts (Some was) (Some is) = Counts was.value.bench.value is.value.bench.value
 
 -- What is said
 
@@ -27,12 +42,9 @@ SaysEach {S} answers (said ∷ more) all was is =
     (told rest : Bool) × (between : S) × SaysOne answers said told was between × SaysEach answers more rest between is
     × (all ≡ (told && rest))
 
--- a load is given up for want of memory, where it hasn't been for something else
-abbrev pub without_memory : Course → Course
-without_memory course = record course { fault = Some (unwrap_or course.fault OutOfMemory) }
-
+-- where not all were a load is given up for want of memory
 abbrev pub course_behind : Bool → Course → Course
-course_behind all course = if all then course else without_memory course
+course_behind all course = if all then course else given_up OutOfMemory course
 
 -- All that a bench has to say is said, and waits no longer. Where memory was refused for some of it the load is given up. Nothing else of the
 -- bench has changed.
@@ -62,13 +74,18 @@ OfLoad Does None is = ⊥
 OfLoad Does (Some was) None = ⊥
 OfLoad Does (Some was) (Some is) = Does was.value.bench.value is.value.bench.value
 
--- what is due of a bench was done, and what it has to say by that is said
-abbrev pub SaysPassed : {S : Type 0} → (S → SocketAddr → List ℕ → S → Type 0) → S → S → Bench → Bench → Type 0
-SaysPassed answers before after was is = (passed : Bench) × SaysAll answers before passed after is
+-- at this moment what is due of a bench is done, and how far it is is told; then what it has to say is said
+pub record SaysPassed {S : Type 0} (answers : S → SocketAddr → List ℕ → S → Type 0) (moment : ℕ) (before after : S) (was is : Bench) : Type 0 where
+  pub passed : Bench
+  pub told : Bench
+  pub passes : PassesBench moment was passed
+  pub tells : TellsProgress moment passed.course.value.started passed.course.value told.course.value
+  pub rest : told ≡ record passed { course = told.course }
+  pub says : SaysAll answers before told after is
 
--- It is this moment: that is done, and how far the load is is noted in the log. Where it is over then the end has come.
+-- It is this moment: that is done, and how far the load is is told in the log. Where it is over then the end has come.
 pub record Passes {S : Type 0} (answers : S → SocketAddr → List ℕ → S → Type 0) (moment : ℕ) (was is : Wire S) : Type 0 where
-  pub says : OfLoad (SaysPassed answers was.around is.around) was.load is.load
+  pub says : OfLoad (SaysPassed answers moment was.around is.around) was.load is.load
   pub ends : is.end ≡ end_of (load_over moment is.load) was.end
   pub journal : is.journal.value ≡ record was.journal.value { log = is.journal.value.log }
   pub rest : is ≡ record was { around = is.around; journal = is.journal; load = is.load; end = is.end }
@@ -80,28 +97,76 @@ PassesLoad answers moment (Some load) was is = Passes answers moment was is
 
 -- What telephones say
 
--- where they said nothing, nothing is said to them, and the bench is as it was; else it hears that, and what it has to say then is said
-abbrev pub SaysHeard : {S : Type 0} → (S → SocketAddr → List ℕ → S → Type 0) → Option (SocketAddr × ℕ) → S → S → Bench → Bench → Type 0
-SaysHeard answers None before after was is = (after ≡ before) × (is ≡ was)
-SaysHeard answers (Some found) before after was is = (heard : Bench) × SaysAll answers before heard after is
+-- Where they said nothing, nothing is said to them, and the bench is as it was. Else it hears at this moment what stands in the room for
+-- that, and from where it came; and what it has to say then is said.
+abbrev pub SaysHeard : {S : Type 0} → (S → SocketAddr → List ℕ → S → Type 0) → ℕ → Option (SocketAddr × ℕ) → List ℕ → S → S → Bench → Bench → Type 0
+SaysHeard answers moment None room before after was is = (after ≡ before) × (is ≡ was)
+SaysHeard answers moment (Some found) room before after was is =
+    (heard : Bench) × HearsThem found.0 (take found.1 room) moment was heard × SaysAll answers before heard after is
 
--- It is looked once what they say.
+-- it is looked once what they say
 pub record HearsOnce {S : Type 0} (hears : S → Option (SocketAddr × ℕ) → List ℕ → S → Type 0) (answers : S → SocketAddr → List ℕ → S → Type 0)
-    (taken : Bool) (before after : S) (was is : Bench)
+    (moment : ℕ) (taken : Bool) (before after : S) (was is : Bench)
     : Type 0 where
   pub found : Option (SocketAddr × ℕ)
   pub room : List ℕ
   pub looked : S
   pub looks : hears before found room looked
   pub is_taken : taken ≡ is_some found
-  pub says : SaysHeard answers found looked after was is
+  pub says : SaysHeard answers moment found room looked after was is
 
 -- So it is at this moment, and a datagram that has come counts as read. Where the load is over then the end has come.
 pub record HearsTelephones {S : Type 0} (hears : S → Option (SocketAddr × ℕ) → List ℕ → S → Type 0) (answers : S → SocketAddr → List ℕ → S → Type 0)
     (moment : ℕ) (was is : Wire S)
     : Type 0 where
   pub taken : Bool
-  pub hears_them : OfLoad (HearsOnce hears answers taken was.around is.around) was.load is.load
+  pub hears_them : OfLoad (HearsOnce hears answers moment taken was.around is.around) was.load is.load
   pub reads : is.read ≡ with_read taken was.read
   pub ends : is.end ≡ end_of (load_over moment is.load) was.end
   pub rest : is ≡ record was { around = is.around; read = is.read; end = is.end; load = is.load }
+
+-- At its beginning and its end
+
+-- what a bench has to say is said, and it is that of a load from then on
+abbrev pub SaysTo : {S : Type 0} → (S → SocketAddr → List ℕ → S → Type 0) → S → Bench → S → Option (Box Load) → Type 0
+SaysTo answers before asked after None = ⊥
+SaysTo answers before asked after (Some load) = SaysAll answers before asked after load.value.bench.value
+
+-- A load is made over a wire, which ends with it: its telephones are asked what it has to ask them. Or it ends at once, and none is made.
+abbrev pub BeginsLoad : {S : Type 0} → (S → SocketAddr → List ℕ → S → Type 0) → Option CommonEnding → Wire S → Wire S → Type 0
+BeginsLoad answers None was is =
+    (asked : Bench) × SaysTo answers was.around asked is.around is.load × (is.end ≡ None)
+    × (is ≡ record was { around = is.around; journal = is.journal; load = is.load; end = is.end })
+BeginsLoad answers (Some ending) was is = is ≡ record was { around = is.around }
+
+-- nobody is to tell anything more, by the clock by which commands were counted, and what is to be said for that is said
+abbrev pub SaysEnded : {S : Type 0} → (S → SocketAddr → List ℕ → S → Type 0) → ℕ → S → S → Bench → Bench → Type 0
+SaysEnded answers now before after was is = (ended : Bench) × EndsThem now was ended × SaysAll answers before ended after is
+
+-- its report is told; or memory is refused for that, and it is given up
+abbrev pub Reports : Bench → Bench → Type 0
+Reports was is =
+    ((is.course.value ≡ was.course.value) ⊎ (is.course.value ≡ given_up OutOfMemory was.course.value))
+    × (is ≡ record was { course = is.course })
+
+abbrev pub SaysAndReports : {S : Type 0} → (S → SocketAddr → List ℕ → S → Type 0) → ℕ → S → S → Bench → Bench → Type 0
+SaysAndReports answers now before after was is = (said : Bench) × SaysEnded answers now before after was said × Reports said is
+
+-- how it ends: why none was made, if it was given up; else whether enough calls came to rest
+abbrev pub made_by : Option LoadFault → Bench → LoadEnding
+made_by (Some fault) bench = Unmade fault
+made_by None bench =
+    Made (is_success bench.course.value.settings.success bench.tally.value.all.value.numbers.at_rest bench.tally.value.all.value.numbers.attempts)
+
+abbrev pub load_ending : Bench → LoadEnding
+load_ending bench = made_by bench.course.value.fault bench
+
+abbrev pub ending_in : Option (Box Load) → LoadEnding
+ending_in None = Unmade OutOfMemory
+ending_in (Some load) = load_ending load.value.bench.value
+
+pub record EndsLoad {S : Type 0} (answers : S → SocketAddr → List ℕ → S → Type 0) (was : Wire S) (ending : LoadEnding) (is : Wire S) : Type 0 where
+  pub says : OfLoad (SaysAndReports answers (was.now.time / MICROSECONDS) was.around is.around) was.load is.load
+  pub ends : ending ≡ ending_in is.load
+  pub journal : is.journal.value ≡ record was.journal.value { told = is.journal.value.told }
+  pub rest : is ≡ record was { around = is.around; journal = is.journal; load = is.load }

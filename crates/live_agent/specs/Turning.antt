@@ -16,11 +16,14 @@ use Rattle.surroundings.specs.declared.surroundings.Fault.{Fault}
 use Rattle.surroundings.specs.declared.surroundings.Told.{Told}
 use Rattle.turns.specs.Runs.{is_end}
 use Rattle.turns.specs.Schedule.{next_of}
+use Rattle.turns.specs.declared.turn.Pause.{Pause}
 use Rattle.turns.specs.declared.schedule.Schedule.{Schedule}
 use Rattle.turns.specs.declared.situation.Situation.{Situation}
 use Rattle.turns.specs.declared.turn.Turn.{Turn}
 use Rattle.turns.specs.declared.turn.Turn.TheVariants as turns
+use Rattle.agent_texts.specs.Telling.{Tells}
 use Rattle.agent_texts.specs.declared.journal.Journal.{Journal}
+use Rattle.exchange_log.specs.Pausing.{pause_line}
 use Rattle.live_agent.specs.declared.loading.Load.{Load}
 use Rattle.live_agent.specs.declared.session.Request.{Request}
 use Rattle.live_agent.specs.declared.session.Request.TheVariants.{Nothing, Counts, Stop, StopFromAfar, Command}
@@ -116,10 +119,11 @@ Waits traffic was is =
     × (is.journal.value ≡ record was.journal.value { tally = is.journal.value.tally })
     × (is ≡ record was { around = is.around; journal = is.journal })
 
--- a pause is noted in the log, and nowhere else
-abbrev pub Notes : {S : Type 0} → Wire S → Wire S → Type 0
-Notes was is =
-    (is.journal.value ≡ record was.journal.value { log = is.journal.value.log }) × (is ≡ record was { journal = is.journal })
+-- a pause is noted in the log, and nowhere else: how much later the program woke, and how many datagrams were read meanwhile
+abbrev pub Notes : {S : Type 0} → Pause → Wire S → Wire S → Type 0
+Notes pause was is =
+    Tells (pause_line was.now.time pause.lateness pause.read) was.journal.value.log is.journal.value.log
+    × (is.journal.value ≡ record was.journal.value { log = is.journal.value.log }) × (is ≡ record was { journal = is.journal })
 
 -- Where it is this moment the clock goes on to one, and what falls due is sent; whether it is behind is known by that. What was typed stays,
 -- and what was read, and whether a load is made.
@@ -176,7 +180,7 @@ DoesTurn traffic sockets sends receives hears answers moment turns.Command board
     TakesTyped sockets sends hears answers moment was.load board now was is
 DoesTurn traffic sockets sends receives hears answers moment turns.Datagram board now was is = TakesDatagram sends receives board was now is
 DoesTurn traffic sockets sends receives hears answers moment turns.Visit board now was is = (now ≡ board) × (is ≡ was)
-DoesTurn traffic sockets sends receives hears answers moment (turns.Note pause) board now was is = (now ≡ board) × Notes was is
+DoesTurn traffic sockets sends receives hears answers moment (turns.Note pause) board now was is = (now ≡ board) × Notes pause was is
 
 -- What comes next by a schedule, as things stand, is done, once lines are settled; it isn't the end. The schedule goes on by that.
 pub record DoesNext {S : Type 0}

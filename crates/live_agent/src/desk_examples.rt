@@ -8,6 +8,8 @@ ghost use Rattle.std.specs.Result.{result_err};
 ghost use Rattle.agent_texts.specs.declared.journal.Journal.{Journal};
 ghost use Rattle.agent_texts.specs.declared.tally.Tally.{Tally};
 ghost use Rattle.agent_texts.specs.Counts.{with_given_up, with_notification};
+ghost use Rattle.agent_texts.specs.Telling.{Tells};
+ghost use Rattle.exchange_log.specs.Pausing.{pause_line};
 ghost use Rattle.bad_network.specs.declared.network.BadNetwork.{BadNetwork};
 ghost use Rattle.bad_network.specs.declared.packet.Packet.{Packet};
 ghost use Rattle.bad_network.specs.declared.packet.Way.TheVariants.{In, Out};
@@ -28,14 +30,16 @@ ghost use Rattle.surroundings.specs.Sending.{Traffic};
 ghost use Rattle.surroundings.specs.declared.surroundings.Fault.{Fault};
 ghost use Rattle.transmission.specs.declared.output.OutDatagram.{OutDatagram};
 ghost use Rattle.turns.specs.declared.schedule.Schedule.{Schedule};
+ghost use Rattle.turns.specs.declared.turn.Pause.{Pause};
 ghost use Rattle.mg_bytes.specs.Lines.{cut, line_of};
 ghost use Rattle.live_outlets.specs.declared.written.Written.{Written};
 ghost use Rattle.switchboard.specs.declared.gateway.Gateway.{Gateway};
 ghost use Rattle.live_agent.specs.declared.loading.Load.{Load};
+ghost use Rattle.live_agent.specs.declared.loading.LoadEnding.TheVariants as loads;
 ghost use Rattle.live_agent.specs.declared.session.Request.TheVariants as requests;
 ghost use Rattle.switchboard.specs.declared.switchboard.Switchboard.{Switchboard};
 ghost use Rattle.live_agent.specs.declared.wire.Wire.{Wire};
-ghost use Rattle.live_agent.specs.AnyAround.{no_sockets, no_traffic, sends_any, receives_any, hears_any, answers_any, answers_more, answers_never, asks_at, asks_in_order, becomes_any, writes_any, writes_nothing};
+ghost use Rattle.live_agent.specs.AnyAround.{no_sockets, no_traffic, sends_any, receives_any, hears_any, answers_any, answers_more, answers_never, asks_at, asks_in_order, becomes_any, ends_any, serves_any, serves_never, writes_any, writes_nothing};
 ghost use Rattle.live_agent.specs.Datagrams.{with_stranger, DealsIf, HearsBy, HearsDatagram, HearsOne, HearsPacket, HearsTexts, SettlesIf, StepsAt, TakesEach, TakesElse, TakesFound, TakesLooked, TakesNext, TakesReceived};
 ghost use Rattle.switchboard.specs.Hearing.{HearsText};
 ghost use Rattle.switchboard.specs.Dues.{FallsDueAt};
@@ -44,10 +48,10 @@ ghost use Rattle.switchboard.specs.Steps.{settled_in};
 ghost use Rattle.live_agent.specs.Ending.{counted_in, EndsWith};
 ghost use Rattle.live_agent.specs.Handing.{comes_in, HandsFirst, HandsLast, Leaves, Offers, OffersTo, SendsEachOn, SendsOn, TakesOffer};
 ghost use Rattle.live_agent.specs.Sending.{GoesOut, SendsAll, SendsCommand, SendsOne, SendsOutputs, SendsOver, SettlesLines};
-ghost use Rattle.live_agent.specs.Serving.{RunsTurns, StopsAt, Writes};
+ghost use Rattle.live_agent.specs.Serving.{served_ending, RunsTurns, ServesOver, ServesToEnd, StopsAt, Writes};
 ghost use Rattle.live_agent.specs.Settling.{SendsEach, SendsIssued, SendsNext, SettlesBy, ShowsEach, ShowsOne};
 ghost use Rattle.live_agent.specs.Tallying.{leaving_counted, with_refusal, with_send_fault, OnlyCounts, OnlyNotes, OnlyRecords, OnlyTells, OnlyTellsAndNotes};
-ghost use Rattle.live_agent.specs.Telephones.{course_behind, end_of, load_over, HearsTelephones, OfLoad, Passes, PassesLoad, SaysAll, SaysEach, SaysHeard, SaysOne};
+ghost use Rattle.live_agent.specs.Telephones.{course_behind, end_of, ending_in, load_ending, load_over, BeginsLoad, CountsFor, HearsTelephones, OfLoad, Passes, PassesLoad, Reports, SaysAll, SaysEach, SaysHeard, SaysOne};
 ghost use Rattle.live_agent.specs.Ticking.{GivesUpEach, GivesUpMany, GivesUpNext, TicksEach, TicksOne, WakesEach, WakesMany};
 ghost use Rattle.live_agent.specs.Turning.{line_request, first_request, DoesRequest, DoesTurn, EndsBy, Notes, TakesTyped, TellsCounts, TicksOver, Waits};
 ghost use Rattle.switchboard.specs.Typed.{typed_text};
@@ -130,7 +134,9 @@ pub fn what_turns_leave_has_examples()
     // A wait sends nothing, and one that fails counts once; a pause is noted in the log alone.
     ensures quiet { (traffic : ℕ → Traffic) (was is : Wire ℕ) → Waits traffic was is → traffic is.around ≡ traffic was.around }
     ensures fails { (was is : Wire ℕ) → Waits no_traffic was is → is.journal.value.told ≡ was.journal.value.told }
-    ensures pauses { (was is : Wire ℕ) → Notes was is → is.journal.value.tally ≡ was.journal.value.tally }
+    ensures pauses { (pause : Pause) (was is : Wire ℕ) → Notes pause was is → is.journal.value.tally ≡ was.journal.value.tally }
+    ensures paused { (was is : Wire ℕ) → Notes (record { lateness = 31000; read = Some 12 }) was is →
+        Tells (pause_line was.now.time 31000 (Some 12)) was.journal.value.log is.journal.value.log }
     // Where no load is made, nothing comes to its end by a tick; where one is, its end is at once.
     ensures none_is_over { (is : Option ℕ) → EndsBy None (Some 900) is → is ≡ Some 900 }
     ensures passes_none { (was is : Wire ℕ) → PassesLoad answers_any 700 None was is → is ≡ was }
@@ -257,8 +263,17 @@ pub fn what_telephones_are_told_has_examples()
         (is.journal.value.tally ≡ was.journal.value.tally) × (is.journal.value.told ≡ was.journal.value.told) }
     ensures unmade { (load : Box Load) → OfLoad becomes_any (Some load) None → ⊥ }
     ensures not_there { (load : Box Load) → OfLoad becomes_any None (Some load) → ⊥ }
+    // What is sent and what comes counts for a load that is made, and unmakes none.
+    ensures counts_for_none { (is : Option (Box Load)) → CountsFor becomes_any None is → is ≡ None }
+    ensures counts_for_one { (load : Box Load) → CountsFor becomes_any (Some load) None → ⊥ }
+    // A load begins with its wire's end, and its report changes nothing that was counted.
+    ensures begins { (was is : Wire ℕ) → BeginsLoad answers_any None was is → is.end ≡ None }
+    ensures begins_none { (ending : CommonEnding) (was is : Wire ℕ) → BeginsLoad answers_any (Some ending) was is → is.load ≡ was.load }
+    ensures reports { (was is : Bench) → Reports was is → is.tally ≡ was.tally }
+    ensures unmade_for { (bench : Bench) → bench.course.value.fault ≡ Some faults.NoLines → load_ending bench ≡ loads.Unmade faults.NoLines }
+    ensures unmade_at_all { ending_in None ≡ loads.Unmade faults.OutOfMemory }
     // Where they said nothing, nothing is said to them; what they say counts as read.
-    ensures nothing { (before after : ℕ) (was is : Bench) → SaysHeard answers_any None before after was is → (after ≡ before) × (is ≡ was) }
+    ensures nothing { (before after : ℕ) (was is : Bench) → SaysHeard answers_any 700 None [] before after was is → (after ≡ before) × (is ≡ was) }
     ensures reads { (was is : Wire ℕ) (hears : HearsTelephones hears_any answers_any 700 was is) → hears.taken ≡ true → is.read ≡ one_more was.read }
     ensures ends { (was is : Wire ℕ) → HearsTelephones hears_any answers_any 700 was is → is.end ≡ end_of (load_over 700 is.load) was.end }
 {}
@@ -325,6 +340,12 @@ pub fn how_a_desk_serves_has_examples()
     ensures writes { (was is : Wire ℕ) → Writes writes_any was is →
         (is.journal.value.tally ≡ was.journal.value.tally) × (is.lines ≡ was.lines) }
     ensures writes_it { (was is : Wire ℕ) → Writes writes_nothing was is → is.journal.value ≡ was.journal.value }
+    // It ends as it served; without a desk nothing is done.
+    ensures served { served_ending (Ok tt) ≡ CommonEnding.Served }
+    ensures failed { (fault : Fault) → served_ending (Err fault) ≡ CommonEnding.Clock }
+    ensures ends { (board : Switchboard) (was is : Wire ℕ) (ending : CommonEnding) (serves : ServesToEnd serves_any ends_any board was is 0 ending) →
+        is.lines ≡ serves.done.lines }
+    ensures no_desk { (was is : Wire ℕ) (ending : CommonEnding) → ServesOver serves_never ends_any was is 0 ending → is ≡ was }
     // It stops where the clock fails, and not where it tells a moment.
     ensures fails { (fault : Fault) (board : Switchboard) (wire : Wire ℕ) (schedule : Schedule) →
         StopsAt (λ around outcome. outcome ≡ Ok 5) (λ around told. ⊥) (Err fault) 3 board wire schedule → ⊥ }

@@ -1,7 +1,12 @@
 //! Makes a load: calls at a rate between the telephones of gateways, which another call agent serves, or this program's own exchange.
-ghost use Rattle.std.specs.Prelude.{◌≡◌, ◌&&◌, true, false, is_some};
+ghost use Rattle.std.specs.Prelude.{◌≡◌, ◌≤◌, ◌/◌, ◌&&◌, true, false, is_some, length, take, IfOk};
+ghost use Rattle.load_bench.specs.declared.settings.LoadFault.TheVariants.{OutOfMemory};
 ghost use Rattle.load_bench.specs.Over.{bench_over};
-ghost use Rattle.live_agent.specs.Telephones.{end_of, HearsOnce, HearsTelephones, OfLoad, PassesLoad, SaysAll, SaysEach, SaysOne, SaysPassed};
+ghost use Rattle.load_bench.specs.Telephones.{CountsCame, CountsSent, Hears};
+ghost use Rattle.live_agent.specs.declared.serving.TheConstants.{MICROSECONDS};
+ghost use Rattle.live_agent.specs.declared.loading.LoadEnding.TheVariants.{Unmade};
+ghost use Rattle.live_agent.specs.Telephones.{end_of, load_ending, BeginsLoad, CountsFor, EndsLoad, HearsOnce, HearsTelephones, PassesLoad, Reports};
+ghost use Rattle.live_agent.specs.Telephones.{SaysAll, SaysEach, SaysEnded, SaysOne, SaysPassed};
 ghost use Rattle.live_agent.specs.Wiring.{due_of, with_read, FallsDueOver};
 
 use crate::recorder::Recorder;
@@ -49,12 +54,14 @@ pub(crate) fn count_sent(
     bytes: &[u8],
     is_repeat: bool,
 )
-    ensures { is_some load.new ≡ is_some load.old }
+    ensures made { is_some load.new ≡ is_some load.old }
+    ensures counts { CountsFor (CountsSent to bytes.now is_repeat (time / MICROSECONDS)) load.old load.new }
 {
-    if let Some(load) = load {
-        let load = &mut **load;
-        load.bench.sent(to, bytes, is_repeat, time / MICROSECONDS);
-    }
+    let Some(load) = load else {
+        return;
+    };
+    let load = &mut **load;
+    load.bench.sent(to, bytes, is_repeat, time / MICROSECONDS);
 }
 
 /// A datagram came at this time, in microseconds: that is counted, where a load is made.
@@ -64,12 +71,14 @@ pub(crate) fn count_came(
     source: SocketAddrV4,
     bytes: &[u8],
 )
-    ensures { is_some load.new ≡ is_some load.old }
+    ensures made { is_some load.new ≡ is_some load.old }
+    ensures counts { CountsFor (CountsCame source bytes.now (time / MICROSECONDS)) load.old load.new }
 {
-    if let Some(load) = load {
-        let load = &mut **load;
-        load.bench.came(source, bytes, time / MICROSECONDS);
-    }
+    let Some(load) = load else {
+        return;
+    };
+    let load = &mut **load;
+    load.bench.came(source, bytes, time / MICROSECONDS);
 }
 
 // This is said to the telephones for which it is: whether memory was there for its text.
@@ -110,9 +119,10 @@ fn say_all<S: Surroundings>(alloc: Global, around: &mut S, bench: &mut Bench)
 {
     let all = say_each(alloc, around, bench.said());
     bench.clear_said();
-    if !all {
-        bench.refuse();
+    if all {
+        return;
     }
+    bench.refuse();
 }
 
 // It is this moment, in ms: what is due of a load is done, and how far it is is put here: whether it is over.
@@ -124,7 +134,7 @@ fn pass<S: Surroundings>(
     moment: u64,
 ) -> bool
     ensures over { result ≡ bench_over moment load.new.bench.value }
-    ensures says { SaysPassed S.answers around.old around.new load.old.bench.value load.new.bench.value }
+    ensures says { SaysPassed S.answers moment around.old around.new load.old.bench.value load.new.bench.value }
 {
     load.bench.pass(moment);
     load.bench.tell_progress(out, moment);
@@ -132,15 +142,22 @@ fn pass<S: Surroundings>(
     load.bench.is_over(moment)
 }
 
+// Telephones said what stands in this room, so long, and from here, at this moment, in ms.
+fn hear_found(bench: &mut Bench, found: (SocketAddr, usize), room: &[u8], moment: u64)
+    ensures { found.1 ≤ length room.now → Hears found.0 (take found.1 room.now) moment bench.old bench.new }
+{
+    let text = room.get(..found.1).unwrap_or(&[]);
+    bench.hear(found.0, text, moment);
+}
+
 // Takes a datagram of telephones at this moment, in ms, if one has come: whether one had.
 fn hear<S: Surroundings>(alloc: Global, around: &mut S, load: &mut Load, moment: u64) -> bool
-    ensures { HearsOnce S.hears S.answers result around.old around.new load.old.bench.value load.new.bench.value }
+    ensures { HearsOnce S.hears S.answers moment result around.old around.new load.old.bench.value load.new.bench.value }
 {
-    let Some((source, length)) = around.hear(load.room.as_mut_slice()) else {
+    let Some(found) = around.hear(load.room.as_mut_slice()) else {
         return false;
     };
-    let text = load.room.get(..length).unwrap_or(&[]);
-    load.bench.hear(source, text, moment);
+    hear_found(&mut load.bench, found, load.room.as_slice(), moment);
     say_all(alloc, around, &mut load.bench);
     true
 }
@@ -161,14 +178,17 @@ fn end_of(is_over: bool, end: Option<u64>) -> Option<u64>
 
 // A load is over, at this moment of the clock by which commands are counted, in ms: telephones are to tell nothing more.
 fn end<S: Surroundings>(alloc: Global, around: &mut S, load: &mut Load, now: u64)
-    ensures { SaysPassed S.answers around.old around.new load.old.bench.value load.new.bench.value }
+    ensures { SaysEnded S.answers now around.old around.new load.old.bench.value load.new.bench.value }
 {
     load.bench.end(now);
     say_all(alloc, around, &mut load.bench);
 }
 
 // What came of a load, whose report is put here: by a configuration in a file of this name, whose call agent is there.
-fn report(load: &mut Load, out: &mut Vec<u8>, file: &str, agent: &str) -> LoadEnding {
+fn report(load: &mut Load, out: &mut Vec<u8>, file: &str, agent: &str) -> LoadEnding
+    ensures ending { result ≡ load_ending load.new.bench.value }
+    ensures reports { Reports load.old.bench.value load.new.bench.value }
+{
     load.bench.put_report(out, file, agent);
     match load.bench.fault() {
         Some(fault) => LoadEnding::Unmade(fault),
@@ -220,7 +240,10 @@ impl<S: Surroundings + Drop> Wire<S> {
 
     // A load is over, if one was made: what came of it, by a configuration in a file of this name, whose call agent is there. Its report is
     // told.
-    fn end_load(&mut self, alloc: Global, file: &str, agent: &str) -> LoadEnding {
+    fn end_load(&mut self, alloc: Global, file: &str, agent: &str) -> LoadEnding
+        ensures none { is_some self.old.load ≡ false → (result ≡ Unmade OutOfMemory) × (self.new ≡ self.old) }
+        ensures ends { is_some self.old.load ≡ true → EndsLoad S.answers self.old result self.new }
+    {
         let Some(load) = &mut self.load else {
             return LoadEnding::Unmade(LoadFault::OutOfMemory);
         };
@@ -248,7 +271,9 @@ fn bench_of(
 }
 
 // A load of this bench's.
-fn load_of(alloc: Global, bench: Box<Bench>) -> Result<Box<Load>, OutOfMemory> {
+fn load_of(alloc: Global, bench: Box<Bench>) -> Result<Box<Load>, OutOfMemory>
+    ensures { IfOk result (λ load. load.value.bench ≡ bench) }
+{
     let room = vec![in alloc; 0u8; ROOM]?;
     boxed(alloc, Load { bench, room })
 }
@@ -259,7 +284,9 @@ fn begin<S: Surroundings + Drop>(
     config: &AgentConfig,
     settings: LoadSettings,
     wire: &mut Wire<S>,
-) -> Option<CommonEnding> {
+) -> Option<CommonEnding>
+    ensures { BeginsLoad S.answers result wire.old wire.new }
+{
     let Ok(now) = wire.around.moment() else {
         return Some(CommonEnding::Clock);
     };

@@ -1,7 +1,12 @@
 //! Serves a call agent from its opening to its end.
-ghost use Rattle.std.specs.Prelude.{◌≡◌, IfOk};
+ghost use Rattle.std.specs.Prelude.{◌≡◌, [], None, is_some, IfErr, IfOk};
+ghost use Rattle.agent_texts.specs.Counts.{nothing_counted};
+ghost use Rattle.live_ends.specs.declared.ending.CommonEnding.TheVariants.{OutOfMemory};
 ghost use Rattle.live_agent.specs.Ending.{is_record_refused, ending_of, EndsWith};
+ghost use Rattle.live_agent.specs.Handing.{HandsTo};
+ghost use Rattle.live_agent.specs.Serving.{served_ending, Serves, ServesLoad, ServesOver, ServesToEnd, TurnsOnce};
 ghost use Rattle.live_outlets.specs.Written.{faults_in};
+ghost use Rattle.surroundings.specs.Typing.{left_of};
 
 use crate::recorder::Recorder;
 use crate::session::serve;
@@ -18,7 +23,7 @@ use std::io::Write;
 use std::net::{Net, SocketAddrV4};
 use std::rt::{Clock, Files};
 use std::time::Instant;
-use surroundings::Surroundings;
+use surroundings::{Fault, Surroundings};
 use switchboard::Switchboard;
 
 /// Microseconds in a millisecond.
@@ -39,6 +44,16 @@ pub struct WireSettings {
     pub end: Option<u64>,
 }
 
+// The network that is spoilt so, where one is.
+fn network_of(alloc: Global, spoiling: Option<Spoiling>) -> Option<BadNetwork>
+    ensures { is_some result ≡ is_some spoiling }
+{
+    match spoiling {
+        Some(spoiling) => Some(BadNetwork::new(alloc, spoiling)),
+        None => None,
+    }
+}
+
 /// The wire over these surroundings, whose socket for gateways is here, as the settings ask for it. An error is for want of memory.
 pub fn wire_over<S: Surroundings + Drop>(
     alloc: Global,
@@ -48,13 +63,14 @@ pub fn wire_over<S: Surroundings + Drop>(
 ) -> Result<Box<Wire<S>>, OutOfMemory>
     ensures around { IfOk result (λ wire. wire.value.around ≡ around.value) }
     ensures end { IfOk result (λ wire. wire.value.end ≡ settings.end) }
+    ensures begins { IfOk result (λ wire. (left_of wire.value.lines ≡ []) × (wire.value.now.clock ≡ 0) × (wire.value.read ≡ 0)) }
+    ensures load { IfOk result (λ wire. wire.value.load ≡ None) }
+    ensures counts { IfOk result (λ wire. wire.value.journal.value.tally ≡ nothing_counted) }
+    ensures spoilt { IfOk result (λ wire. is_some wire.value.network ≡ is_some settings.network) }
 {
     let journal = Journal::new(alloc, settings.has_log, settings.has_capture, here);
     let journal = boxed(alloc, journal)?;
-    let network = match settings.network {
-        Some(spoiling) => Some(BadNetwork::new(alloc, spoiling)),
-        None => None,
-    };
+    let network = network_of(alloc, settings.network);
     let around = Box::into_inner(around);
     let wire = Wire::new(alloc, around, network, journal, settings.end)?;
     boxed(alloc, wire)
@@ -92,11 +108,23 @@ fn board_of<S: Surroundings + Drop>(
     config: &AgentConfig,
     is_routed: bool,
     wire: &Wire<S>,
-) -> Result<Switchboard, CommonEnding> {
+) -> Result<Switchboard, CommonEnding>
+    ensures { IfErr result (λ ending. ending ≡ OutOfMemory) }
+{
     let time = wire.now.time / MICROSECONDS;
     match Switchboard::of(alloc, config, is_routed, time) {
         Ok(board) => Ok(board),
         Err(_) => Err(CommonEnding::OutOfMemory),
+    }
+}
+
+// How it ends where it served, or the clock failed.
+fn served_ending(served: Result<(), Fault>) -> CommonEnding
+    ensures { result ≡ served_ending served }
+{
+    match served {
+        Ok(()) => CommonEnding::Served,
+        Err(_) => CommonEnding::Clock,
     }
 }
 
@@ -108,17 +136,17 @@ pub(crate) fn serve_config<S: Surroundings + Drop, W: Recorder>(
     is_routed: bool,
     wire: &mut Wire<S>,
     recorder: &mut W,
-) -> CommonEnding {
+) -> CommonEnding
+    ensures { ServesLoad (Serves S.passes S.tells (TurnsOnce S.traffic S.sockets (HandsTo S.sends S.traffic) S.passes S.tells S.receives S.hears S.answers W.writes))
+        wire.old wire.new result }
+{
     let mut board = match board_of(alloc, config, is_routed, wire) {
         Ok(board) => board,
         Err(ending) => return ending,
     };
     let served = serve(alloc, &mut board, wire, recorder);
     board.close();
-    match served {
-        Ok(()) => CommonEnding::Served,
-        Err(_) => CommonEnding::Clock,
-    }
+    served_ending(served)
 }
 
 // Whether memory was refused for something that is recorded.
@@ -166,7 +194,10 @@ fn serve_to_end<R: Clock, S: Surroundings + Drop, W: Recorder + Finisher>(
     mut board: Switchboard,
     wire: &mut Wire<S>,
     recorder: &mut W,
-) -> CommonEnding {
+) -> CommonEnding
+    ensures { ServesToEnd (Serves S.passes S.tells (TurnsOnce S.traffic S.sockets (HandsTo S.sends S.traffic) S.passes S.tells S.receives S.hears S.answers W.writes))
+        W.ends board wire.old wire.new recorder.new result }
+{
     let served = serve(alloc, &mut board, wire, recorder);
     board.close();
     let time = wire.around.time();
@@ -183,7 +214,10 @@ pub fn serve_over<R: Clock, S: Surroundings + Drop, W: Recorder + Finisher>(
     is_routed: bool,
     wire: &mut Wire<S>,
     recorder: &mut W,
-) -> CommonEnding {
+) -> CommonEnding
+    ensures { ServesOver (Serves S.passes S.tells (TurnsOnce S.traffic S.sockets (HandsTo S.sends S.traffic) S.passes S.tells S.receives S.hears S.answers W.writes))
+        W.ends wire.old wire.new recorder.new result }
+{
     match board_of(alloc, config, is_routed, wire) {
         Ok(board) => serve_to_end(rt, alloc, board, wire, recorder),
         Err(ending) => ending,

@@ -1,7 +1,9 @@
 //! The wire: what datagrams and typed lines come over, and a bad network, where one lies between; and the journal of what goes over it.
-ghost use Rattle.std.specs.Prelude.{◌≡◌, ◌⊎◌, ◌≤◌, ◌∷◌, ℕ, Bool, Option, Some, Result, [], true, false, not, length, is_some, IfOk, IfSome};
+ghost use Rattle.std.specs.Prelude.{◌≡◌, ◌⊎◌, ◌≤◌, ◌∷◌, ℕ, Bool, Option, Some, None, Result, [], true, false, not, length, is_some, IfOk, IfSome};
 ghost use Rattle.std.specs.declared.net.socket_addr.SocketAddrV4.{SocketAddrV4 as Peer};
 ghost use Rattle.bad_network.specs.declared.packet.Way.TheVariants.{In};
+ghost use Rattle.agent_texts.specs.Telling.{Tells};
+ghost use Rattle.exchange_log.specs.Pausing.{pause_line};
 ghost use Rattle.mg_bytes.specs.Lists.{is_empty};
 ghost use Rattle.live_agent.specs.Wiring.{due_of, with_read, read_at, heard_at, ready_by};
 ghost use Rattle.live_agent.specs.Handing.{comes_in, HandsFirst, HandsOver, HandsTo, Leaves, Offers, OffersTo};
@@ -19,7 +21,7 @@ use crate::loading::{Load, count_sent};
 use agent_texts::{Journal, Tally, count};
 use bad_network::{BadNetwork, Fate, Packet, Way};
 use exchange_log::{Note, Stamp, put_pause};
-use live_outlets::{NEXT_OFFER, Now};
+use live_outlets::{NEXT_OFFER, Now, Record};
 use plain_machine::OutDatagram;
 use std::alloc::{AllocError, Global};
 use std::net::SocketAddrV4;
@@ -138,6 +140,16 @@ fn offer_to(
     }
 }
 
+// That the program was stopped, and goes on at this moment, in microseconds since 1970, is put into the log.
+#[tactic(auto, using(agent_texts::proofs::TellingLemmas::telling))]
+fn log_pause(alloc: Global, log: &mut Record, time: u64, pause: Pause)
+    ensures { Tells (pause_line time pause.lateness pause.read) log.old log.new }
+{
+    if log.is_on() && put_pause(alloc, &mut log.out, time, pause.lateness, pause.read).is_err() {
+        log.refuse();
+    }
+}
+
 // Whether a packet comes in.
 fn comes_in(way: Way) -> bool
     ensures { result ≡ comes_in way }
@@ -164,6 +176,7 @@ impl<S: Surroundings + Drop> Wire<S> {
         ensures lines { IfOk result (λ wire. left_of wire.lines ≡ []) }
         ensures moments { IfOk result (λ wire. (wire.now.clock ≡ 0) × (wire.read ≡ 0) × (wire.end ≡ end)) }
         ensures quiet { IfOk result (λ wire. (wire.is_behind ≡ false) × (wire.is_offering ≡ false)) }
+        ensures load { IfOk result (λ wire. wire.load ≡ None) }
     {
         let now = Now {
             clock: 0,
@@ -385,16 +398,11 @@ impl<S: Surroundings + Drop> Wire<S> {
 
     /// The program was stopped, and goes on: that is noted in the log.
     pub(crate) fn note_pause(&mut self, pause: Pause)
+        ensures told { Tells (pause_line self.old.now.time pause.lateness pause.read) self.old.journal.value.log self.new.journal.value.log }
         ensures journal { self.new.journal.value ≡ record self.old.journal.value { log = self.new.journal.value.log } }
         ensures rest { self.new ≡ record self.old { journal = self.new.journal } }
     {
-        let log = &mut self.journal.log;
-        let Pause { lateness, read } = pause;
-        if log.is_on()
-            && put_pause(self.alloc, &mut log.out, self.now.time, lateness, read).is_err()
-        {
-            log.refuse();
-        }
+        log_pause(self.alloc, &mut self.journal.log, self.now.time, pause);
     }
 
     /// Something that was recorded waits to be taken, or nothing does.

@@ -1,11 +1,13 @@
-use Rattle.std.proofs.Common.{◌≡◌, ℕ, Bool, true, false, Some, inl, inr, refl, ap, ◌∙◌}
+use Rattle.std.proofs.Common.{◌≡◌, ℕ, Bool, true, false, Option, Some, inl, inr, refl, ap, ◌∙◌}
 use Rattle.std.specs.Prelude.{◌&&◌}
 use Rattle.load_bench.specs.declared.bench.Bench.{Bench}
 use Rattle.load_bench.specs.declared.said.Said.{Said}
+use Rattle.load_bench.specs.declared.settings.LoadFault.{LoadFault}
 use Rattle.agent_texts.specs.declared.journal.Journal.{Journal}
 use Rattle.live_agent.specs.AnyAround.{answers_never}
-use Rattle.live_agent.specs.Telephones.{end_of, SaysOne}
+use Rattle.live_agent.specs.Telephones.{end_of, made_by, SaysOne}
 use Rattle.live_agent.specs.Wiring.{with_read}
+use Rattle.live_agent.specs.declared.wire.Wire.{Wire}
 use Rattle.live_agent.proofs.desk_examples.what_telephones_are_told_has_examples.Goals as goal
 
 -- one that isn't said isn't among those that all were
@@ -56,3 +58,15 @@ returns-clause-reads c = λ was is hears taken. hears.reads ∙ ap (λ (one : Bo
 
 pub returns-clause-ends : goal.returns-clause-ends
 returns-clause-ends c = λ was is hears. hears.ends
+
+pub returns-clause-begins : goal.returns-clause-begins
+returns-clause-begins c = λ was is begins. begins.2
+
+pub returns-clause-begins_none : goal.returns-clause-begins_none
+returns-clause-begins_none c = λ ending was is none. ap (λ (wire : Wire ℕ). wire.load) none
+
+pub returns-clause-reports : goal.returns-clause-reports
+returns-clause-reports c = λ was is reports. ap (λ (bench : Bench). bench.tally) reports.1
+
+pub returns-clause-unmade_for : goal.returns-clause-unmade_for
+returns-clause-unmade_for c = λ bench given_up. ap (λ (fault : Option LoadFault). made_by fault bench) given_up

@@ -11,7 +11,7 @@ pub returns-clause-waits : goal.returns-clause-waits
 returns-clause-waits c = λ board now was is does. (does.0, ap (λ (wire : Wire ℕ). wire.end) does.1.3)
 
 pub returns-clause-notes : goal.returns-clause-notes
-returns-clause-notes c = λ pause board now was is does. (does.0, ap (λ (wire : Wire ℕ). wire.around) does.1.1)
+returns-clause-notes c = λ pause board now was is does. (does.0, ap (λ (wire : Wire ℕ). wire.around) does.1.2)
 
 pub returns-clause-ticks : goal.returns-clause-ticks
 returns-clause-ticks c = λ board now was is does. ap (λ (one : Switchboard). one.notifying) does.lines
@@ -28,7 +28,10 @@ pub returns-clause-fails : goal.returns-clause-fails
 returns-clause-fails c = λ was is waits. ap (λ (journal : Journal). journal.told) waits.2
 
 pub returns-clause-pauses : goal.returns-clause-pauses
-returns-clause-pauses c = λ was is notes. ap (λ (journal : Journal). journal.tally) notes.0
+returns-clause-pauses c = λ pause was is notes. ap (λ (journal : Journal). journal.tally) notes.1
+
+pub returns-clause-paused : goal.returns-clause-paused
+returns-clause-paused c = λ was is notes. notes.0
 
 pub returns-clause-passes : goal.returns-clause-passes
 returns-clause-passes c = λ load was is passes. ap (λ (wire : Wire ℕ). wire.lines) passes.rest

@@ -22,4 +22,4 @@ pub returns-in-Wait : goal.returns-in-Wait
 returns-in-Wait g c = rw (c.in-Wait.is) (refl, (c.wait-in-Wait.ensures.traffic, c.wait-in-Wait.ensures.counts, c.wait-in-Wait.ensures.journal, c.wait-in-Wait.ensures.rest))
 
 pub returns-in-Note : goal.returns-in-Note
-returns-in-Note g c = rw (c.in-Note.is) (refl, (c.note_pause.ensures.journal, c.note_pause.ensures.rest))
+returns-in-Note g c = rw (c.in-Note.is) (refl, (c.note_pause.ensures.told, c.note_pause.ensures.journal, c.note_pause.ensures.rest))

@@ -10,7 +10,8 @@ returns-in_default g c = record {
   counts = rw (c.deref_mut.ensures.value) at c.came.ensures.tally;
   records = rw (c.deref_mut.ensures.value) at c.came.ensures.rest;
   leaves = refl;
-  load = c.count_came.ensures;
+  load = c.count_came.ensures.made;
+  counts_for = c.count_came.ensures.counts;
   hears = heard_by (HandsTo g.S.Surroundings.sends g.S.Surroundings.traffic) None _ c.args.source c.args.bytes.now c.args.board.now c.args.board.now _ _ c.in_default.ensures (
     refl,
     refl,
@@ -27,6 +28,7 @@ returns g c = record {
   counts = rw (c.deref_mut.ensures.value) at c.came.ensures.tally;
   records = rw (c.deref_mut.ensures.value) at c.came.ensures.rest;
   leaves = refl;
-  load = c.count_came.ensures;
+  load = c.count_came.ensures.made;
+  counts_for = c.count_came.ensures.counts;
   hears = heard_by (HandsTo g.S.Surroundings.sends g.S.Surroundings.traffic) _ _ c.args.source c.args.bytes.now c.args.board.now c.hear_at.new.board _ c.hear_at.new.wire c.in-Some.ensures c.hear_at.ensures;
 }

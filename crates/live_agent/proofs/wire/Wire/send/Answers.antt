@@ -22,14 +22,14 @@ returns-clause-tally g c =
 pub returns-then-offer-clause-over : goal.returns-then-offer-clause-over
 returns-then-offer-clause-over g c =
     let noted = record c.args.self.now { journal = with_value c.args.self.now.journal c.sent.new.self; load = c.count_sent.new.load } in
-    sent_more c.args.self.now noted c.offer.new.self (over_noted c.args.self.now noted refl c.count_sent.ensures)
+    sent_more c.args.self.now noted c.offer.new.self (over_noted c.args.self.now noted refl c.count_sent.ensures.made)
     (over_network noted c.offer.new.self c.offer.ensures.rest)
 
 pub returns-clause-over : goal.returns-clause-over
 returns-clause-over g c =
     let noted = record c.args.self.now { journal = with_value c.args.self.now.journal c.sent.new.self; load = c.count_sent.new.load } in
     sent_more c.args.self.now c.offer.new.self c.transmit.new.self
-    (sent_more c.args.self.now noted c.offer.new.self (over_noted c.args.self.now noted refl c.count_sent.ensures)
+    (sent_more c.args.self.now noted c.offer.new.self (over_noted c.args.self.now noted refl c.count_sent.ensures.made)
     (over_network noted c.offer.new.self c.offer.ensures.rest))
     (over_leaving c.offer.new.self c.transmit.new.self c.transmit.ensures.rest)
 
@@ -38,13 +38,14 @@ returns-then-offer-clause-one g c =
     let some : is_some c.args.self.now.network ≡ true = search rules in
     let noted = record c.args.self.now { journal = with_value c.args.self.now.journal c.sent.new.self; load = c.count_sent.new.load } in
     record {
-      over = sent_more c.args.self.now noted c.offer.new.self (over_noted c.args.self.now noted refl c.count_sent.ensures)
+      over = sent_more c.args.self.now noted c.offer.new.self (over_noted c.args.self.now noted refl c.count_sent.ensures.made)
           (over_network noted c.offer.new.self c.offer.ensures.rest);
       counts = offered_so c.args.is_repeat c.args.self.now.network c.args.self.now.journal.value.tally _ c.offer.new.self.journal.value.tally
           (rw (c.deref_mut.ensures.value) at c.sent.ensures.tally) some c.offer.ensures.tally;
       noted = noted;
       notes = rw (c.deref_mut.ensures.value) at c.sent.ensures.tally;
       records = rw (c.deref_mut.ensures.value) at c.sent.ensures.rest;
+      load = c.count_sent.ensures.counts;
       rest = refl;
       goes = goes_offered (HandsTo g.S.Surroundings.sends g.S.Surroundings.traffic) c.args.to c.args.bytes.now c.args.self.now.network noted c.offer.new.self some c.offer.ensures.offers c.offer.ensures.notes c.offer.ensures.rest;
     }
@@ -55,7 +56,7 @@ returns-clause-one g c =
     let noted = record c.args.self.now { journal = with_value c.args.self.now.journal c.sent.new.self; load = c.count_sent.new.load } in
     record {
       over = sent_more c.args.self.now c.offer.new.self c.transmit.new.self
-          (sent_more c.args.self.now noted c.offer.new.self (over_noted c.args.self.now noted refl c.count_sent.ensures)
+          (sent_more c.args.self.now noted c.offer.new.self (over_noted c.args.self.now noted refl c.count_sent.ensures.made)
           (over_network noted c.offer.new.self c.offer.ensures.rest))
           (over_leaving c.offer.new.self c.transmit.new.self c.transmit.ensures.rest);
       counts = left_so c.args.is_repeat c.args.self.now.network c.args.self.now.journal.value.tally _ c.offer.new.self.journal.value.tally
@@ -64,6 +65,7 @@ returns-clause-one g c =
       noted = noted;
       notes = rw (c.deref_mut.ensures.value) at c.sent.ensures.tally;
       records = rw (c.deref_mut.ensures.value) at c.sent.ensures.rest;
+      load = c.count_sent.ensures.counts;
       rest = refl;
       goes = goes_leaving (HandsTo g.S.Surroundings.sends g.S.Surroundings.traffic) c.args.to c.args.bytes.now c.args.self.now.network noted c.offer.new.self c.transmit.new.self none
           (c.offer.ensures.none c.if-offer.false) c.transmit.ensures.leaves;

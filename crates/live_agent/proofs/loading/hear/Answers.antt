@@ -1,0 +1,24 @@
+use Rattle.std.proofs.Common.{◌≡◌, Some, None, refl, rules}
+use Rattle.live_agent.proofs.loading.hear.Goals as goal
+
+pub returns-in_default : goal.returns-in_default
+returns-in_default g c = record {
+  found = None;
+  room = c.hear.new.room;
+  looked = c.hear.new.self;
+  looks = c.in_default.ensures.looked;
+  is_taken = refl;
+  says = (refl, refl);
+}
+
+pub returns : goal.returns
+returns g c =
+    let room : c.as_slice.result.now ≡ c.hear.new.room = search rules in
+    record {
+      found = Some c.in-Some.found;
+      room = c.hear.new.room;
+      looked = c.hear.new.self;
+      looks = c.in-Some.ensures.looked;
+      is_taken = refl;
+      says = (c.hear_found.new.bench, (rw room at c.hear_found.ensures) c.in-Some.ensures.within, c.say_all.ensures);
+    }
