@@ -1,5 +1,5 @@
 -- No address has more visitors than it may have, whatever a turn of the site's does.
-use Rattle.std.proofs.Common.{◌≡◌, ◌⊎◌, ℕ, zero, suc, ◌+◌, ◌≤◌, Bool, true, false, List, [], ◌∷◌, map, slice_get, slice_set, Option, None, Some, inl, inr, refl, sym, ap, subst, ◌∙◌, arith}
+use Rattle.std.proofs.Common.{◌≡◌, ℕ, zero, suc, ◌≤◌, Bool, true, false, List, [], ◌∷◌, map, slice_get, slice_set, Option, None, Some, inl, inr, refl, sym, ap, subst, ◌∙◌, arith}
 use Rattle.std.specs.Prelude.{if◌then◌else◌, bytes_eq, option_map, Result, Ok, Err, IfSome, IsSomeAnd}
 use Rattle.std.specs.Option.{unwrap_or}
 use Rattle.std.specs.Global.{Box}
@@ -20,8 +20,8 @@ use Rattle.live_page.specs.declared.site.Came.{Came}
 use Rattle.live_page.specs.declared.site.Came.TheVariants.{Nobody, LetIn, TurnedAway}
 use Rattle.live_page.specs.declared.site.Site.{Site}
 use Rattle.live_page.specs.declared.visitor.Visitor.{Visitor}
-use Rattle.live_page.specs.Visiting.{noted, AnswersAll, EndsTurn, ReadsOnce, ReadsSo, TakesTurn, WritesOnce, WritesSo, WritesTurn}
-use Rattle.live_page.specs.Receiving.{host_of, noted_each, seat_in, visitor_in, with_place, IsOpened, LetsIn, SeatsAt, ServesAt, ServesNext, ServesOne, ServesPlace}
+use Rattle.live_page.specs.Visiting.{noted, EndsTurn, ReadsOnce, ReadsSo, TakesTurn, WritesOnce, WritesSo, WritesTurn}
+use Rattle.live_page.specs.Receiving.{host_of, noted_each, seat_in, visitor_in, with_place, IsOpened, LetsIn, SeatsAt, ServesNext, ServesOne, ServesPlace}
 use Rattle.live_page.specs.Waiting.{is_late, next_turn, stays_at}
 use Rattle.live_page.proofs.ReceivingLemmas.{set_nowhere}
 

@@ -1,6 +1,5 @@
 -- What is answered to visitors, from what a connection says of its calls.
-use Rattle.std.proofs.Common.{◌≡◌, ℕ, Bool, true, false, not, List, [], ◌∷◌, ◌++◌, Bor, refl, sym, ◌∙◌, ap, subst, append_assoc, append-nil, true≢false}
-use Rattle.std.specs.Prelude.{◌↔◌, IsTrue}
+use Rattle.std.proofs.Common.{◌≡◌, ℕ, Bool, true, false, not, List, [], ◌∷◌, ◌++◌, Bor, refl, sym, ◌∙◌, ap, subst, append_assoc, append-nil}
 use Rattle.std.specs.declared.net.socket_addr.SocketAddrV4.{SocketAddrV4}
 use Rattle.http.specs.declared.request.Request.{Request}
 use Rattle.http_server.specs.declared.response.Response.{Response}
@@ -87,7 +86,3 @@ answers_there site there names others was is board shown same called answers =
 pub so_behind : (is : Bool) → not is ≡ false → is ≡ true
 so_behind true none = refl
 so_behind false none = absurd cc
-
--- what can't be so where it isn't found so
-pub cannot : {P : Type 0} (found : Bool) → (IsTrue found ↔ P) → found ≡ false → ¬ P
-cannot found so none holds = true≢false (sym (so.1 holds) ∙ none)

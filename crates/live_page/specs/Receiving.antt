@@ -47,7 +47,8 @@ ServesPlace site names now None board is shown = (is ≡ None) × (shown ≡ boa
 ServesPlace site names now (Some was) board None shown =
     (gone : Visitor) × AnswersVisitor site names was.value board gone shown × TakesTurn site names now was.value board false gone shown
 ServesPlace site names now (Some was) board (Some is) shown =
-    AnswersVisitor site names was.value board is.value shown × IsAnswered is.value × TakesTurn site names now was.value board true is.value shown
+    AnswersVisitor site names was.value board is.value shown × IsAnswered is.value
+    × TakesTurn site names now was.value board true is.value shown
 
 -- each place but this one is as it was
 abbrev pub with_place : ℕ → Option (Option (Box Visitor)) → List (Option (Box Visitor)) → List (Option (Box Visitor))
@@ -70,7 +71,8 @@ host_of (V6 source) = record { octets = 0 ∷ 0 ∷ 0 ∷ 0 ∷ [] }
 -- for them all stays.
 abbrev pub SeatsAt : Option ℕ → Ipv4Addr → ℕ → List (Option (Box Visitor)) → List (Option (Box Visitor)) → Type 0
 SeatsAt None host now were are = are ≡ were
-SeatsAt (Some place) host now were are = (visitor : Box Visitor) × IsNew host now visitor.value × (are ≡ slice_set were place (Some visitor))
+SeatsAt (Some place) host now were are =
+    (visitor : Box Visitor) × IsNew host now visitor.value × (are ≡ slice_set were place (Some visitor))
 
 -- Nobody has come, and nobody may have any more. Or somebody has, where somebody may have, and somebody else may have still: they have the
 -- place that is theirs by who has the others, or they are turned away, and all stays.

@@ -145,7 +145,8 @@ abbrev pub WritesTurn : SocketAddrV4 → List (List ℕ) → ℕ → Bool → Vi
 WritesTurn site names now false was board stays is shown = (is ≡ was) × (shown ≡ board) × (stays ≡ false)
 WritesTurn site names now true was board stays is shown =
     (answered : Visitor) × (between : BoardState) × AnswersAll site names was board answered between
-    × ((takes : Bool) × (written : Visitor) × WritesOnce now answered takes written × EndsTurn site names takes written between stays is shown)
+    × ((takes : Bool) × (written : Visitor) × WritesOnce now answered takes written
+    × EndsTurn site names takes written between stays is shown)
 
 -- A visitor has a turn at this moment: their socket is read once, what came is answered, and what waits for them is written once.
 abbrev pub TakesTurn : SocketAddrV4 → List (List ℕ) → ℕ → Visitor → BoardState → Bool → Visitor → BoardState → Type 0

@@ -109,7 +109,8 @@ pub fn who_is_read_has_examples()
         → ReadsSo 70 was (Err fault) stays is → (stays ≡ true) × (is.may_read ≡ false) × (is.seat ≡ was.seat) }
     ensures gone { (fault : Error) (was is : Visitor) (stays : Bool) → error_kind fault ≡ ConnectionReset
         → ReadsSo 70 was (Err fault) stays is → stays ≢ true }
-    ensures not_told { (was is : Visitor) (stays : Bool) → was.may_read ≡ false → ReadsOnce 70 was stays is → (is ≡ was) × (stays ≡ true) }
+    ensures not_told { (was is : Visitor) (stays : Bool) → was.may_read ≡ false → ReadsOnce 70 was stays is
+        → (is ≡ was) × (stays ≡ true) }
 {}
 
 /// Who takes what waits for them was active then, and is waited for anew once nothing waits; who takes nothing goes.
@@ -125,7 +126,8 @@ pub fn who_is_written_to_has_examples()
         → WritesSo 70 was (Err fault) stays is → (stays ≡ true) × (is.may_write ≡ false) × (is.deadline ≡ was.deadline) }
     ensures gone { (fault : Error) (was is : Visitor) (stays : Bool) → error_kind fault ≡ ConnectionReset
         → WritesSo 70 was (Err fault) stays is → stays ≢ true }
-    ensures not_told { (was is : Visitor) (stays : Bool) → was.may_write ≡ false → WritesOnce 70 was stays is → (is ≡ was) × (stays ≡ true) }
+    ensures not_told { (was is : Visitor) (stays : Bool) → was.may_write ≡ false → WritesOnce 70 was stays is
+        → (is ≡ was) × (stays ≡ true) }
     ensures stays { (site : SocketAddrV4) (names : List (List ℕ)) (was is : Visitor) (board shown : BoardState) →
         EndsTurn site names true was board true is shown → IsDone (history is.connection) → ⊥ }
     ensures goes { (site : SocketAddrV4) (names : List (List ℕ)) (was is : Visitor) (board shown : BoardState) →
@@ -143,8 +145,8 @@ pub fn who_has_places_has_examples()
     ensures seat { (one : Box Visitor) → map seat_in (Some one ∷ None ∷ []) ≡ Some one.value.seat ∷ None ∷ [] }
     ensures visitor { (one : Box Visitor) → map visitor_in (Some one ∷ None ∷ []) ≡ Some one.value ∷ None ∷ [] }
     ensures host { (host : Ipv4Addr) → host_of (V4 (record { ip = host; port = 80 })) ≡ host }
-    ensures seated { (host : Ipv4Addr) (one : Box Visitor) (are : List (Option (Box Visitor))) → SeatsAt (Some 1) host 5 (Some one ∷ None ∷ []) are
-        → (visitor : Box Visitor) × (visitor.value.seat.active ≡ 5) × (are ≡ Some one ∷ Some visitor ∷ []) }
+    ensures seated { (host : Ipv4Addr) (one : Box Visitor) (are : List (Option (Box Visitor)))
+        → SeatsAt (Some 1) host 5 (Some one ∷ None ∷ []) are → (visitor : Box Visitor) × (visitor.value.seat.active ≡ 5) × (are ≡ Some one ∷ Some visitor ∷ []) }
     ensures unseated { (host : Ipv4Addr) (were are : List (Option (Box Visitor))) → SeatsAt None host 5 were are → are ≡ were }
     ensures nobody { (came : Came) (was is : Site) → was.may_accept ≡ false → LetsIn 5 came was is
         → (is.places.items ≡ was.places.items) × (is.may_accept ≡ false) }

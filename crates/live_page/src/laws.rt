@@ -30,6 +30,6 @@ pub fn another_host_is_told_nothing()
 /// No address has more visitors at the site than it may have: not before anybody came, nor behind any turn.
 pub fn an_address_has_no_more_visitors_than_it_may()
     ensures opened { (names : List (List ℕ)) (site : Site) → IsOpened names site → AreFew (map seat_in site.places.items) }
-    ensures served { (was is : Site) (told after : Readiness) (board shown : BoardState) (now : ℕ) → ServesOne was told board now is after shown
-        → AreFew (map seat_in was.places.items) → AreFew (map seat_in is.places.items) }
+    ensures served { (was is : Site) (told after : Readiness) (board shown : BoardState) (now : ℕ)
+        → ServesOne was told board now is after shown → AreFew (map seat_in was.places.items) → AreFew (map seat_in is.places.items) }
 {}

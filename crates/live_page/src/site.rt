@@ -314,7 +314,8 @@ impl Site {
         ensures names { names_of self.new.names ≡ names_of self.old.names }
         ensures last { self.new.last ≡ self.old.last }
         ensures accepting { self.new.may_accept ≡ self.old.may_accept }
-        ensures ok { OnOk result (SeatsAt (place_for (map seat_in self.old.places.items) host) host now self.old.places.items self.new.places.items) }
+        ensures ok { OnOk result (SeatsAt (place_for (map seat_in self.old.places.items) host) host now self.old.places.items
+            self.new.places.items) }
         ensures err { OnErr result (self.new.places.items ≡ self.old.places.items) }
     {
         let Some(place) = self.place_for(host)? else {

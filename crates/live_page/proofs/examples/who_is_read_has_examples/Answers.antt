@@ -1,6 +1,5 @@
-use Rattle.std.proofs.Common.{◌⊎◌, inl, inr, ℕ, sym, ◌∙◌, ap, subst, List, true≢false}
+use Rattle.std.proofs.Common.{inl, inr, sym, ◌∙◌, ap, true≢false}
 use Rattle.live_page.specs.declared.visitor.Visitor.{Visitor}
-use Rattle.http_server.specs.History.{History}
 use Rattle.live_page.proofs.examples.who_is_read_has_examples.Goals as goal
 
 pub returns-clause-active : goal.returns-clause-active

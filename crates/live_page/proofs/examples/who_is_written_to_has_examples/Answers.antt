@@ -1,4 +1,4 @@
-use Rattle.std.proofs.Common.{◌⊎◌, inl, inr, ℕ, ◌<◌, refl, sym, ◌∙◌, ap, subst, arith, true≢false}
+use Rattle.std.proofs.Common.{inl, inr, refl, sym, ◌∙◌, ap, subst, arith, true≢false}
 use Rattle.http_server.specs.Connection.{history}
 use Rattle.http_server.specs.History.{IsDone}
 use Rattle.live_page.specs.declared.visitor.Visitor.{Visitor}
