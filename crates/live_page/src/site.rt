@@ -301,7 +301,7 @@ impl Site {
     }
 
     // Serves somebody who came from this address; who has the place gives way, and their connection is closed.
-    #[tactic(auto, using(crate::proofs::ReceivingLemmas::seats_nobody, crate::proofs::ReceivingLemmas::seats_there, crate::proofs::ReceivingLemmas::seats_nowhere))]
+    #[tactic(auto, using(crate::proofs::ReceivingLemmas::seats_nobody, crate::proofs::ReceivingLemmas::seats_there))]
     fn welcome<R: RandomSource>(
         &mut self,
         rt: &R,

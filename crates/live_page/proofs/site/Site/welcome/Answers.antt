@@ -1,0 +1,10 @@
+use Rattle.std.proofs.Common.{map, sym, ◌∙◌}
+use Rattle.page_access.specs.Places.{place_for}
+use Rattle.live_page.specs.Receiving.{seat_in}
+use Rattle.live_page.proofs.ReceivingLemmas.{seats_nowhere}
+use Rattle.live_page.proofs.site.Site.welcome.Goals as goal
+
+pub returns-in_default-get_mut-clause-ok : goal.returns-in_default-get_mut-clause-ok
+returns-in_default-get_mut-clause-ok g c =
+    seats_nowhere (place_for (map seat_in c.args.self.now.places.items) c.args.host) c.args.host c.args.now c.in-Some.place c.in_ok-visitor.visitor
+    c.args.self.now.places.items (sym c.in_ok-place.ensures ∙ c.in-Some.is) c.in_ok-visitor.ensures c.in_default-get_mut.ensures.item.3
