@@ -10,6 +10,7 @@ use Rattle.live_gateway.proofs.exchange.Exchange.handed_over.Given as goal
 -- as many were handed out as were looked for
 abbrev pub invariant-loop : goal.invariant-loop
 invariant-loop g l = record {
+  out : (packets : List Packet) × (length packets ≡ l.counter) × PassesEach g.S.Surroundings.sends l.fn.admission packets l.fn.self l.self;
   length : length l.room ≡ length l.fn.room;
   handed : handed_by l.self.network (g.S.Surroundings.traffic l.self.around).sent
       ≡ handed_by l.fn.self.network (g.S.Surroundings.traffic l.fn.self.around).sent;
@@ -20,5 +21,4 @@ invariant-loop g l = record {
   came : HeardSince l.fn.admission (received_by l.fn.self.network (g.S.Surroundings.traffic l.fn.self.around).received) []
       (received_by l.self.network (g.S.Surroundings.traffic l.self.around).received);
   tally : CountsFound l.fn.self.journal.tally.value None l.self.journal.tally.value;
-  out : (packets : List Packet) × (length packets ≡ l.counter) × PassesEach g.S.Surroundings.sends l.fn.admission packets l.fn.self l.self;
 }
