@@ -22,7 +22,7 @@ pub returns-in_err-packet-clause-read : goal.returns-in_err-packet-clause-read
 returns-in_err-packet-clause-read g c = ap (λ e. e.read) c.take_due.ensures.rest ∙ c.loop.invariant.read
 
 pub returns-in_err-packet-clause-turn : goal.returns-in_err-packet-clause-turn
-returns-in_err-packet-clause-turn g c = 
+returns-in_err-packet-clause-turn g c =
     (ap (λ e. e.now) c.take_due.ensures.rest ∙ c.loop.invariant.turn.0, ap (λ e. e.is_offering) c.take_due.ensures.rest ∙ c.loop.invariant.turn.1)
 
 pub returns-in_err-packet-clause-tally : goal.returns-in_err-packet-clause-tally
