@@ -1,8 +1,9 @@
 -- How those who watch are told something one behind the other.
-use Rattle.std.proofs.Common.{◌≡◌, ℕ, true, zero, suc, ◌+◌, ◌-◌, ◌<◌, length, take, get_or, List, [], ◌∷◌, ◌++◌, Option, Some, inl, inr, refl, ap, ◌∙◌, subst, Result, Ok, Err, IfErr, arith}
+use Rattle.std.proofs.Common.{◌≡◌, ℕ, true, zero, suc, ◌+◌, ◌-◌, ◌<◌, length, take, get_or, List, [], ◌∷◌, ◌++◌, Option, Some, inl, inr, refl, ap, ◌∙◌, subst, Result, Ok, Err, IfErr, OnErr, arith}
 use Rattle.std.proofs.lemmas.List.{take_more}
 use Rattle.std.specs.Prelude.{slice_get}
 use Rattle.std.specs.declared.net.socket_addr.SocketAddr.{SocketAddr}
+use Rattle.line_changes.specs.declared.change.Change.{Change}
 use Rattle.line_changes.specs.declared.watchers.Watcher.{Watcher}
 use Rattle.line_changes.specs.declared.watchers.Watchers.{Watchers}
 use Rattle.line_changes.specs.Watching.{is_watched}
@@ -66,6 +67,14 @@ unfolding TellsLines
 still_watch answers setup m zero before was after is (around, same) = ap (λ (w : Watch). w.watchers) same
 still_watch answers setup m (suc line) before was after is (between, mid, some, one) =
     one.watchers ∙ still_watch answers setup m line before was between mid some
+
+-- where memory is refused some of these changes were told, by names for what was told and for what changed
+pub some_put : {A E : Type 0} (done : Result A E) (moment line : ℕ) (told were is : Told) (list changes : List Change) → told ≡ were → list ≡ changes
+    → OnErr done ((count : ℕ) × (is ≡ with_changes moment line told (take count list)))
+    → OnErr done ((count : ℕ) × (is ≡ with_changes moment line were (take count changes)))
+some_put done moment line told were is list changes same_told same_list put =
+    subst (λ (l : List Change). OnErr done ((count : ℕ) × (is ≡ with_changes moment line were (take count l)))) same_list
+    (subst (λ (t : Told). OnErr done ((count : ℕ) × (is ≡ with_changes moment line t (take count list)))) same_told put)
 
 -- memory is refused before anything of a line is told
 pub refuses_all : (setup : Setup) (m : Machine) (line : ℕ) (was : Watch) → RefusesLine setup m line was was

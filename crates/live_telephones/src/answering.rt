@@ -126,7 +126,6 @@ pub fn take_act(alloc: Global, journal: &mut Journal, lines: &mut Lines) -> bool
 
 /// The page is shown the gateway as it is now, where its clock is so far behind the machine's, in ms. Where memory is refused it is shown
 /// what it was.
-#[tactic(auto, using(crate::proofs::PagingLemmas::shows_next))]
 pub fn show(alloc: Global, gateway: &Gateway, journal: &mut Journal, faults: Faults, behind: u64)
     ensures { ShowsPage gateway.now faults behind journal.old journal.new }
 {
