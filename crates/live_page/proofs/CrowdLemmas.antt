@@ -142,8 +142,8 @@ writes_turn site names now true was is board shown stays writes =
     ends_turn site names writes.3.0 writes.3.1 is writes.1 shown stays writes.3.3
     ∙ writes_once now writes.0 writes.3.1 writes.3.0 writes.3.2 ∙ ap (λ (v : Visitor). v.seat.host) writes.2.rest
 
-takes_turn : (site : SocketAddrV4) (names : List (List ℕ)) (now : ℕ) (was is : Visitor) (board shown : BoardState) (stays : Bool)
-    → TakesTurn site names now was board stays is shown → host_at is ≡ host_at was
+pub takes_turn : (site : SocketAddrV4) (names : List (List ℕ)) (now : ℕ) (was is : Visitor) (board shown : BoardState) (stays : Bool)
+    → TakesTurn site names now was board stays is shown → is.seat.host ≡ was.seat.host
 takes_turn site names now was is board shown stays turn =
     writes_turn site names now turn.0 turn.1 is board shown stays turn.3 ∙ reads_once now was turn.1 turn.0 turn.2
 

@@ -25,7 +25,7 @@ ghost use Rattle.live_page.specs.declared.visitor.Visitor.{Visitor};
 ghost use Rattle.live_page.specs.Fields.{kind_of, policy, kind_fields, fields_at};
 ghost use Rattle.live_page.specs.Health.{alive_text, ready_text};
 ghost use Rattle.live_page.specs.Statuses.{is_refused, reading_status, refusal_status, refusal_fields, outcome_status};
-ghost use Rattle.live_page.specs.Visiting.{calls_of, noted, patience_from, EndsTurn, IsNew, ReadsOnce, ReadsSo, WritesOnce, WritesSo};
+ghost use Rattle.live_page.specs.Visiting.{calls_of, noted, patience_from, AnswersAll, EndsTurn, IsNew, ReadsOnce, ReadsSo, TakesTurn, WritesOnce, WritesSo, WritesTurn};
 ghost use Rattle.live_page.specs.Receiving.{host_of, noted_each, seat_in, visitor_in, IsOpened, LetsIn, SeatsAt};
 ghost use Rattle.live_page.specs.Example.{readable, writable};
 ghost use Rattle.live_page.specs.Waiting.{sooner, soonest_from, is_late, stays_at, next_turn};
@@ -132,6 +132,22 @@ pub fn who_is_written_to_has_examples()
         EndsTurn site names true was board true is shown → IsDone (history is.connection) → ⊥ }
     ensures goes { (site : SocketAddrV4) (names : List (List ℕ)) (was is : Visitor) (board shown : BoardState) →
         EndsTurn site names true was board false is shown → IsDone (history is.connection) }
+{}
+
+/// Who is answered stays who they are, and nothing is read or goes meanwhile. Whose socket failed is answered nothing. Who can't be read nor
+/// written has no turn. Who has had one comes from where they came.
+pub fn who_has_a_turn_has_examples()
+    ensures answered { (site : SocketAddrV4) (names : List (List ℕ)) (was is : Visitor) (board shown : BoardState) →
+        AnswersAll site names was board is shown → (is.seat ≡ was.seat) × (is.deadline ≡ was.deadline) × (is.may_read ≡ was.may_read) }
+    ensures quiet { (site : SocketAddrV4) (names : List (List ℕ)) (was is : Visitor) (board shown : BoardState) →
+        AnswersAll site names was board is shown → ((history is.connection).received ≡ (history was.connection).received)
+        × ((history is.connection).sent ≡ (history was.connection).sent) }
+    ensures failed { (site : SocketAddrV4) (names : List (List ℕ)) (was is : Visitor) (board shown : BoardState) (stays : Bool) →
+        WritesTurn site names 70 false was board stays is shown → (is ≡ was) × (shown ≡ board) × (stays ≡ false) }
+    ensures no_turn { (site : SocketAddrV4) (names : List (List ℕ)) (was is : Visitor) (board shown : BoardState) (stays : Bool) →
+        EndsTurn site names true was board stays is shown → is.may_read ≡ false → is.may_write ≡ false → is.has_turn ≢ true }
+    ensures same_host { (site : SocketAddrV4) (names : List (List ℕ)) (was is : Visitor) (board shown : BoardState) (stays : Bool) →
+        TakesTurn site names 70 was board stays is shown → is.seat.host ≡ was.seat.host }
 {}
 
 /// What was told of each socket is noted of who has its place. Who comes has the place that is for them, and nobody else's is another's.
