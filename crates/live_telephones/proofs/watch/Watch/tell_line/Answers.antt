@@ -2,7 +2,7 @@ use Rattle.live_telephones.proofs.WatchingLemmas.{err_if, refuses_all, refuses_s
 use Rattle.live_telephones.proofs.watch.Watch.tell_line.Goals as goal
 
 pub returns-in_err-is-clause-left : goal.returns-in_err-is-clause-left
-returns-in_err-is-clause-left g c = λ events stands. err_if c.from_residual-in_err-is.result (refuses_all _ _ c.args.line c.args.self.now)
+returns-in_err-is-clause-left g c = λ events stands. err_if c.from_residual.result (refuses_all _ _ c.args.line c.args.self.now)
 
 pub returns-in_err-note-clause-left : goal.returns-in_err-note-clause-left
 returns-in_err-note-clause-left g c = λ events stands.
