@@ -29,7 +29,7 @@ returns-then-is_lost-clause-over g c = record {
   behind = (
     refl,
     lost_noted c.is_lost.new.self c.untaken.new.self c.untaken.ensures.rest,
-    rw (ap (λ e. e.journal.log) c.is_lost.ensures.rest) at c.untaken.ensures.logged,
+    c.untaken.ensures.logged,
   );
 }
 
