@@ -5,8 +5,7 @@ use Rattle.check_player.specs.declared.player.Player.{Player}
 use Rattle.check_player.specs.declared.player.Turn.{Turn}
 use Rattle.check_player.specs.declared.player.Turn.TheVariants as turns
 use Rattle.check_player.specs.Taking.{Takes}
-use Rattle.check_player.specs.Turning.{Plays}
-use Rattle.live_checks.specs.Playing.{IsGiven, HearsTimes, Hears, Answers, TurnsOnce, TurnsTimes, PlaysOut}
+use Rattle.live_checks.specs.Playing.{IsGiven, HearsTimes, Hears, Answers, AsksAt, TurnsOnce, TurnsTimes, IsOver, PlaysOut}
 
 -- nothing came
 pub hears_nothing : (was : Player) → Hears was was
@@ -30,7 +29,7 @@ unfolding Hears
 hears_both was between is first then = hears_more then.0 was between is first then.1
 
 -- it was asked, and answered
-pub turned : (now : ℕ) (turn : Turn) (was asked is : Player) → Plays now was asked turn → Answers turn asked is → TurnsOnce was is
+pub turned : (now : ℕ) (turn : Turn) (was asked is : Player) → AsksAt now was asked turn → Answers turn asked is → TurnsOnce was is
 unfolding TurnsOnce
 turned now turn was asked is plays answers = (now, turn, asked, plays, answers)
 
@@ -41,6 +40,10 @@ turns_more count was between is some once =
     subst (λ (n : ℕ). TurnsTimes n was is) more (between, some, once)
 
 -- it is over
-pub plays_out : (count now : ℕ) (was last is : Player) → TurnsTimes count was last → Plays now last is turns.Over → PlaysOut was is
+pub over_now : (now : ℕ) (was is : Player) → AsksAt now was is turns.Over → IsOver was is
+unfolding IsOver
+over_now now was is over = (now, over)
+
+pub plays_out : (count : ℕ) (was last is : Player) → TurnsTimes count was last → IsOver last is → PlaysOut was is
 unfolding PlaysOut
-plays_out count now was last is turns over = (count, last, now, turns, over)
+plays_out count was last is turns over = (count, last, turns, over)

@@ -73,8 +73,9 @@ abbrev pub status_of : Tally → ℕ
 status_of tally = if tally.failed == 0 then 0 else 1
 
 -- it says what came of checks of this gateway that were played from their beginning to their end
-abbrev pub IsStatusOf : CheckSettings → SocketNames → ℕ → Type 0
-IsStatusOf settings names status = (tally : Tally) × Counts settings names nothing_counted tally × (status ≡ status_of tally)
+abbrev pub IsStatusOf : CheckSettings → ℕ → Type 0
+IsStatusOf settings status =
+    (names : SocketNames) × (tally : Tally) × Counts settings names nothing_counted tally × (status ≡ status_of tally)
 
 -- What is told
 

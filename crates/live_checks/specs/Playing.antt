@@ -38,14 +38,22 @@ Answers (turns.Wait until) asked is = Hears asked is
 Answers turns.Act asked is = (heard : Player) × (is_done : Bool) × Hears asked heard × (is ≡ record heard { acted = Some is_done })
 Answers turns.Over asked is = ⊥
 
--- at a moment it is asked, and answered
+-- at a moment it plays on, and asks for this
+unfoldable pub AsksAt : ℕ → Player → Player → Turn → Type 0
+AsksAt now was is turn = Plays now was is turn
+
+-- it is asked, and answered
 unfoldable pub TurnsOnce : Player → Player → Type 0
-TurnsOnce was is = (now : ℕ) × (turn : Turn) × (asked : Player) × Plays now was asked turn × Answers turn asked is
+TurnsOnce was is = (now : ℕ) × (turn : Turn) × (asked : Player) × AsksAt now was asked turn × Answers turn asked is
 
 abbrev pub TurnsTimes : ℕ → Player → Player → Type 0
 TurnsTimes zero was is = is ≡ was
 TurnsTimes (suc count) was is = (between : Player) × TurnsTimes count was between × TurnsOnce between is
 
+-- it plays on, and is over
+unfoldable pub IsOver : Player → Player → Type 0
+IsOver was is = (now : ℕ) × AsksAt now was is turns.Over
+
 -- a check is played until its player says that it is over
 unfoldable pub PlaysOut : Player → Player → Type 0
-PlaysOut was is = (count : ℕ) × (last : Player) × (now : ℕ) × TurnsTimes count was last × Plays now last is turns.Over
+PlaysOut was is = (count : ℕ) × (last : Player) × TurnsTimes count was last × IsOver last is

@@ -3,7 +3,6 @@ ghost use Rattle.std.specs.Prelude.{◌≡◌, [], ◌++◌, true, None, Some, E
 ghost use Rattle.gateway_checks.specs.Reporting.{with_verdict};
 ghost use Rattle.live_outlets.specs.Backlog.{is_kept};
 ghost use Rattle.live_outlets.specs.declared.backlog.TheConstants.{TEXT_ROOM};
-ghost use Rattle.live_checks.specs.declared.checking.SocketNames.{SocketNames};
 ghost use Rattle.live_checks.specs.Checking.{IsBegun, base_behind, verdict_in, CountsOne, Counts, Rests, status_of, IsStatusOf};
 ghost use Rattle.live_checks.specs.Checking.{IsObjectLine, report_data};
 ghost use Rattle.live_checks.specs.Report.{tally_data};
@@ -499,7 +498,7 @@ fn check_from<'a, R: Net + Clock, F: Write + Drop>(
     ends: &mut Ends<'_, R>,
     out: &mut Outlet<F>,
 ) -> Result<Checked, CheckFault>
-    ensures { IfOk result (λ checked. IsStatusOf settings.now names.now checked.status) }
+    ensures { IfOk result (λ checked. IsStatusOf settings.now checked.status) }
 {
     let first = check_of(SERVES);
     let player = player_of(alloc, settings, names, settings.line, base, &first);
@@ -539,7 +538,7 @@ fn check_by<R: AllocGlobal + Net + Clock, F: Write + Drop>(
     ends: &mut Ends<'_, R>,
     out: &mut Outlet<F>,
 ) -> Result<Checked, CheckFault>
-    ensures { IfOk result (λ checked. (names : SocketNames) × IsStatusOf settings.now names checked.status) }
+    ensures { IfOk result (λ checked. IsStatusOf settings.now checked.status) }
 {
     let alloc = rt.alloc();
     let Ok(names) = socket_names(alloc, settings.own, ends.second_port()) else {
@@ -555,7 +554,7 @@ pub fn check_gateway<R: AllocGlobal + Net + Clock, F: Write + Drop>(
     settings: &CheckSettings<'_>,
     out: &mut Outlet<F>,
 ) -> Result<Checked, CheckFault>
-    ensures { IfOk result (λ checked. (names : SocketNames) × IsStatusOf settings.now names checked.status) }
+    ensures { IfOk result (λ checked. IsStatusOf settings.now checked.status) }
 {
     let telephone = settings.telephone;
     match Ends::open(rt, rt.alloc(), settings.gateway, settings.own, telephone) {

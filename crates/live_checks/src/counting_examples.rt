@@ -21,7 +21,7 @@ ghost use Rattle.live_checks.specs.declared.checking.CheckSettings.{CheckSetting
 ghost use Rattle.live_checks.specs.declared.checking.SocketNames.{SocketNames};
 ghost use Rattle.live_checks.specs.Checking.{IsBegun, base_behind, verdict_in, CountsPlayed, CountsOne, CountsTimes, Counts, nothing_counted};
 ghost use Rattle.live_checks.specs.Checking.{status_of, IsStatusOf, IsObjectLine};
-ghost use Rattle.live_checks.specs.Playing.{first_of, IsGiven, HearsTimes, Hears, Answers, TurnsOnce, TurnsTimes, PlaysOut};
+ghost use Rattle.live_checks.specs.Playing.{first_of, IsGiven, HearsTimes, Hears, Answers, AsksAt, TurnsOnce, TurnsTimes, IsOver, PlaysOut};
 
 /// Each sentence at an example.
 pub fn how_a_check_is_played_has_examples()
@@ -41,12 +41,14 @@ pub fn how_a_check_is_played_has_examples()
         → (heard : Player) × (is_done : Bool) × Hears asked heard × (is ≡ record heard { acted = Some is_done }) }
     ensures over { (asked is : Player) → Answers turns.Over asked is → ⊥ }
     ensures turn { (was is : Player) → TurnsOnce was is
-        → (now : ℕ) × (turn : Turn) × (asked : Player) × Plays now was asked turn × Answers turn asked is }
+        → (now : ℕ) × (turn : Turn) × (asked : Player) × AsksAt now was asked turn × Answers turn asked is }
+    ensures asked { (now : ℕ) (was is : Player) (turn : Turn) → AsksAt now was is turn → Plays now was is turn }
     ensures none { (was is : Player) → TurnsTimes 0 was is → is ≡ was }
     ensures once { (was is : Player) → TurnsTimes 1 was is → (between : Player) × (between ≡ was) × TurnsOnce between is }
     // It is played until it is over.
     ensures plays { (was is : Player) → PlaysOut was is
-        → (count : ℕ) × (last : Player) × (now : ℕ) × TurnsTimes count was last × Plays now last is turns.Over }
+        → (count : ℕ) × (last : Player) × TurnsTimes count was last × IsOver last is }
+    ensures is_over { (was is : Player) → IsOver was is → (now : ℕ) × AsksAt now was is turns.Over }
 {}
 
 /// Each sentence at an example.
@@ -95,8 +97,8 @@ pub fn what_counts_has_examples()
     ensures none_failed { status_of (record { passed = 3; failed = 0; left_open = 1; not_supported = 1; not_played = 1 }) ≡ 0 }
     ensures failed { status_of (record { passed = 3; failed = 1; left_open = 0; not_supported = 0; not_played = 0 }) ≡ 1 }
     ensures failed_twice { status_of (record { passed = 3; failed = 2; left_open = 0; not_supported = 0; not_played = 0 }) ≡ 1 }
-    ensures status { (settings : CheckSettings) (names : SocketNames) (status : ℕ) → IsStatusOf settings names status
-        → (tally : Tally) × Counts settings names nothing_counted tally × (status ≡ status_of tally) }
+    ensures status { (settings : CheckSettings) (status : ℕ) → IsStatusOf settings status
+        → (names : SocketNames) × (tally : Tally) × Counts settings names nothing_counted tally × (status ≡ status_of tally) }
     // An object has its line.
     ensures line { (told : Data) (line : List ℕ) → IsObjectLine told line
         → (object : List ℕ) × IsInOrder object told × (line ≡ object ++ codes "\n") }

@@ -1,8 +1,7 @@
 //! The two sockets of a check, the one by which telephones are worked, and the clock.
-ghost use Rattle.std.specs.Prelude.{◌≡◌, true, false, None};
+ghost use Rattle.std.specs.Prelude.{◌≡◌, true, false, None, IfSome};
 ghost use Rattle.check_player.specs.declared.player.Turn.TheVariants as turns;
-ghost use Rattle.check_player.specs.Turning.{Plays};
-ghost use Rattle.live_checks.specs.Playing.{first_of, Hears, TurnsOnce, PlaysOut};
+ghost use Rattle.live_checks.specs.Playing.{first_of, Hears, AsksAt, TurnsOnce, IsOver, PlaysOut};
 
 use crate::check_fault::CheckFault;
 use crate::telephone::Telephone;
@@ -172,6 +171,16 @@ fn told_by(socket: &UdpSocket, telephone: SocketAddrV4) -> Told {
         }
         Some(_) => Told::Other,
         None => Told::Nothing,
+    }
+}
+
+// What the player asks for at this moment; nothing where memory was refused.
+fn asked(player: &mut Box<Player<'_>>, now: u64) -> Option<Turn>
+    ensures { IfSome result (λ turn. AsksAt now player.old.value player.new.value turn) }
+{
+    match player.turn(now) {
+        Ok(turn) => Some(turn),
+        Err(_) => None,
     }
 }
 
@@ -398,40 +407,52 @@ impl<'a, R: Net + Clock> Ends<'a, R> {
     #[tactic(auto, using(crate::proofs::PlayLemmas::turned))]
     fn turn(&mut self, player: &mut Box<Player<'_>>, now: u64) -> bool
         ensures turns { result ≡ true → self.new.fault ≡ None → TurnsOnce player.old.value player.new.value }
-        ensures over { result ≡ false → Plays now player.old.value player.new.value turns.Over }
+        ensures over { result ≡ false → AsksAt now player.old.value player.new.value turns.Over }
     {
-        match player.turn(now) {
-            Ok(Turn::Send { from }) => {
+        match asked(player, now) {
+            Some(Turn::Send { from }) => {
                 self.send(from, player.sent());
                 true
             }
-            Ok(Turn::Wait { until }) => {
+            Some(Turn::Wait { until }) => {
                 self.hear(player, until);
                 true
             }
-            Ok(Turn::Act) => {
+            Some(Turn::Act) => {
                 let is_done = self.act(player, now);
                 player.acted(is_done);
                 true
             }
-            Ok(Turn::Over) => false,
-            Err(_) => {
+            Some(Turn::Over) => false,
+            None => {
                 self.keep(Some(CheckFault::OutOfMemory));
                 true
             }
         }
     }
 
+    // Does so now, unless something has failed.
+    #[tactic(auto, using(crate::proofs::PlayLemmas::over_now))]
+    fn go_on(&mut self, player: &mut Box<Player<'_>>) -> bool
+        ensures still { result ≡ true → self.new.fault ≡ None → self.old.fault ≡ None }
+        ensures turns { result ≡ true → self.new.fault ≡ None → TurnsOnce player.old.value player.new.value }
+        ensures still_over { result ≡ false → self.new.fault ≡ None → self.old.fault ≡ None }
+        ensures over { result ≡ false → self.new.fault ≡ None → IsOver player.old.value player.new.value }
+    {
+        let now = self.now();
+        if self.fault.is_some() {
+            return false;
+        }
+        self.turn(player, now)
+    }
+
     /// Plays a check to its end, or until something fails.
+    #[tactic(auto, using(crate::proofs::PlayLemmas::turns_more, crate::proofs::PlayLemmas::plays_out))]
     pub(crate) fn play(&mut self, player: &mut Box<Player<'_>>)
         ensures { self.new.fault ≡ None → PlaysOut player.old.value player.new.value }
     {
         for _ in 0..u64::MAX {
-            let now = self.now();
-            if self.fault.is_some() {
-                return;
-            }
-            if !self.turn(player, now) {
+            if !self.go_on(player) {
                 return;
             }
         }

@@ -3,4 +3,4 @@ use Rattle.live_checks.proofs.checking.find.Given as goal
 
 -- other checks were begun
 abbrev pub invariant-loop : goal.invariant-loop
-invariant-loop l = l.checking ≡ record l.fn.checking { player = l.checking.player; base = l.checking.base }
+invariant-loop g l = l.checking ≡ record l.fn.checking { player = l.checking.player; base = l.checking.base }

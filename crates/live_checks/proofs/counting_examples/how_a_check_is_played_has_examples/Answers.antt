@@ -1,4 +1,4 @@
-use Rattle.live_checks.specs.Playing.{Hears, TurnsOnce, PlaysOut}
+use Rattle.live_checks.specs.Playing.{Hears, AsksAt, TurnsOnce, IsOver, PlaysOut}
 use Rattle.live_checks.proofs.counting_examples.how_a_check_is_played_has_examples.Goals as goal
 
 pub returns-clause-given : goal.returns-clause-given
@@ -30,11 +30,19 @@ pub returns-clause-turn : goal.returns-clause-turn
 unfolding TurnsOnce
 returns-clause-turn c = λ was is turns. turns
 
+pub returns-clause-asked : goal.returns-clause-asked
+unfolding AsksAt
+returns-clause-asked c = λ now was is turn asks. asks
+
 pub returns-clause-none : goal.returns-clause-none
 returns-clause-none c = λ was is same. same
 
 pub returns-clause-once : goal.returns-clause-once
 returns-clause-once c = λ was is turns. turns
+
+pub returns-clause-is_over : goal.returns-clause-is_over
+unfolding IsOver
+returns-clause-is_over c = λ was is over. over
 
 pub returns-clause-plays : goal.returns-clause-plays
 unfolding PlaysOut

@@ -19,7 +19,7 @@ unfolding Counts
 returns-clause-all c = λ settings names was is counts. counts
 
 pub returns-clause-status : goal.returns-clause-status
-returns-clause-status c = λ settings names status is. is
+returns-clause-status c = λ settings status is. is
 
 pub returns-clause-line : goal.returns-clause-line
 returns-clause-line c = λ told line is. is

@@ -4,4 +4,4 @@ use Rattle.live_checks.proofs.ends.Ends.play.Given as goal
 
 -- unless something has failed, so many turns were played
 abbrev pub invariant-loop : goal.invariant-loop
-invariant-loop l = l.self.fault ≡ None → TurnsTimes l.counter l.fn.player.value l.player.value
+invariant-loop g l = l.self.fault ≡ None → TurnsTimes l.counter l.fn.player.value l.player.value
