@@ -41,12 +41,12 @@ ended_so moment load is_over was is over ends = ends ∙ ap (λ (one : Bool). en
 
 module _ {S : Type 0} (answers : S → SocketAddr → List ℕ → S → Type 0) where
   -- one more of these is said
-  pub says_next : (orders : List Said) (place : ℕ) (said : Said) (told rest : Bool) (was between is : S) → place < length orders
-      → said ≡ get_or orders place said → SaysOne answers said told was between → SaysEach answers (drop (place + 1) orders) rest between is
+  pub says_next : (orders : List Said) (place : ℕ) (other : Said) (told rest : Bool) (was between is : S) → place < length orders
+      → SaysOne answers (get_or orders place other) told was between → SaysEach answers (drop (place + 1) orders) rest between is
       → SaysEach answers (drop place orders) (told && rest) was is
-  says_next orders place said told rest was between is within item first more =
-      subst (λ (left : List Said). SaysEach answers left (told && rest) was is) (sym (drop_more orders place said within))
-      (told, rest, between, subst (λ (one : Said). SaysOne answers one told was between) item first, more, refl)
+  says_next orders place other told rest was between is within first more =
+      subst (λ (left : List Said). SaysEach answers left (told && rest) was is) (sym (drop_more orders place other within))
+      (told, rest, between, first, more, refl)
 
   pub says_more : (orders : List Said) (all told both rest : Bool) (was is : S) → both ≡ (all && told)
       → SaysEach answers orders (all && (told && rest)) was is → SaysEach answers orders (both && rest) was is

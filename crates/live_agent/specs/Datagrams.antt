@@ -1,5 +1,5 @@
 -- What a datagram does at a board and over a wire.
-use Rattle.std.specs.Prelude.{◌≡◌, ◌/◌, ⊤, ℕ, zero, suc, Bool, true, false, is_some, position, List, [], ◌∷◌, take, Option, Some, None, IfNone, IfOk, OnErr, Result, Ok, slice_get}
+use Rattle.std.specs.Prelude.{◌≡◌, ⊤, ℕ, zero, suc, Bool, true, false, is_some, position, List, [], ◌∷◌, take, Option, Some, None, IfNone, IfOk, OnErr, Result, Ok, slice_get}
 use Rattle.std.specs.Result.{result_err}
 use Rattle.std.specs.declared.net.socket_addr.SocketAddrV4.{SocketAddrV4}
 use Rattle.agent_texts.specs.declared.tally.Tally.{Tally}
@@ -16,7 +16,7 @@ use Rattle.transmission.specs.declared.output.OutDatagram.{OutDatagram}
 use Rattle.transmission.specs.Texts.{texts_of}
 use Rattle.switchboard.specs.declared.switchboard.Switchboard.{Switchboard}
 use Rattle.load_bench.specs.Telephones.{CountsCame}
-use Rattle.live_agent.specs.declared.serving.TheConstants.{MICROSECONDS}
+use Rattle.live_agent.specs.Clock.{milliseconds}
 use Rattle.live_agent.specs.declared.wire.Wire.{Wire}
 use Rattle.switchboard.specs.Boards.{is_at, taking_in}
 use Rattle.switchboard.specs.Hearing.{HearsText}
@@ -136,7 +136,7 @@ pub record HearsDatagram {S : Type 0} (sends : S → SocketAddrV4 → List ℕ �
   pub records : OnlyRecords was.journal.value came.journal.value
   pub leaves : came ≡ record was { journal = came.journal; load = came.load }
   pub load : is_some came.load ≡ is_some was.load
-  pub counts_for : CountsFor (CountsCame source bytes (was.now.time / MICROSECONDS)) was.load came.load
+  pub counts_for : CountsFor (CountsCame source bytes (milliseconds was.now.time)) was.load came.load
   pub hears : HearsBy sends (position (is_at source) board.gateways.items) source bytes board came now is
 
 -- Where it came from

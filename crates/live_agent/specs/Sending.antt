@@ -1,6 +1,6 @@
 -- What goes over a wire where lines are settled, and where an agent says something: datagrams that are sent one behind another, of which
 -- each counts once.
-use Rattle.std.specs.Prelude.{◌≡◌, ◌/◌, ⊤, ℕ, Bool, true, false, is_some, List, [], ◌∷◌, Option, Some, None, Result, Ok, Err}
+use Rattle.std.specs.Prelude.{◌≡◌, ⊤, ℕ, Bool, true, false, is_some, List, [], ◌∷◌, Option, Some, None, Result, Ok, Err}
 use Rattle.std.specs.declared.net.socket_addr.SocketAddrV4.{SocketAddrV4}
 use Rattle.agent_texts.specs.Counts.{with_handed_out}
 use Rattle.bad_network.specs.declared.network.BadNetwork.{BadNetwork}
@@ -10,7 +10,7 @@ use Rattle.surroundings.specs.declared.surroundings.Fault.{Fault}
 use Rattle.transmission.specs.declared.output.OutDatagram.{OutDatagram}
 use Rattle.switchboard.specs.declared.switchboard.Switchboard.{Switchboard}
 use Rattle.load_bench.specs.Telephones.{CountsSent as CountsForLoad}
-use Rattle.live_agent.specs.declared.serving.TheConstants.{MICROSECONDS}
+use Rattle.live_agent.specs.Clock.{milliseconds}
 use Rattle.live_agent.specs.declared.wire.Wire.{Wire}
 use Rattle.live_agent.specs.Handing.{Leaves, OffersTo}
 use Rattle.live_agent.specs.Telephones.{CountsFor}
@@ -44,7 +44,7 @@ pub record SendsOne {S : Type 0} (sends : S → SocketAddrV4 → List ℕ → Re
   pub noted : Wire S
   pub notes : noted.journal.value.tally ≡ with_handed_out is_repeat was.journal.value.tally
   pub records : OnlyRecords was.journal.value noted.journal.value
-  pub load : CountsFor (CountsForLoad to bytes is_repeat (was.now.time / MICROSECONDS)) was.load noted.load
+  pub load : CountsFor (CountsForLoad to bytes is_repeat (milliseconds was.now.time)) was.load noted.load
   pub rest : noted ≡ record was { journal = noted.journal; load = noted.load }
   pub goes : GoesOut sends to bytes was.network noted is
 

@@ -1,5 +1,5 @@
 -- What a load makes of time, and of what its telephones say: what is said to them then, and whether it is over.
-use Rattle.std.specs.Prelude.{◌≡◌, ◌⊎◌, ◌/◌, ℕ, Bool, true, false, ◌&&◌, if◌then◌else◌, is_some, take, List, [], ◌∷◌, Option, Some, None}
+use Rattle.std.specs.Prelude.{◌≡◌, ◌⊎◌, ℕ, Bool, true, false, ◌&&◌, if◌then◌else◌, is_some, take, List, [], ◌∷◌, Option, Some, None}
 use Rattle.std.specs.Global.{Box}
 use Rattle.std.specs.declared.net.socket_addr.SocketAddr.{SocketAddr}
 use Rattle.std.specs.declared.net.socket_addr.SocketAddr.TheVariants.{V4}
@@ -16,7 +16,7 @@ use Rattle.live_ends.specs.declared.ending.CommonEnding.{CommonEnding}
 use Rattle.live_agent.specs.declared.loading.Load.{Load}
 use Rattle.live_agent.specs.declared.loading.LoadEnding.{LoadEnding}
 use Rattle.live_agent.specs.declared.loading.LoadEnding.TheVariants.{Unmade, Made}
-use Rattle.live_agent.specs.declared.serving.TheConstants.{MICROSECONDS}
+use Rattle.live_agent.specs.Clock.{milliseconds}
 use Rattle.live_agent.specs.declared.wire.Wire.{Wire}
 use Rattle.live_agent.specs.Wiring.{with_read}
 
@@ -166,7 +166,7 @@ ending_in None = Unmade OutOfMemory
 ending_in (Some load) = load_ending load.value.bench.value
 
 pub record EndsLoad {S : Type 0} (answers : S → SocketAddr → List ℕ → S → Type 0) (was : Wire S) (ending : LoadEnding) (is : Wire S) : Type 0 where
-  pub says : OfLoad (SaysAndReports answers (was.now.time / MICROSECONDS) was.around is.around) was.load is.load
+  pub says : OfLoad (SaysAndReports answers (milliseconds was.now.time) was.around is.around) was.load is.load
   pub ends : ending ≡ ending_in is.load
   pub journal : is.journal.value ≡ record was.journal.value { told = is.journal.value.told }
   pub rest : is ≡ record was { around = is.around; journal = is.journal; load = is.load }

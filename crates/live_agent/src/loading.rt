@@ -1,9 +1,9 @@
 //! Makes a load: calls at a rate between the telephones of gateways, which another call agent serves, or this program's own exchange.
-ghost use Rattle.std.specs.Prelude.{◌≡◌, ◌≤◌, ◌/◌, ◌&&◌, true, false, is_some, length, take, IfOk};
+ghost use Rattle.std.specs.Prelude.{◌≡◌, ◌≤◌, ◌&&◌, true, false, is_some, length, take, IfOk};
 ghost use Rattle.load_bench.specs.declared.settings.LoadFault.TheVariants.{OutOfMemory};
 ghost use Rattle.load_bench.specs.Over.{bench_over};
 ghost use Rattle.load_bench.specs.Telephones.{CountsCame, CountsSent, Hears};
-ghost use Rattle.live_agent.specs.declared.serving.TheConstants.{MICROSECONDS};
+ghost use Rattle.live_agent.specs.Clock.{milliseconds};
 ghost use Rattle.live_agent.specs.declared.loading.LoadEnding.TheVariants.{Unmade};
 ghost use Rattle.live_agent.specs.Telephones.{end_of, load_ending, BeginsLoad, CountsFor, EndsLoad, HearsOnce, HearsTelephones, PassesLoad, Reports};
 ghost use Rattle.live_agent.specs.Telephones.{SaysAll, SaysEach, SaysEnded, SaysOne, SaysPassed};
@@ -46,6 +46,13 @@ pub(crate) struct Load {
     room: Vec<u8>,
 }
 
+// So many ms, of microseconds.
+fn milliseconds(time: u64) -> u64
+    ensures { result ≡ milliseconds time }
+{
+    time / MICROSECONDS
+}
+
 /// A datagram is sent at this time, in microseconds, for the first time or again: that is counted, where a load is made.
 pub(crate) fn count_sent(
     load: &mut Option<Box<Load>>,
@@ -55,13 +62,14 @@ pub(crate) fn count_sent(
     is_repeat: bool,
 )
     ensures made { is_some load.new ≡ is_some load.old }
-    ensures counts { CountsFor (CountsSent to bytes.now is_repeat (time / MICROSECONDS)) load.old load.new }
+    ensures counts { CountsFor (CountsSent to bytes.now is_repeat (milliseconds time)) load.old load.new }
 {
     let Some(load) = load else {
         return;
     };
     let load = &mut **load;
-    load.bench.sent(to, bytes, is_repeat, time / MICROSECONDS);
+    let now = milliseconds(time);
+    load.bench.sent(to, bytes, is_repeat, now);
 }
 
 /// A datagram came at this time, in microseconds: that is counted, where a load is made.
@@ -72,13 +80,14 @@ pub(crate) fn count_came(
     bytes: &[u8],
 )
     ensures made { is_some load.new ≡ is_some load.old }
-    ensures counts { CountsFor (CountsCame source bytes.now (time / MICROSECONDS)) load.old load.new }
+    ensures counts { CountsFor (CountsCame source bytes.now (milliseconds time)) load.old load.new }
 {
     let Some(load) = load else {
         return;
     };
     let load = &mut **load;
-    load.bench.came(source, bytes, time / MICROSECONDS);
+    let now = milliseconds(time);
+    load.bench.came(source, bytes, now);
 }
 
 // This is said to the telephones for which it is: whether memory was there for its text.
@@ -129,17 +138,17 @@ fn say_all<S: Surroundings>(alloc: Global, around: &mut S, bench: &mut Bench)
 fn pass<S: Surroundings>(
     alloc: Global,
     around: &mut S,
-    load: &mut Load,
+    bench: &mut Bench,
     out: &mut Vec<u8>,
     moment: u64,
 ) -> bool
-    ensures over { result ≡ bench_over moment load.new.bench.value }
-    ensures says { SaysPassed S.answers moment around.old around.new load.old.bench.value load.new.bench.value }
+    ensures over { result ≡ bench_over moment bench.new }
+    ensures says { SaysPassed S.answers moment around.old around.new bench.old bench.new }
 {
-    load.bench.pass(moment);
-    load.bench.tell_progress(out, moment);
-    say_all(alloc, around, &mut load.bench);
-    load.bench.is_over(moment)
+    bench.pass(moment);
+    bench.tell_progress(out, moment);
+    say_all(alloc, around, bench);
+    bench.is_over(moment)
 }
 
 // Telephones said what stands in this room, so long, and from here, at this moment, in ms.
@@ -151,14 +160,20 @@ fn hear_found(bench: &mut Bench, found: (SocketAddr, usize), room: &[u8], moment
 }
 
 // Takes a datagram of telephones at this moment, in ms, if one has come: whether one had.
-fn hear<S: Surroundings>(alloc: Global, around: &mut S, load: &mut Load, moment: u64) -> bool
-    ensures { HearsOnce S.hears S.answers moment result around.old around.new load.old.bench.value load.new.bench.value }
+fn hear<S: Surroundings>(
+    alloc: Global,
+    around: &mut S,
+    bench: &mut Bench,
+    room: &mut [u8],
+    moment: u64,
+) -> bool
+    ensures { HearsOnce S.hears S.answers moment result around.old around.new bench.old bench.new }
 {
-    let Some(found) = around.hear(load.room.as_mut_slice()) else {
+    let Some(found) = around.hear(room) else {
         return false;
     };
-    hear_found(&mut load.bench, found, load.room.as_slice(), moment);
-    say_all(alloc, around, &mut load.bench);
+    hear_found(bench, found, room, moment);
+    say_all(alloc, around, bench);
     true
 }
 
@@ -177,23 +192,23 @@ fn end_of(is_over: bool, end: Option<u64>) -> Option<u64>
 }
 
 // A load is over, at this moment of the clock by which commands are counted, in ms: telephones are to tell nothing more.
-fn end<S: Surroundings>(alloc: Global, around: &mut S, load: &mut Load, now: u64)
-    ensures { SaysEnded S.answers now around.old around.new load.old.bench.value load.new.bench.value }
+fn end<S: Surroundings>(alloc: Global, around: &mut S, bench: &mut Bench, now: u64)
+    ensures { SaysEnded S.answers now around.old around.new bench.old bench.new }
 {
-    load.bench.end(now);
-    say_all(alloc, around, &mut load.bench);
+    bench.end(now);
+    say_all(alloc, around, bench);
 }
 
 // What came of a load, whose report is put here: by a configuration in a file of this name, whose call agent is there.
-fn report(load: &mut Load, out: &mut Vec<u8>, file: &str, agent: &str) -> LoadEnding
-    ensures ending { result ≡ load_ending load.new.bench.value }
-    ensures reports { Reports load.old.bench.value load.new.bench.value }
+fn report(bench: &mut Bench, out: &mut Vec<u8>, file: &str, agent: &str) -> LoadEnding
+    ensures ending { result ≡ load_ending bench.new }
+    ensures reports { Reports bench.old bench.new }
 {
-    load.bench.put_report(out, file, agent);
-    match load.bench.fault() {
+    bench.put_report(out, file, agent);
+    match bench.fault() {
         Some(fault) => LoadEnding::Unmade(fault),
         None => LoadEnding::Made {
-            is_enough: load.bench.is_enough(),
+            is_enough: bench.is_enough(),
         },
     }
 }
@@ -217,8 +232,9 @@ impl<S: Surroundings + Drop> Wire<S> {
             return;
         };
         let load = &mut **load;
+        let bench = &mut *load.bench;
         let out = &mut self.journal.log.out;
-        let is_over = pass(alloc, &mut self.around, load, out, moment);
+        let is_over = pass(alloc, &mut self.around, bench, out, moment);
         self.end = end_of(is_over, self.end);
     }
 
@@ -232,9 +248,12 @@ impl<S: Surroundings + Drop> Wire<S> {
             return false;
         };
         let load = &mut **load;
-        let taken = hear(alloc, &mut self.around, load, moment);
+        let bench = &mut *load.bench;
+        let room = load.room.as_mut_slice();
+        let taken = hear(alloc, &mut self.around, bench, room, moment);
+        let is_over = bench.is_over(moment);
         self.read = with_read(taken, self.read);
-        self.end = end_of(load.bench.is_over(moment), self.end);
+        self.end = end_of(is_over, self.end);
         true
     }
 
@@ -248,8 +267,10 @@ impl<S: Surroundings + Drop> Wire<S> {
             return LoadEnding::Unmade(LoadFault::OutOfMemory);
         };
         let load = &mut **load;
-        end(alloc, &mut self.around, load, self.now.time / MICROSECONDS);
-        report(load, &mut self.journal.told.out, file, agent)
+        let bench = &mut *load.bench;
+        let out = &mut self.journal.told.out;
+        end(alloc, &mut self.around, bench, milliseconds(self.now.time));
+        report(bench, out, file, agent)
     }
 }
 
@@ -270,11 +291,15 @@ fn bench_of(
     Ok(bench)
 }
 
-// A load of this bench's.
-fn load_of(alloc: Global, bench: Box<Bench>) -> Result<Box<Load>, OutOfMemory>
+// The room for what telephones say.
+fn room_of(alloc: Global) -> Result<Vec<u8>, OutOfMemory> {
+    vec![in alloc; 0u8; ROOM]
+}
+
+// A load of this bench's, with this room for what telephones say.
+fn load_of(alloc: Global, bench: Box<Bench>, room: Vec<u8>) -> Result<Box<Load>, OutOfMemory>
     ensures { IfOk result (λ load. load.value.bench ≡ bench) }
 {
-    let room = vec![in alloc; 0u8; ROOM]?;
     boxed(alloc, Load { bench, room })
 }
 
@@ -293,8 +318,11 @@ fn begin<S: Surroundings + Drop>(
     let Ok(mut bench) = bench_of(alloc, config, settings, now) else {
         return Some(CommonEnding::OutOfMemory);
     };
-    say_all(alloc, &mut wire.around, &mut bench);
-    let Ok(load) = load_of(alloc, bench) else {
+    say_all(alloc, &mut wire.around, &mut *bench);
+    let Ok(room) = room_of(alloc) else {
+        return Some(CommonEnding::OutOfMemory);
+    };
+    let Ok(load) = load_of(alloc, bench, room) else {
         return Some(CommonEnding::OutOfMemory);
     };
     wire.load = Some(load);

@@ -71,6 +71,4 @@ returns-clause-looks_for_one c = λ board now was is looks none.
 
 pub returns-clause-nobody_steps : goal.returns-clause-nobody_steps
 returns-clause-nobody_steps c = λ source outputs board now none steps.
-    let nobody : IfNone (slice_get [] 0) (outputs ≡ Ok [])
-    = subst (λ (gateways : List Gateway). IfNone (slice_get gateways 0) (outputs ≡ Ok [])) none steps.nobody in
-    nobody
+    subst (λ (gateways : List Gateway). IfNone (slice_get gateways 0) (outputs ≡ Ok [])) none steps.nobody

@@ -28,7 +28,7 @@ returns-clause-as_it_is c = λ to was is none one.
     leaves.handed
 
 pub returns-clause-to_the_network : goal.returns-clause-to_the_network
-returns-clause-to_the_network c = λ to network was is goes. ap (λ (wire : Wire ℕ). wire.around) goes.1
+returns-clause-to_the_network c = λ to network was is goes. ap (λ (wire : Wire ℕ). wire.around) goes.2
 
 pub returns-clause-all : goal.returns-clause-all
 returns-clause-all c = λ datagram was is all. (all.0, all.1)
@@ -54,7 +54,7 @@ returns-clause-none_settled c = λ board now was is sends none.
     issues.0
 
 pub returns-clause-refused_too : goal.returns-clause-refused_too
-returns-clause-refused_too c = λ fault was is refused. refused.1
+returns-clause-refused_too c = λ fault was is refused. ap (λ (journal : Journal). journal.tally) refused.1
 
 pub returns-clause-issued : goal.returns-clause-issued
 returns-clause-issued c = λ issued was is sends. sends

@@ -6,9 +6,10 @@ use Rattle.live_agent.proofs.loading.begin.Goals as goal
 
 pub returns : goal.returns
 returns g c = (
-  _,
-  subst (λ (bench : Box Bench). SaysAll g.S.Surroundings.answers c.args.wire.now.around _ c.say_all.new.around bench.value) (sym c.in-Ok-load_of.ensures)
-      c.say_all.ensures,
+  c.in-Ok-bench_of.bench.value,
+  subst
+      (λ (bench : Box Bench). SaysAll g.S.Surroundings.answers c.args.wire.now.around c.in-Ok-bench_of.bench.value c.say_all.new.around bench.value)
+      (sym c.in-Ok-load_of.ensures) (rw (c.deref_mut.ensures.value) at c.say_all.ensures),
   refl,
   refl,
 )

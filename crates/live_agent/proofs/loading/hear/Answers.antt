@@ -1,4 +1,4 @@
-use Rattle.std.proofs.Common.{◌≡◌, Some, None, refl, rules}
+use Rattle.std.proofs.Common.{Some, None, refl}
 use Rattle.live_agent.proofs.loading.hear.Goals as goal
 
 pub returns-in_default : goal.returns-in_default
@@ -12,13 +12,11 @@ returns-in_default g c = record {
 }
 
 pub returns : goal.returns
-returns g c =
-    let room : c.as_slice.result.now ≡ c.hear.new.room = search rules in
-    record {
-      found = Some c.in-Some.found;
-      room = c.hear.new.room;
-      looked = c.hear.new.self;
-      looks = c.in-Some.ensures.looked;
-      is_taken = refl;
-      says = (c.hear_found.new.bench, (rw room at c.hear_found.ensures) c.in-Some.ensures.within, c.say_all.ensures);
-    }
+returns g c = record {
+  found = Some c.in-Some.found;
+  room = c.hear.new.room;
+  looked = c.hear.new.self;
+  looks = c.in-Some.ensures.looked;
+  is_taken = refl;
+  says = (c.hear_found.new.bench, c.hear_found.ensures c.in-Some.ensures.within, c.say_all.ensures);
+}

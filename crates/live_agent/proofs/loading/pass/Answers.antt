@@ -1,11 +1,10 @@
-use Rattle.std.proofs.Common.{refl}
 use Rattle.live_agent.proofs.loading.pass.Goals as goal
 
 pub returns-clause-says : goal.returns-clause-says
 returns-clause-says g c = record {
   passed = c.pass.new.self;
   told = c.tell_progress.new.self;
-  passes = rw (c.deref_mut.ensures.value) at c.pass.ensures;
+  passes = c.pass.ensures;
   tells = c.tell_progress.ensures.told;
   rest = c.tell_progress.ensures.rest;
   says = c.say_all.ensures;

@@ -9,7 +9,7 @@ loop-said-preserved g c = λ rest is says.
     says_more g.S.Surroundings.answers c.args.orders.now c.loop-said.all c.say_one-told.result _ rest c.args.around.now is c.are_both-all.ensures
     (c.loop-said.invariant _ is
     (says_next g.S.Surroundings.answers c.args.orders.now c.loop-said.said-index _ c.say_one-told.result rest c.loop-said.around c.say_one-told.new.around is
-    c.loop-said-test.true c.said-item.is c.say_one-told.ensures says))
+    c.loop-said-test.true c.say_one-told.ensures says))
 
 pub returns : goal.returns
 returns g c =

@@ -1,14 +1,14 @@
 use Rattle.std.proofs.Common.{refl}
-use Rattle.live_agent.specs.declared.serving.TheConstants.{MICROSECONDS}
-use Rattle.std.specs.Prelude.{◌/◌}
+use Rattle.live_agent.specs.Clock.{milliseconds}
 use Rattle.live_agent.proofs.TelephoneLemmas.{of_load}
 use Rattle.live_agent.specs.Telephones.{SaysAndReports}
 use Rattle.live_agent.proofs.wire.Wire.end_load.Goals as goal
 
 pub returns-clause-ends : goal.returns-clause-ends
 returns-clause-ends g c = λ made. record {
-  says = of_load (SaysAndReports g.S.Surroundings.answers (c.args.self.now.now.time / MICROSECONDS) c.args.self.now.around c.end.new.around) c.args.self.now.load c.in-Some.load
-      _ c.in-Some.is (c.end.new.load.bench.value, c.end.ensures, c.report.ensures.reports);
+  says = of_load (SaysAndReports g.S.Surroundings.answers (milliseconds c.args.self.now.now.time) c.args.self.now.around c.end.new.around)
+      c.args.self.now.load c.in-Some.load _ c.in-Some.is
+      (c.end.new.bench, rw (c.deref_mut-bench.ensures.value, c.deref_mut-load.ensures.value, c.milliseconds.ensures) at c.end.ensures, c.report.ensures.reports);
   ends = c.report.ensures.ending;
   journal = refl;
   rest = refl;
