@@ -31,11 +31,15 @@ Hears was is = (count : ℕ) × HearsTimes count was is
 
 -- A turn
 
--- what it asks for is done: it hears what comes while it waits, and once an act was done, or couldn't be, that is told to it
+-- it hears what comes meanwhile, and whether the act was done, or couldn't be, is told to it
+unfoldable pub IsActedFor : Player → Player → Type 0
+IsActedFor was is = (heard : Player) × (is_done : Bool) × Hears was heard × (is ≡ record heard { acted = Some is_done })
+
+-- what it asks for is done: it hears what comes while it waits
 abbrev pub Answers : Turn → Player → Player → Type 0
 Answers (turns.Send from) asked is = is ≡ asked
 Answers (turns.Wait until) asked is = Hears asked is
-Answers turns.Act asked is = (heard : Player) × (is_done : Bool) × Hears asked heard × (is ≡ record heard { acted = Some is_done })
+Answers turns.Act asked is = IsActedFor asked is
 Answers turns.Over asked is = ⊥
 
 -- at a moment it plays on, and asks for this

@@ -21,7 +21,7 @@ ghost use Rattle.live_checks.specs.declared.checking.CheckSettings.{CheckSetting
 ghost use Rattle.live_checks.specs.declared.checking.SocketNames.{SocketNames};
 ghost use Rattle.live_checks.specs.Checking.{IsBegun, base_behind, verdict_in, CountsPlayed, CountsOne, CountsTimes, Counts, nothing_counted};
 ghost use Rattle.live_checks.specs.Checking.{status_of, IsStatusOf, IsObjectLine};
-ghost use Rattle.live_checks.specs.Playing.{first_of, IsGiven, HearsTimes, Hears, Answers, AsksAt, TurnsOnce, TurnsTimes, IsOver, PlaysOut};
+ghost use Rattle.live_checks.specs.Playing.{first_of, IsGiven, HearsTimes, Hears, IsActedFor, Answers, AsksAt, TurnsOnce, TurnsTimes, IsOver, PlaysOut};
 
 /// Each sentence at an example.
 pub fn how_a_check_is_played_has_examples()
@@ -37,7 +37,8 @@ pub fn how_a_check_is_played_has_examples()
     // What is asked for is done, and told.
     ensures sends { (at : Socket) (asked is : Player) → Answers (turns.Send at) asked is → is ≡ asked }
     ensures waits { (until : ℕ) (asked is : Player) → Answers (turns.Wait until) asked is → Hears asked is }
-    ensures acts { (asked is : Player) → Answers turns.Act asked is
+    ensures acts { (asked is : Player) → Answers turns.Act asked is → IsActedFor asked is }
+    ensures acted { (asked is : Player) → IsActedFor asked is
         → (heard : Player) × (is_done : Bool) × Hears asked heard × (is ≡ record heard { acted = Some is_done }) }
     ensures over { (asked is : Player) → Answers turns.Over asked is → ⊥ }
     ensures turn { (was is : Player) → TurnsOnce was is

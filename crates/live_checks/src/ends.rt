@@ -1,7 +1,7 @@
 //! The two sockets of a check, the one by which telephones are worked, and the clock.
 ghost use Rattle.std.specs.Prelude.{◌≡◌, true, false, None, IfSome};
 ghost use Rattle.check_player.specs.declared.player.Turn.TheVariants as turns;
-ghost use Rattle.live_checks.specs.Playing.{first_of, Hears, AsksAt, TurnsOnce, IsOver, PlaysOut};
+ghost use Rattle.live_checks.specs.Playing.{first_of, Hears, IsActedFor, AsksAt, TurnsOnce, IsOver, PlaysOut};
 
 use crate::check_fault::CheckFault;
 use crate::telephone::Telephone;
@@ -352,6 +352,36 @@ impl<'a, R: Net + Clock> Ends<'a, R> {
         self.rest(until.saturating_sub(now));
     }
 
+    // Looks once whether it is told that something was done, where this moment hasn't passed; else the player hears the gateway.
+    #[tactic(auto, using(crate::proofs::PlayLemmas::hears_nothing))]
+    fn look_once(
+        &mut self,
+        telephone: SocketAddrV4,
+        player: &mut Box<Player<'_>>,
+        until: u64,
+    ) -> Option<bool>
+        ensures still { self.new.fault ≡ None → self.old.fault ≡ None }
+        ensures hears { self.new.fault ≡ None → Hears player.old.value player.new.value }
+    {
+        match told_by(&self.sockets.third, telephone) {
+            Told::Done(is_done) => Some(is_done),
+            // However many come, the moment passes.
+            Told::Other => {
+                if self.now() >= until {
+                    return Some(false);
+                }
+                None
+            }
+            Told::Nothing => {
+                if self.now() >= until || self.fault.is_some() {
+                    return Some(false);
+                }
+                self.hear(player, until);
+                None
+            }
+        }
+    }
+
     // Waits until it is told whether something was done, but no longer than until this moment; meanwhile the player hears the gateway.
     fn await_done(
         &mut self,
@@ -363,20 +393,9 @@ impl<'a, R: Net + Clock> Ends<'a, R> {
         ensures hears { self.new.fault ≡ None → Hears player.old.value player.new.value }
     {
         for _ in 0..u64::MAX {
-            match told_by(&self.sockets.third, telephone) {
-                Told::Done(is_done) => return is_done,
-                // However many come, the moment passes.
-                Told::Other => {
-                    if self.now() >= until {
-                        return false;
-                    }
-                }
-                Told::Nothing => {
-                    if self.now() >= until || self.fault.is_some() {
-                        return false;
-                    }
-                    self.hear(player, until);
-                }
+            match self.look_once(telephone, player, until) {
+                Some(is_done) => return is_done,
+                None => {}
             }
         }
         false
@@ -403,6 +422,14 @@ impl<'a, R: Net + Clock> Ends<'a, R> {
         }
     }
 
+    // Has it done, and tells the player whether it was.
+    fn act_for(&mut self, player: &mut Box<Player<'_>>, now: u64)
+        ensures { self.new.fault ≡ None → IsActedFor player.old.value player.new.value }
+    {
+        let is_done = self.act(player, now);
+        player.acted(is_done);
+    }
+
     // Does what the player asks for at this moment: whether it may ask for more.
     #[tactic(auto, using(crate::proofs::PlayLemmas::turned))]
     fn turn(&mut self, player: &mut Box<Player<'_>>, now: u64) -> bool
@@ -419,8 +446,7 @@ impl<'a, R: Net + Clock> Ends<'a, R> {
                 true
             }
             Some(Turn::Act) => {
-                let is_done = self.act(player, now);
-                player.acted(is_done);
+                self.act_for(player, now);
                 true
             }
             Some(Turn::Over) => false,

@@ -1,4 +1,4 @@
-use Rattle.std.proofs.Common.{string_bytes, ap, ◌∙◌}
+use Rattle.std.proofs.Common.{string_bytes}
 use Rattle.std.proofs.lemmas.Result.{IfOk-weaker}
 use Rattle.live_checks.proofs.checking.tally_line.Goals as goal
 

@@ -1,4 +1,4 @@
-use Rattle.live_checks.specs.Playing.{Hears, AsksAt, TurnsOnce, IsOver, PlaysOut}
+use Rattle.live_checks.specs.Playing.{Hears, IsActedFor, AsksAt, TurnsOnce, IsOver, PlaysOut}
 use Rattle.live_checks.proofs.counting_examples.how_a_check_is_played_has_examples.Goals as goal
 
 pub returns-clause-given : goal.returns-clause-given
@@ -22,6 +22,10 @@ returns-clause-waits c = λ until asked is hears. hears
 
 pub returns-clause-acts : goal.returns-clause-acts
 returns-clause-acts c = λ asked is acts. acts
+
+pub returns-clause-acted : goal.returns-clause-acted
+unfolding IsActedFor
+returns-clause-acted c = λ asked is acted. acted
 
 pub returns-clause-over : goal.returns-clause-over
 returns-clause-over c = λ asked is none. none
