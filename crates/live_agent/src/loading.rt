@@ -6,7 +6,7 @@ ghost use Rattle.load_bench.specs.Telephones.{CountsCame, CountsSent, Hears};
 ghost use Rattle.live_agent.specs.Clock.{milliseconds};
 ghost use Rattle.live_agent.specs.declared.loading.LoadEnding.TheVariants.{Unmade};
 ghost use Rattle.live_agent.specs.Telephones.{end_of, load_ending, BeginsLoad, CountsFor, EndsLoad, HearsOnce, HearsTelephones, PassesLoad, Reports};
-ghost use Rattle.live_agent.specs.Telephones.{SaysAll, SaysEach, SaysEnded, SaysOne, SaysPassed};
+ghost use Rattle.live_agent.specs.Telephones.{SaysAll, SaysAndReports, SaysEach, SaysEnded, SaysOne, SaysPassed};
 ghost use Rattle.live_agent.specs.Wiring.{due_of, with_read, FallsDueOver};
 
 use crate::recorder::Recorder;
@@ -53,6 +53,20 @@ fn milliseconds(time: u64) -> u64
     time / MICROSECONDS
 }
 
+// That a datagram is sent, for the first time or again, at this moment, in ms, counts for a load.
+fn count_sent_in(load: &mut Load, to: SocketAddrV4, bytes: &[u8], is_repeat: bool, now: u64)
+    ensures { CountsSent to bytes.now is_repeat now load.old.bench.value load.new.bench.value }
+{
+    load.bench.sent(to, bytes, is_repeat, now);
+}
+
+// So does that one came.
+fn count_came_in(load: &mut Load, source: SocketAddrV4, bytes: &[u8], now: u64)
+    ensures { CountsCame source bytes.now now load.old.bench.value load.new.bench.value }
+{
+    load.bench.came(source, bytes, now);
+}
+
 /// A datagram is sent at this time, in microseconds, for the first time or again: that is counted, where a load is made.
 pub(crate) fn count_sent(
     load: &mut Option<Box<Load>>,
@@ -67,9 +81,8 @@ pub(crate) fn count_sent(
     let Some(load) = load else {
         return;
     };
-    let load = &mut **load;
     let now = milliseconds(time);
-    load.bench.sent(to, bytes, is_repeat, now);
+    count_sent_in(&mut **load, to, bytes, is_repeat, now);
 }
 
 /// A datagram came at this time, in microseconds: that is counted, where a load is made.
@@ -85,9 +98,8 @@ pub(crate) fn count_came(
     let Some(load) = load else {
         return;
     };
-    let load = &mut **load;
     let now = milliseconds(time);
-    load.bench.came(source, bytes, now);
+    count_came_in(&mut **load, source, bytes, now);
 }
 
 // This is said to the telephones for which it is: whether memory was there for its text.
@@ -151,6 +163,20 @@ fn pass<S: Surroundings>(
     bench.is_over(moment)
 }
 
+// So it is over a load.
+fn pass_in<S: Surroundings>(
+    alloc: Global,
+    around: &mut S,
+    load: &mut Load,
+    out: &mut Vec<u8>,
+    moment: u64,
+) -> bool
+    ensures over { result ≡ bench_over moment load.new.bench.value }
+    ensures says { SaysPassed S.answers moment around.old around.new load.old.bench.value load.new.bench.value }
+{
+    pass(alloc, around, &mut *load.bench, out, moment)
+}
+
 // Telephones said what stands in this room, so long, and from here, at this moment, in ms.
 fn hear_found(bench: &mut Bench, found: (SocketAddr, usize), room: &[u8], moment: u64)
     ensures { found.1 ≤ length room.now → Hears found.0 (take found.1 room.now) moment bench.old bench.new }
@@ -159,22 +185,50 @@ fn hear_found(bench: &mut Bench, found: (SocketAddr, usize), room: &[u8], moment
     bench.hear(found.0, text, moment);
 }
 
-// Takes a datagram of telephones at this moment, in ms, if one has come: whether one had.
+// What came of a look at what telephones say: whether they said anything, and whether the load is over then.
+#[derive(Clone, Copy)]
+struct Look {
+    taken: bool,
+    is_over: bool,
+}
+
+// Takes a datagram of telephones at this moment, in ms, if one has come.
 fn hear<S: Surroundings>(
     alloc: Global,
     around: &mut S,
     bench: &mut Bench,
     room: &mut [u8],
     moment: u64,
-) -> bool
-    ensures { HearsOnce S.hears S.answers moment result around.old around.new bench.old bench.new }
+) -> Look
+    ensures over { result.is_over ≡ bench_over moment bench.new }
+    ensures heard { HearsOnce S.hears S.answers moment result.taken around.old around.new bench.old bench.new }
 {
     let Some(found) = around.hear(room) else {
-        return false;
+        return Look {
+            taken: false,
+            is_over: bench.is_over(moment),
+        };
     };
     hear_found(bench, found, room, moment);
     say_all(alloc, around, bench);
-    true
+    Look {
+        taken: true,
+        is_over: bench.is_over(moment),
+    }
+}
+
+// So it is over a load.
+fn hear_in<S: Surroundings>(alloc: Global, around: &mut S, load: &mut Load, moment: u64) -> Look
+    ensures over { result.is_over ≡ bench_over moment load.new.bench.value }
+    ensures heard { HearsOnce S.hears S.answers moment result.taken around.old around.new load.old.bench.value load.new.bench.value }
+{
+    hear(
+        alloc,
+        around,
+        &mut *load.bench,
+        load.room.as_mut_slice(),
+        moment,
+    )
 }
 
 // So many datagrams were read, where one more was, or none.
@@ -213,6 +267,39 @@ fn report(bench: &mut Bench, out: &mut Vec<u8>, file: &str, agent: &str) -> Load
     }
 }
 
+// Both, one behind the other.
+fn end_and_report<S: Surroundings>(
+    alloc: Global,
+    around: &mut S,
+    bench: &mut Bench,
+    now: u64,
+    out: &mut Vec<u8>,
+    file: &str,
+    agent: &str,
+) -> LoadEnding
+    ensures ending { result ≡ load_ending bench.new }
+    ensures says { SaysAndReports S.answers now around.old around.new bench.old bench.new }
+{
+    end(alloc, around, bench, now);
+    report(bench, out, file, agent)
+}
+
+// So it is over a load.
+fn end_in<S: Surroundings>(
+    alloc: Global,
+    around: &mut S,
+    load: &mut Load,
+    now: u64,
+    out: &mut Vec<u8>,
+    file: &str,
+    agent: &str,
+) -> LoadEnding
+    ensures ending { result ≡ load_ending load.new.bench.value }
+    ensures says { SaysAndReports S.answers now around.old around.new load.old.bench.value load.new.bench.value }
+{
+    end_and_report(alloc, around, &mut *load.bench, now, out, file, agent)
+}
+
 impl<S: Surroundings + Drop> Wire<S> {
     /// The moment at which something is to be done though nothing comes, in ms, where it is now this one.
     pub(crate) fn due(&self, moment: u64) -> Option<u64>
@@ -231,10 +318,8 @@ impl<S: Surroundings + Drop> Wire<S> {
         let Some(load) = &mut self.load else {
             return;
         };
-        let load = &mut **load;
-        let bench = &mut *load.bench;
         let out = &mut self.journal.log.out;
-        let is_over = pass(alloc, &mut self.around, bench, out, moment);
+        let is_over = pass_in(alloc, &mut self.around, &mut **load, out, moment);
         self.end = end_of(is_over, self.end);
     }
 
@@ -247,13 +332,9 @@ impl<S: Surroundings + Drop> Wire<S> {
         let Some(load) = &mut self.load else {
             return false;
         };
-        let load = &mut **load;
-        let bench = &mut *load.bench;
-        let room = load.room.as_mut_slice();
-        let taken = hear(alloc, &mut self.around, bench, room, moment);
-        let is_over = bench.is_over(moment);
-        self.read = with_read(taken, self.read);
-        self.end = end_of(is_over, self.end);
+        let look = hear_in(alloc, &mut self.around, &mut **load, moment);
+        self.read = with_read(look.taken, self.read);
+        self.end = end_of(look.is_over, self.end);
         true
     }
 
@@ -266,11 +347,9 @@ impl<S: Surroundings + Drop> Wire<S> {
         let Some(load) = &mut self.load else {
             return LoadEnding::Unmade(LoadFault::OutOfMemory);
         };
-        let load = &mut **load;
-        let bench = &mut *load.bench;
+        let now = milliseconds(self.now.time);
         let out = &mut self.journal.told.out;
-        end(alloc, &mut self.around, bench, milliseconds(self.now.time));
-        report(bench, out, file, agent)
+        end_in(alloc, &mut self.around, &mut **load, now, out, file, agent)
     }
 }
 

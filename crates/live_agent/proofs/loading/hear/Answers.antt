@@ -1,8 +1,8 @@
 use Rattle.std.proofs.Common.{Some, None, refl}
 use Rattle.live_agent.proofs.loading.hear.Goals as goal
 
-pub returns-in_default : goal.returns-in_default
-returns-in_default g c = record {
+pub returns-in_default-clause-heard : goal.returns-in_default-clause-heard
+returns-in_default-clause-heard g c = record {
   found = None;
   room = c.hear.new.room;
   looked = c.hear.new.self;
@@ -11,8 +11,8 @@ returns-in_default g c = record {
   says = (refl, refl);
 }
 
-pub returns : goal.returns
-returns g c = record {
+pub returns-clause-heard : goal.returns-clause-heard
+returns-clause-heard g c = record {
   found = Some c.in-Some.found;
   room = c.hear.new.room;
   looked = c.hear.new.self;

@@ -6,10 +6,10 @@ use Rattle.live_agent.proofs.wire.Wire.end_load.Goals as goal
 
 pub returns-clause-ends : goal.returns-clause-ends
 returns-clause-ends g c = λ made. record {
-  says = of_load (SaysAndReports g.S.Surroundings.answers (milliseconds c.args.self.now.now.time) c.args.self.now.around c.end.new.around)
+  says = of_load (SaysAndReports g.S.Surroundings.answers (milliseconds c.args.self.now.now.time) c.args.self.now.around c.end_in.new.around)
       c.args.self.now.load c.in-Some.load _ c.in-Some.is
-      (c.end.new.bench, rw (c.deref_mut-bench.ensures.value, c.deref_mut-load.ensures.value, c.milliseconds.ensures) at c.end.ensures, c.report.ensures.reports);
-  ends = c.report.ensures.ending;
+      (rw (c.deref_mut.ensures.value, c.milliseconds-now.ensures) at c.end_in.ensures.says);
+  ends = c.end_in.ensures.ending;
   journal = refl;
   rest = refl;
 }

@@ -9,9 +9,9 @@ returns-in_default g c = passes_none g.S.Surroundings.answers c.args.moment c.ar
 pub returns : goal.returns
 returns g c =
     passes_some g.S.Surroundings.answers c.args.moment c.args.self.now.load c.in-Some.load c.args.self.now _ c.in-Some.is (record {
-      says = of_load (SaysPassed g.S.Surroundings.answers c.args.moment c.args.self.now.around c.pass-is_over.new.around) c.args.self.now.load c.in-Some.load
-          _ c.in-Some.is (rw (c.deref_mut-bench.ensures.value, c.deref_mut-load.ensures.value) at c.pass-is_over.ensures.says);
-      ends = ended_so c.args.moment _ c.pass-is_over.result c.args.self.now.end _ c.pass-is_over.ensures.over c.end_of-self.ensures;
+      says = of_load (SaysPassed g.S.Surroundings.answers c.args.moment c.args.self.now.around c.pass_in-is_over.new.around) c.args.self.now.load c.in-Some.load
+          _ c.in-Some.is (rw (c.deref_mut.ensures.value) at c.pass_in-is_over.ensures.says);
+      ends = ended_so c.args.moment _ c.pass_in-is_over.result c.args.self.now.end _ c.pass_in-is_over.ensures.over c.end_of-self.ensures;
       journal = refl;
       rest = refl;
     })
