@@ -1,5 +1,5 @@
 -- What a step of a board does to the exchange, and to what is kept of its lines beside that; and to what its gateways send again.
-use Rattle.std.specs.Prelude.{◌≡◌, ℕ, zero, suc, ◌+◌, ◌-◌, ◌^◌, ◌==◌, ◌&&◌, min, nat_le, Bool, true, false, if◌then◌else◌, List, Option, Some, None, IfSome, IsSomeAnd, Result, Ok, Err, slice_get, slice_set}
+use Rattle.std.specs.Prelude.{◌≡◌, ⊤, ℕ, zero, suc, ◌+◌, ◌-◌, ◌^◌, ◌==◌, ◌&&◌, min, nat_le, Bool, true, false, if◌then◌else◌, List, Option, Some, None, IfSome, IsSomeAnd, Result, Ok, Err, slice_get, slice_set}
 use Rattle.std.specs.Global.{Box}
 use Rattle.endpoint_names.specs.declared.name.Pattern.{Pattern}
 use Rattle.endpoint_names.specs.declared.name.Pattern.TheVariants.{One, All, Any}
@@ -18,7 +18,7 @@ use Rattle.call_office.specs.Duties.{announced}
 use Rattle.call_office.specs.Orders.{cared}
 use Rattle.call_office.specs.Steps.{Begins, Forgets, ToldOf}
 use Rattle.call_office.specs.Turns.{announced_by}
-use Rattle.call_office.specs.Waiting.{settled_at}
+use Rattle.call_office.specs.Waiting.{settled_at, waits}
 use Rattle.switchboard.specs.Wakes.{behind_woken}
 
 -- What a step makes of the exchange, and of what is kept of its lines. It is one of a board's exchange; where there is none, there is
@@ -27,6 +27,11 @@ abbrev pub OfOffice : (ExchangeState → List Care → ExchangeState → List Ca
 OfOffice Does None is = is ≡ None
 OfOffice Does (Some was) is =
     IsSomeAnd is (λ office. Does was.value.exchange was.value.cares.items office.value.exchange office.value.cares.items)
+
+-- the line waits to be settled, where there is an exchange
+abbrev pub WaitsIn : ℕ → Option (Box Office) → Type 0
+WaitsIn line None = ⊤
+WaitsIn line (Some office) = waits office.value.worklist.waiting.items office.value.worklist.is_all line ≡ true
 
 -- What becomes of the lines of a gateway that a name means
 

@@ -28,7 +28,7 @@ ghost use Rattle.call_office.specs.Duties.{announced, begun, fixed_order, lost, 
 ghost use Rattle.switchboard.specs.Issuing.{ordered_in, FailsBy, Flies, IssuesOrder, IssuesSettled, IssuesTo, IssuesUnder, SendsAlone, SendsAtMost};
 ghost use Rattle.call_office.specs.Orders.{Shown, routed};
 ghost use Rattle.call_office.specs.Steps.{Forgets};
-ghost use Rattle.switchboard.specs.Steps.{has_line, Announces, AnnouncesTo, IssuesAt, OfOffice, OthersStay, Refuses, Ticks, Wakens, settled_in};
+ghost use Rattle.switchboard.specs.Steps.{has_line, Announces, AnnouncesTo, IssuesAt, OfOffice, OthersStay, Refuses, Ticks, WaitsIn, Wakens, settled_in};
 ghost use Rattle.switchboard.specs.TypedCommands.{typed_fault, IssuesCommand, IssuesMeant, IssuesThere};
 ghost use Rattle.call_office.specs.Example.{audited, creating, deleted_later, deleted_now};
 ghost use Rattle.switchboard.specs.Example.{wake_at, HasAgent};
@@ -194,4 +194,11 @@ pub fn what_a_typed_command_means_has_examples()
     ensures no_command { FailsBy (Some bad_command) faults.BadCommand }
     ensures no_command_without_memory { FailsBy (Some bad_command) faults.OutOfMemory }
     ensures ids_left { FailsBy (Some bad_command) faults.NoMoreIds → ⊥ }
+{}
+
+/// A line waits to be settled that is among those that wait, or where all do.
+pub fn who_waits_has_examples()
+    ensures among { (office : Box Office) → office.value.worklist.waiting.items ≡ 3 ∷ [] → WaitsIn 3 (Some office) }
+    ensures nobody { (office : Box Office) → office.value.worklist.waiting.items ≡ [] → office.value.worklist.is_all ≡ false
+        → WaitsIn 3 (Some office) → ⊥ }
 {}

@@ -1,5 +1,5 @@
 //! The gateways that a call agent works with, and their lines.
-ghost use Rattle.std.specs.Prelude.{◌≡◌, [], ◌∷◌, ◌++◌, true, false, IfNone, IfOk, Ok, OnErr, is_err, is_ok, is_some, length, option_map, position, slice_get};
+ghost use Rattle.std.specs.Prelude.{◌≡◌, [], ◌∷◌, ◌++◌, true, false, IfNone, IfOk, IfSome, Ok, OnErr, is_err, is_ok, is_some, length, option_map, position, slice_get};
 ghost use Rattle.std.specs.Result.{result_err};
 ghost use Rattle.plain_machine.specs.Event.{datagram, tick};
 ghost use Rattle.call_agent.specs.Hearing.{hears};
@@ -16,7 +16,7 @@ ghost use Rattle.switchboard.specs.Meaning.{has_domain, meant};
 ghost use Rattle.call_office.specs.Orders.{shown};
 ghost use Rattle.call_office.specs.Showing.{ShowsIn};
 ghost use Rattle.call_office.specs.Steps.{Begins, Forgets, HearsSome};
-ghost use Rattle.switchboard.specs.Steps.{settled_in, AnnouncesTo, AtPlace, Issues, IssuesAt, OfOffice, OthersStay, Refuses, Ticks, ToldAt, Wakens};
+ghost use Rattle.switchboard.specs.Steps.{settled_in, AnnouncesTo, AtPlace, Issues, IssuesAt, OfOffice, OthersStay, Refuses, Ticks, ToldAt, WaitsIn, Wakens};
 ghost use Rattle.switchboard.specs.Taking.{first_of, taken_place, TakesOf, TakesTold};
 ghost use Rattle.switchboard.specs.Tallying.{counted_if};
 ghost use Rattle.switchboard.specs.TypedCommands.{IssuesThere, IssuesTyped};
@@ -741,10 +741,13 @@ impl Switchboard {
         }
     }
 
-    /// Takes what the line that is so many behind the first of these has told and wasn't taken yet: whether there was anything.
+    /// Takes what the line that is so many behind the first of these has told and wasn't taken yet: whether there was anything. Then the line
+    /// waits to be settled.
     pub fn take(&mut self, journal: &mut Journal, place: usize, index: usize) -> bool
         ensures takes { TakesOf place (taken_place index (slice_get self.old.gateways.items place) self.old.notifying) result
             self.old self.new }
+        ensures waits { result ≡ true → IfSome (taken_place index (slice_get self.old.gateways.items place) self.old.notifying)
+            (λ line. WaitsIn line self.new.office) }
         ensures tally { journal.new.tally ≡ counted_if result with_notification journal.old.tally }
         ensures rest { self.new ≡ record self.old { stations = self.new.stations; office = self.new.office } }
         ensures journal { journal.new ≡ record journal.old { tally = journal.new.tally; told = journal.new.told } }
@@ -760,6 +763,7 @@ impl Switchboard {
         ensures takes { TakesTold line (slice_get self.old.gateways.items place) (slice_get self.old.stations.items line) result
             self.old self.new }
         ensures told { result ≡ true → OfOffice (HearsSome line) self.old.office self.new.office }
+        ensures waits { result ≡ true → WaitsIn line self.new.office }
         ensures nothing { result ≡ false → self.new.office ≡ self.old.office }
         ensures tally { journal.new.tally ≡ counted_if result with_notification journal.old.tally }
         ensures rest { self.new ≡ record self.old { stations = self.new.stations; office = self.new.office } }

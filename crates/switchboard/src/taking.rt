@@ -2,7 +2,7 @@
 ghost use Rattle.std.specs.Prelude.{◌≡◌, true, false, drop};
 ghost use Rattle.agent_texts.specs.Counts.{with_notification};
 ghost use Rattle.call_office.specs.Steps.{HearsSome};
-ghost use Rattle.switchboard.specs.Steps.{OfOffice};
+ghost use Rattle.switchboard.specs.Steps.{OfOffice, WaitsIn};
 ghost use Rattle.switchboard.specs.Taking.{HearsTold, TakesFrom};
 ghost use Rattle.switchboard.specs.Tallying.{counted_if};
 
@@ -31,7 +31,8 @@ fn tell_office(
     line: usize,
     told: &[Observed],
 )
-    ensures { HearsTold plan.now line told.now office.old office.new }
+    ensures hears { HearsTold plan.now line told.now office.old office.new }
+    ensures waits { WaitsIn line office.new }
 {
     if let Some(office) = office {
         office.told(alloc, plan, line, told);
@@ -51,6 +52,7 @@ pub(crate) fn take_from(
 ) -> bool
     ensures takes { TakesFrom plan.now line gateway.now station.old result office.old office.new station.new }
     ensures told { result ≡ true → OfOffice (HearsSome line) office.old office.new }
+    ensures waits { result ≡ true → WaitsIn line office.new }
     ensures nothing { result ≡ false → office.new ≡ office.old }
     ensures tally { journal.new.tally ≡ counted_if result with_notification journal.old.tally }
     ensures rest { journal.new ≡ record journal.old { tally = journal.new.tally; told = journal.new.told } }

@@ -22,9 +22,9 @@ returns-clause-takes c = (
   found_so c.taken-observed.result.now c.behind-told.result.now c.args.station.now.taken c.is_empty.result true c.behind-told.ensures
       c.is_empty.ensures (sym (ap (λ (none : Bool). not none) c.if-is_empty.false)),
   subst (λ (list : List Observed). HearsTold c.args.plan.now c.args.line list c.args.office.now c.tell_office.new.office) c.behind-told.ensures
-      c.tell_office.ensures,
+      c.tell_office.ensures.hears,
   refl,
 )
 
 pub returns-clause-told : goal.returns-clause-told
-returns-clause-told c = λ found. hears_some c.args.plan.now c.args.line c.behind-told.result.now c.args.office.now c.tell_office.new.office c.tell_office.ensures
+returns-clause-told c = λ found. hears_some c.args.plan.now c.args.line c.behind-told.result.now c.args.office.now c.tell_office.new.office c.tell_office.ensures.hears
