@@ -168,5 +168,4 @@ ending_in (Some load) = load_ending load.value.bench.value
 pub record EndsLoad {S : Type 0} (answers : S → SocketAddr → List ℕ → S → Type 0) (was : Wire S) (ending : LoadEnding) (is : Wire S) : Type 0 where
   pub says : OfLoad (SaysAndReports answers (milliseconds was.now.time) was.around is.around) was.load is.load
   pub ends : ending ≡ ending_in is.load
-  pub journal : is.journal.value ≡ record was.journal.value { told = is.journal.value.told }
   pub rest : is ≡ record was { around = is.around; journal = is.journal; load = is.load }

@@ -343,6 +343,7 @@ impl<S: Surroundings + Drop> Wire<S> {
     fn end_load(&mut self, alloc: Global, file: &str, agent: &str) -> LoadEnding
         ensures none { is_some self.old.load ≡ false → (result ≡ Unmade OutOfMemory) × (self.new ≡ self.old) }
         ensures ends { is_some self.old.load ≡ true → EndsLoad S.answers self.old result self.new }
+        ensures journal { self.new.journal.value ≡ record self.old.journal.value { told = self.new.journal.value.told } }
     {
         let Some(load) = &mut self.load else {
             return LoadEnding::Unmade(LoadFault::OutOfMemory);

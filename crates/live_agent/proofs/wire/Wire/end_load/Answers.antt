@@ -1,4 +1,5 @@
 use Rattle.std.proofs.Common.{refl}
+use Rattle.std.specs.Box.{with_value}
 use Rattle.live_agent.specs.Clock.{milliseconds}
 use Rattle.live_agent.proofs.TelephoneLemmas.{of_load}
 use Rattle.live_agent.specs.Telephones.{SaysAndReports}
@@ -7,9 +8,8 @@ use Rattle.live_agent.proofs.wire.Wire.end_load.Goals as goal
 pub returns-clause-ends : goal.returns-clause-ends
 returns-clause-ends g c = λ made. record {
   says = of_load (SaysAndReports g.S.Surroundings.answers (milliseconds c.args.self.now.now.time) c.args.self.now.around c.end_in.new.around)
-      c.args.self.now.load c.in-Some.load _ c.in-Some.is
-      (rw (c.deref_mut.ensures.value, c.milliseconds-now.ensures) at c.end_in.ensures.says);
+      c.args.self.now.load c.in-Some.load (with_value c.in-Some.load c.end_in.new.load) c.in-Some.is
+      (rw (c.deref_mut-2.ensures.value, c.milliseconds-now.ensures) at c.end_in.ensures.says);
   ends = c.end_in.ensures.ending;
-  journal = refl;
   rest = refl;
 }

@@ -1,4 +1,5 @@
 use Rattle.std.proofs.Common.{refl}
+use Rattle.std.specs.Box.{with_value}
 use Rattle.live_agent.proofs.TelephoneLemmas.{ended_so, of_load, passes_none, passes_some}
 use Rattle.live_agent.specs.Telephones.{SaysPassed}
 use Rattle.live_agent.proofs.wire.Wire.pass_load.Goals as goal
@@ -8,10 +9,11 @@ returns-in_default g c = passes_none g.S.Surroundings.answers c.args.moment c.ar
 
 pub returns : goal.returns
 returns g c =
+    let made = with_value c.in-Some.load c.pass_in-is_over.new.load in
     passes_some g.S.Surroundings.answers c.args.moment c.args.self.now.load c.in-Some.load c.args.self.now _ c.in-Some.is (record {
       says = of_load (SaysPassed g.S.Surroundings.answers c.args.moment c.args.self.now.around c.pass_in-is_over.new.around) c.args.self.now.load c.in-Some.load
-          _ c.in-Some.is (rw (c.deref_mut.ensures.value) at c.pass_in-is_over.ensures.says);
-      ends = ended_so c.args.moment _ c.pass_in-is_over.result c.args.self.now.end _ c.pass_in-is_over.ensures.over c.end_of-self.ensures;
+          made c.in-Some.is (rw (c.deref_mut-2.ensures.value) at c.pass_in-is_over.ensures.says);
+      ends = ended_so c.args.moment made c.pass_in-is_over.result c.args.self.now.end _ c.pass_in-is_over.ensures.over c.end_of-self.ensures;
       journal = refl;
       rest = refl;
     })
