@@ -1,5 +1,5 @@
 -- What becomes of datagrams that go over a network, or aren't to, from what its calls say.
-use Rattle.std.proofs.Common.{◌≡◌, ℕ, Bool, false, List, Option, None, Some, refl, sym, subst}
+use Rattle.std.proofs.Common.{◌≡◌, ◌⊎◌, inl, inr, ℕ, Bool, false, List, Option, None, Some, refl, sym, ap, subst}
 use Rattle.std.specs.Prelude.{⊤, Result, Ok, Err}
 use Rattle.std.specs.Global.{Box}
 use Rattle.std.specs.declared.net.socket_addr.SocketAddrV4.{SocketAddrV4}
@@ -12,7 +12,7 @@ use Rattle.bad_network.specs.declared.packet.Way.TheVariants.{In, Out}
 use Rattle.surroundings.specs.declared.surroundings.Fault.{Fault}
 use Rattle.live_gateway.specs.declared.exchange.Exchange.{Exchange}
 use Rattle.live_gateway.specs.declared.spoilt_way.SpoiltWay.{SpoiltWay}
-use Rattle.live_gateway.specs.Exchanging.{is_lost, IsSentSo, SendsOver, Becomes, LosesOver}
+use Rattle.live_gateway.specs.Exchanging.{is_lost, mark_of, IsSentSo, SendsOver, Becomes, LosesOver}
 use Rattle.live_gateway.specs.Offering.{Offers, TakesFirst, TakesDue}
 
 -- ---- offers, whatever their error
@@ -68,6 +68,11 @@ pub not_lost : (E : Type 0) (fate : Fate) → (fate ≡ Lost → ⊥) → false 
 not_lost E Lost other = absurd (other refl)
 not_lost E (Once late) other = refl
 not_lost E (Twice first second) other = refl
+
+pub unmarked : (E : Type 0) (fate : Fate) → ((late : ℕ) × (fate ≡ Once late)) ⊎ ((first second : ℕ) × (fate ≡ Twice first second))
+    → None ≡ mark_of {E = E} (Ok fate)
+unmarked E fate (inl once) = sym (ap (λ (f : Fate). mark_of {E = E} (Ok f)) once.1)
+unmarked E fate (inr twice) = sym (ap (λ (f : Fate). mark_of {E = E} (Ok f)) twice.2)
 
 -- ---- what is due
 

@@ -17,8 +17,12 @@ use Rattle.page_board.specs.declared.ring.Kind.TheVariants.{Sent as OfSent}
 use Rattle.plain_machine.specs.Event.{GatewayEvent}
 use Rattle.plain_machine.specs.declared.label.SentMessage.{SentMessage}
 use Rattle.told_messages.specs.Labelling.{sent_label}
-use Rattle.told_messages.specs.Logging.{Turns}
+use Rattle.told_messages.specs.Logging.{Sends, Turns}
+use Rattle.told_messages.specs.Recording.{Records, unsent_text}
 use Rattle.told_messages.specs.Showing.{GoesOn, HappenedWith, Turned}
+use Rattle.told_messages.specs.declared.log.Log.{Log}
+use Rattle.live_journal.specs.Capturing.{Captures}
+use Rattle.live_journal.specs.Spoiling.{fate_note, Notes as NotesOf}
 use Rattle.live_play.specs.Coming.{Came}
 use Rattle.live_play.specs.Readable.{first_unread}
 use Rattle.live_play.specs.Running.{Live, TakesBy}
@@ -229,13 +233,23 @@ pub record IsTold {S : Type 0} (was : Exchange S) (gateway : GatewayState) (is :
   pub records : (is.journal.capture ≡ was.journal.capture) × (is.journal.written ≡ was.journal.written)
   pub rest : is ≡ record was { journal = is.journal }
 
--- A datagram that has these messages was handed to an exchange: the page is shown it with these, and it is counted as handed out; it
--- became what is to be noted of it, and that it wasn't sent counts as a fault. Nothing was read, no other fault counts, and what became of
--- records stays.
+-- behind what the log says of a datagram that was handed over stands what the network made of it, or that it couldn't be sent
+abbrev pub NotesFate : {E : Type 0} → ℕ → SocketAddrV4 → Result Fate E → Log → Log → Type 0
+NotesFate time to (Ok fate) was is =
+    NotesOf was.record time to (fate_note fate) is.record × (is ≡ record was { «record» = is.record })
+NotesFate time to (Err fault) was is = Records was.record (unsent_text time to) is.record × (is ≡ record was { «record» = is.record })
+
+-- A datagram that has these messages was handed to an exchange: the page is shown it with these, the log tells each of them, it is captured
+-- as it left the gateway, and it is counted as handed out; it became what is to be noted of it, in the log too, and that it wasn't sent
+-- counts as a fault. Nothing was read, no other fault counts, and what became of records stays.
 pub record HandsOver {S : Type 0} (sends : S → SocketAddrV4 → List ℕ → Result ⊤ Fault → S → Type 0)
     (was : Exchange S) (to : SocketAddrV4) (bytes : List ℕ) (messages : List SentMessage) (mark : Option Mark) (is : Exchange S) : Type 0 where
   pub shown : GoesOn (HappenedWith was.now.clock OfSent to bytes (map sent_label messages)) was.journal.board is.journal.board
   pub became : (became : Result Fate Fault) × Becomes sends was to bytes became is × (mark ≡ mark_of became)
+      × (sent : Log) × Sends was.journal.log.value (record { moment = was.now.time; peer = to }) bytes messages sent
+      × NotesFate was.now.time to became sent is.journal.log.value
+  pub captured : Captures was.journal.capture.value
+      (record { moment = was.now.time; from = was.journal.capture.value.here; to = to; bytes = bytes }) is.journal.capture.value
   pub counted : is.journal.tally.value ≡ with_handed_out was.journal.tally.value
   pub faults : is.faults ≡ with_mark mark was.faults
   pub written : is.journal.written ≡ was.journal.written

@@ -16,7 +16,11 @@ use Rattle.live_ends.specs.declared.ending.CommonEnding.{CommonEnding}
 use Rattle.live_ends.specs.declared.ending.CommonEnding.TheVariants.{OutOfMemory as LacksMemory}
 use Rattle.live_outlets.specs.declared.record.RecordState.{RecordState}
 use Rattle.live_outlets.specs.declared.record.RecordState.TheVariants.{Off, On, OutOfMemory}
+use Rattle.exchange_log.specs.declared.note.Note.{Note}
+use Rattle.live_outlets.specs.declared.record.Record.{Record}
 use Rattle.told_messages.specs.Recording.{Puts}
+use Rattle.told_messages.specs.declared.log.Log.{Log}
+use Rattle.live_journal.specs.Spoiling.{fate_note, Notes as NotesOf}
 use Rattle.live_outlets.specs.declared.written.Written.{Written}
 use Rattle.live_ends.specs.Ending.{served_ending}
 use Rattle.live_outlets.specs.Written.{faults_in}
@@ -26,7 +30,7 @@ use Rattle.live_gateway.specs.declared.desk.Desk.{Desk}
 use Rattle.live_gateway.specs.declared.exchange.Exchange.{Exchange}
 use Rattle.live_gateway.specs.declared.spoilt_way.SpoiltWay.{SpoiltWay}
 use Rattle.live_gateway.specs.Ending.{is_record_refused, IsCounted, EndsWith}
-use Rattle.live_gateway.specs.Exchanging.{mark_of, TakesOver, IsSentSo, SendsOver, Becomes, CountsReceived}
+use Rattle.live_gateway.specs.Exchanging.{mark_of, NotesFate, TakesOver, IsSentSo, SendsOver, Becomes, CountsReceived}
 use Rattle.live_gateway.specs.Visiting.{ServesOnce}
 use Rattle.live_gateway.specs.Desk.{Standing}
 use Rattle.live_gateway.specs.Turning.{Tries}
@@ -145,3 +149,21 @@ noted_on On were text next are on still (inr refused) =
     let other : next ≡ OutOfMemory = refused.0 in
     absurd cc
 noted_on OutOfMemory were text next are on still puts = absurd cc
+
+-- one that is told nothing has what it had
+pub puts_off : (state : RecordState) (were text : List ℕ) (next : RecordState) (are : List ℕ) → state ≡ Off → Puts state were text next are
+    → (next ≡ Off) × (are ≡ were)
+puts_off Off were text next are off puts = puts
+puts_off On were text next are off puts = absurd cc
+puts_off OutOfMemory were text next are off puts = absurd cc
+
+noted_off : (was : Record) (time : ℕ) (to : SocketAddrV4) (note : Option Note) (is : Record) → was.state ≡ Off → NotesOf was time to note is
+    → is.out.items ≡ was.out.items
+noted_off was time to None is off same = ap (λ (x : Record). x.out.items) same
+noted_off was time to (Some note) is off puts = (puts_off was.state was.out.items _ is.state is.out.items off puts).1
+
+pub fate_off : (time : ℕ) (to : SocketAddrV4) (became : Result Fate Fault) (was is : Log) → was.record.state ≡ Off → NotesFate time to became was is
+    → is.record.out.items ≡ was.record.out.items
+fate_off time to (Ok fate) was is off notes = noted_off was.record time to (fate_note fate) is.record off notes.0
+fate_off time to (Err fault) was is off notes =
+    (puts_off was.record.state was.record.out.items _ is.record.state is.record.out.items off notes.0).1

@@ -30,7 +30,7 @@ ghost use Rattle.traces.specs.declared.telling.Mark.{Mark};
 ghost use Rattle.traces.specs.declared.telling.Mark.TheVariants.{Unsent, Lost};
 ghost use Rattle.live_gateway.specs.Leaving.{OnlyShows, OnlyTells, OnlyPlays, OnlyTicks, OnlyLogs, NotesPause, OnlyHears, OnlyReplies, OnlyWaits, TakesIf, DoesVisit};
 ghost use Rattle.exchange_log.specs.Pausing.{pause_line};
-ghost use Rattle.live_outlets.specs.declared.record.RecordState.TheVariants.{On};
+ghost use Rattle.live_outlets.specs.declared.record.RecordState.TheVariants.{Off, On};
 ghost use Rattle.live_gateway.specs.Turning.{ready_at, RunsTurns, Tries};
 ghost use Rattle.surroundings.specs.Sending.{untold};
 ghost use Rattle.std.specs.Global.{Box};
@@ -116,6 +116,10 @@ pub fn what_goes_over_an_exchange_has_examples()
     ensures recorded { (gateway : GatewayState) (was is : Exchange ℕ) → IsTold was gateway is
         → (is.journal.written ≡ was.journal.written) × (is.journal.capture ≡ was.journal.capture) }
     ensures unwritten { (mark : Option Mark) (was is : Exchange ℕ) → HandsAnywhere mark was is → is.journal.written ≡ was.journal.written }
+    ensures captured { (mark : Option Mark) (was is : Exchange ℕ) → HandsAnywhere mark was is
+        → is.journal.capture.value.here ≡ was.journal.capture.value.here }
+    ensures unlogged { (mark : Option Mark) (was is : Exchange ℕ) → HandsAnywhere mark was is → was.journal.log.value.record.state ≡ Off
+        → is.journal.log.value.record.out.items ≡ was.journal.log.value.record.out.items }
     ensures unfailed { (said : List (Option Mark)) (was is : Exchange ℕ) → OnlySends said was is
         → is.journal.written ≡ was.journal.written }
     ensures quiet { (gateway : GatewayState) (was is : Exchange ℕ) → gateway.outcomes ≡ [] → IsTold was gateway is

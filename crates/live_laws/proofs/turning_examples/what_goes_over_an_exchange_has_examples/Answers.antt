@@ -2,7 +2,9 @@ use Rattle.std.proofs.Common.{ℕ, ◌∙◌, refl, ap}
 use Rattle.message_counts.specs.Counting.{counts_in, with_texts}
 use Rattle.message_counts.specs.declared.reporting.Faults.{Faults}
 use Rattle.live_gateway.specs.declared.exchange.Exchange.{Exchange}
-use Rattle.live_laws.proofs.TurnExampleLemmas.{nothing_is_sent, page_has_label}
+use Rattle.live_journal.specs.declared.capture.Capture.{Capture}
+use Rattle.live_laws.specs.TurnExample.{one}
+use Rattle.live_laws.proofs.TurnExampleLemmas.{nothing_is_sent, page_has_label, puts_off, fate_off}
 use Rattle.live_laws.proofs.turning_examples.what_goes_over_an_exchange_has_examples.Goals as goal
 
 pub returns-clause-count : goal.returns-clause-count
@@ -19,6 +21,15 @@ returns-clause-recorded c = λ gateway was is told. (told.records.1, told.record
 
 pub returns-clause-unwritten : goal.returns-clause-unwritten
 returns-clause-unwritten c = λ mark was is hands. hands.written
+
+pub returns-clause-captured : goal.returns-clause-captured
+returns-clause-captured c = λ mark was is hands. ap (λ (capture : Capture). capture.here) hands.captured.1
+
+pub returns-clause-unlogged : goal.returns-clause-unlogged
+returns-clause-unlogged c = λ mark was is hands off.
+    let so = puts_off was.journal.log.value.record.state was.journal.log.value.record.out.items _ hands.became.3.record.state
+    hands.became.3.record.out.items off hands.became.4.0 in
+    fate_off was.now.time one.0 hands.became.0 hands.became.3 is.journal.log.value so.0 hands.became.5 ∙ so.1
 
 pub returns-clause-unfailed : goal.returns-clause-unfailed
 returns-clause-unfailed c = λ said was is only. only.written
