@@ -181,11 +181,12 @@ module _ {S : Type 0} (sends : S → SocketAddrV4 → List ℕ → Result ⊤ Fa
   -- then what is due of a load was done
   pub did_tick : (answers : S → SocketAddr → List ℕ → S → Type 0) (moment to : ℕ) (board now : Switchboard) (was ticked is : Wire S)
       → TicksAll sends moment to board was now ticked → PassesLoad answers moment ticked.load ticked is
-      → DoesTick sends answers moment to board now was is
-  did_tick answers moment to board now was ticked is ticks passes = record {
+      → is.journal.value ≡ record ticked.journal.value { log = is.journal.value.log } → DoesTick sends answers moment to board now was is
+  did_tick answers moment to board now was ticked is ticks passes logs = record {
     ticked = ticked;
     ticks = ticks;
     passes = passes;
+    logs = logs;
     lines = tick_lines moment to board now was ticked ticks;
     over = ticks_over was ticked is moment to (tick_over moment to board now was ticked ticks)
         (passed_rest answers moment ticked.load ticked is passes)

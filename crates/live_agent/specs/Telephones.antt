@@ -87,7 +87,6 @@ pub record SaysPassed {S : Type 0} (answers : S → SocketAddr → List ℕ → 
 pub record Passes {S : Type 0} (answers : S → SocketAddr → List ℕ → S → Type 0) (moment : ℕ) (was is : Wire S) : Type 0 where
   pub says : OfLoad (SaysPassed answers moment was.around is.around) was.load is.load
   pub ends : is.end ≡ end_of (load_over moment is.load) was.end
-  pub journal : is.journal.value ≡ record was.journal.value { log = is.journal.value.log }
   pub rest : is ≡ record was { around = is.around; journal = is.journal; load = is.load; end = is.end }
 
 -- where no load is made nothing is

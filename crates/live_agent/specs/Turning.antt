@@ -163,6 +163,7 @@ pub record DoesTick {S : Type 0} (sends : S → SocketAddrV4 → List ℕ → Re
   pub ticked : Wire S
   pub ticks : TicksAll sends moment to board was now ticked
   pub passes : PassesLoad answers moment ticked.load ticked is
+  pub logs : is.journal.value ≡ record ticked.journal.value { log = is.journal.value.log }
   pub lines : SettlesLines board now
   pub over : TicksOver moment to was is
 

@@ -53,7 +53,7 @@ ghost use Rattle.live_agent.specs.Settling.{SendsEach, SendsIssued, SendsNext, S
 ghost use Rattle.live_agent.specs.Tallying.{leaving_counted, with_refusal, with_send_fault, OnlyCounts, OnlyNotes, OnlyRecords, OnlyTells, OnlyTellsAndNotes};
 ghost use Rattle.live_agent.specs.Telephones.{course_behind, end_of, ending_in, load_ending, load_over, BeginsLoad, CountsFor, HearsTelephones, OfLoad, Passes, PassesLoad, Reports, SaysAll, SaysEach, SaysHeard, SaysOne};
 ghost use Rattle.live_agent.specs.Ticking.{GivesUpEach, GivesUpMany, GivesUpNext, TicksEach, TicksOne, WakesEach, WakesMany};
-ghost use Rattle.live_agent.specs.Turning.{line_request, first_request, DoesRequest, DoesTurn, EndsBy, Notes, TakesTyped, TellsCounts, TicksOver, Waits};
+ghost use Rattle.live_agent.specs.Turning.{line_request, first_request, DoesRequest, DoesTick, DoesTurn, EndsBy, Notes, TakesTyped, TellsCounts, TicksOver, Waits};
 ghost use Rattle.switchboard.specs.Typed.{typed_text};
 ghost use Rattle.switchboard.specs.TypedCommands.{IssuesCommand, IssuesMeant, IssuesThere};
 ghost use Rattle.live_agent.specs.TypedCommands.{fault_text, issued_text, TellsIssued, AnswersAll, AnswersIssued, IsTypedNext};
@@ -259,8 +259,8 @@ pub fn what_telephones_are_told_has_examples()
     ensures not_over { (load : Box Load) → bench_over 700 load.value.bench.value ≡ false → end_of (load_over 700 (Some load)) (Some 900) ≡ Some 900 }
     ensures none_made { load_over 700 None ≡ false }
     ensures passes_on { (was is : Wire ℕ) → Passes answers_any 700 was is → is.end ≡ end_of (load_over 700 is.load) was.end }
-    ensures logs { (was is : Wire ℕ) → Passes answers_any 700 was is →
-        (is.journal.value.tally ≡ was.journal.value.tally) × (is.journal.value.told ≡ was.journal.value.told) }
+    ensures logs { (board now : Switchboard) (was is : Wire ℕ) (ticks : DoesTick sends_any answers_any 900 700 board now was is) →
+        (is.journal.value.tally ≡ ticks.ticked.journal.value.tally) × (is.journal.value.told ≡ ticks.ticked.journal.value.told) }
     ensures unmade { (load : Box Load) → OfLoad becomes_any (Some load) None → ⊥ }
     ensures not_there { (load : Box Load) → OfLoad becomes_any None (Some load) → ⊥ }
     // What is sent and what comes counts for a load that is made, and unmakes none.

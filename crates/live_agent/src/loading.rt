@@ -313,7 +313,8 @@ impl<S: Surroundings + Drop> Wire<S> {
 
     /// It is this moment, in ms: what is due of a load is done, where one is made, and it is logged how far it is.
     pub(crate) fn pass_load(&mut self, alloc: Global, moment: u64)
-        ensures { PassesLoad S.answers moment self.old.load self.old self.new }
+        ensures passes { PassesLoad S.answers moment self.old.load self.old self.new }
+        ensures journal { self.new.journal.value ≡ record self.old.journal.value { log = self.new.journal.value.log } }
     {
         let Some(load) = &mut self.load else {
             return;

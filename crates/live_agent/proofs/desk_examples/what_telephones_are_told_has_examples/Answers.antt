@@ -50,8 +50,8 @@ pub returns-clause-passes_on : goal.returns-clause-passes_on
 returns-clause-passes_on c = λ was is passes. passes.ends
 
 pub returns-clause-logs : goal.returns-clause-logs
-returns-clause-logs c = λ was is passes.
-    (ap (λ (journal : Journal). journal.tally) passes.journal, ap (λ (journal : Journal). journal.told) passes.journal)
+returns-clause-logs c = λ board now was is ticks.
+    (ap (λ (journal : Journal). journal.tally) ticks.logs, ap (λ (journal : Journal). journal.told) ticks.logs)
 
 pub returns-clause-reads : goal.returns-clause-reads
 returns-clause-reads c = λ was is hears taken. hears.reads ∙ ap (λ (one : Bool). with_read one was.read) taken

@@ -10,7 +10,7 @@ pub returns-in-Tick : goal.returns-in-Tick
 returns-in-Tick g c =
     rw (c.in-Tick.is)
     (did_tick (HandsTo g.S.Surroundings.sends g.S.Surroundings.traffic) g.S.Surroundings.answers c.args.moment c.in-Tick.to c.args.board.now c.tick.new.board
-    c.args.wire.now c.tick.new.wire c.pass_load.new.self c.tick.ensures c.pass_load.ensures)
+    c.args.wire.now c.tick.new.wire c.pass_load.new.self c.tick.ensures c.pass_load.ensures.passes c.pass_load.ensures.journal)
 
 pub returns-in-Datagram : goal.returns-in-Datagram
 returns-in-Datagram g c = rw (c.in-Datagram.is) c.take_datagram.ensures

@@ -4,16 +4,15 @@ use Rattle.live_agent.proofs.TelephoneLemmas.{ended_so, of_load, passes_none, pa
 use Rattle.live_agent.specs.Telephones.{SaysPassed}
 use Rattle.live_agent.proofs.wire.Wire.pass_load.Goals as goal
 
-pub returns-in_default : goal.returns-in_default
-returns-in_default g c = passes_none g.S.Surroundings.answers c.args.moment c.args.self.now.load c.args.self.now c.in_default.is
+pub returns-in_default-clause-passes : goal.returns-in_default-clause-passes
+returns-in_default-clause-passes g c = passes_none g.S.Surroundings.answers c.args.moment c.args.self.now.load c.args.self.now c.in_default.is
 
-pub returns : goal.returns
-returns g c =
+pub returns-clause-passes : goal.returns-clause-passes
+returns-clause-passes g c =
     let made = with_value c.in-Some.load c.pass_in-is_over.new.load in
     passes_some g.S.Surroundings.answers c.args.moment c.args.self.now.load c.in-Some.load c.args.self.now _ c.in-Some.is (record {
       says = of_load (SaysPassed g.S.Surroundings.answers c.args.moment c.args.self.now.around c.pass_in-is_over.new.around) c.args.self.now.load c.in-Some.load
           made c.in-Some.is (rw (c.deref_mut-2.ensures.value) at c.pass_in-is_over.ensures.says);
       ends = ended_so c.args.moment made c.pass_in-is_over.result c.args.self.now.end _ c.pass_in-is_over.ensures.over c.end_of-self.ensures;
-      journal = refl;
       rest = refl;
     })
