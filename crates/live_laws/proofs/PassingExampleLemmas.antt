@@ -6,7 +6,6 @@ use Rattle.std.specs.declared.net.socket_addr.SocketAddrV4.{SocketAddrV4}
 use Rattle.bad_network.specs.declared.packet.Packet.{Packet}
 use Rattle.live_gateway.specs.declared.admission.Admission.{Admission}
 use Rattle.live_gateway.specs.declared.exchange.Exchange.{Exchange}
-use Rattle.live_gateway.specs.declared.exchange.TheConstants.{MOST_AT_ONCE}
 use Rattle.live_gateway.specs.declared.spoilt_way.SpoiltWay.{SpoiltWay}
 use Rattle.live_gateway.specs.Offering.{TakesDue}
 use Rattle.live_gateway.specs.Passing.{HandsNext, HandsLast, HandsOut, LooksOver, LooksBy, Looks}
@@ -26,8 +25,13 @@ not_given found e = cc
 pub last_due : (admission : Admission) (was is : Exchange ℕ) → HandsLast 3 admission None [] was is → HandsNext None was is
 last_due admission was is (inl due) = due
 last_due admission was is (inr many) =
-    let all : 3 ≡ MOST_AT_ONCE = many.0 in
+    let all = many.0 in
     absurd (omega (arith, all))
+
+-- of what is kept nothing changes where none is given on
+pub still_kept : (count : ℕ) (admission : Admission) (was is : Exchange ℕ) → HandsLast count admission None [] was is → is.journal ≡ was.journal
+still_kept count admission was is (inl none) = ap (λ (e : Exchange ℕ). e.journal) none.rest
+still_kept count admission was is (inr many) = ap (λ (e : Exchange ℕ). e.journal) many.1
 
 -- nobody looked at the socket: so the network handed it out
 pub handed_alone : (admission : Admission) (was is : Exchange ℕ) → LooksOver looks_never sends_any admission (Some (at_port 9 2727, 5)) [] was is

@@ -10,7 +10,6 @@ ghost use Rattle.message_counts.specs.Tallying.{with_received, with_stranger};
 ghost use Rattle.live_journal.specs.declared.journal.Journal.{Journal};
 ghost use Rattle.live_gateway.specs.declared.admission.Admission.{Admission};
 ghost use Rattle.live_gateway.specs.declared.exchange.Exchange.{Exchange};
-ghost use Rattle.live_gateway.specs.declared.exchange.TheConstants.{MOST_AT_ONCE};
 ghost use Rattle.live_gateway.specs.Admitting.{is_heard};
 ghost use Rattle.live_gateway.specs.Noting.{NotesReceived};
 ghost use Rattle.live_gateway.specs.Passing.{HandsNext, SendsNext, TurnsNextAway, PassesEach, GivesNext, HandsLast, HandsOut, HandsUnlessLost, GoesOver, GoesWhereHeard, TakesFound, LooksBehind, LooksOver, GivesWhereHeard, GivesFound, LooksDirectly, Looks};
@@ -18,7 +17,7 @@ ghost use Rattle.live_laws.specs.Example.{at_port};
 ghost use Rattle.live_laws.specs.WayExample.{sends_any, sends_none, looks_never};
 
 /// Where there is no network none of its packets is handed out. One that goes out is sent; a stranger's is turned away, and counted; one of
-/// who is heard is given on, and counted once. Behind as many as may be handed out at a look none is looked for any more.
+/// who is heard is given on, and counted once. Where none is given on any more nothing else changes.
 pub fn what_a_network_hands_out_has_examples()
     ensures nowhere { (packet : Option Packet) (was is : Exchange ℕ) → was.network ≡ None → HandsNext packet was is → packet ≡ None }
     ensures alone { (packet : Option Packet) (was is : Exchange ℕ) → HandsNext packet was is
@@ -43,7 +42,8 @@ pub fn what_a_network_hands_out_has_examples()
     ensures given { (admission : Admission) (room : List ℕ) (was is : Exchange ℕ)
         → HandsLast 3 admission (Some (at_port 9 2727, 5)) room was is → GivesNext admission (at_port 9 2727, 5) room was is }
     ensures none_due { (admission : Admission) (was is : Exchange ℕ) → HandsLast 3 admission None [] was is → HandsNext None was is }
-    ensures too_many { (admission : Admission) (was : Exchange ℕ) → HandsLast MOST_AT_ONCE admission None [] was was }
+    ensures left { (count : ℕ) (admission : Admission) (was is : Exchange ℕ) → HandsLast count admission None [] was is
+        → is.journal ≡ was.journal }
     ensures at_once { (admission : Admission) (was is : Exchange ℕ) (room : List ℕ)
         (hands : HandsOut sends_any admission (Some (at_port 9 2727, 5)) room was is) → hands.left ≡ was
         → GivesNext admission (at_port 9 2727, 5) room was is }

@@ -3,11 +3,10 @@ use Rattle.std.specs.declared.net.socket_addr.SocketAddrV4.{SocketAddrV4}
 use Rattle.bad_network.specs.declared.packet.Packet.{Packet}
 use Rattle.message_counts.specs.Tallying.{with_received, with_stranger}
 use Rattle.live_gateway.specs.declared.exchange.Exchange.{Exchange}
-use Rattle.live_gateway.specs.declared.exchange.TheConstants.{MOST_AT_ONCE}
 use Rattle.live_gateway.specs.Passing.{SendsNext, TurnsNextAway, GivesNext}
 use Rattle.live_laws.specs.Example.{at_port}
 use Rattle.live_laws.specs.WayExample.{sends_any}
-use Rattle.live_laws.proofs.PassingExampleLemmas.{nothing_due, last_due}
+use Rattle.live_laws.proofs.PassingExampleLemmas.{nothing_due, last_due, still_kept}
 use Rattle.live_laws.proofs.passing_examples.what_a_network_hands_out_has_examples.Goals as goal
 
 pub returns-clause-nowhere : goal.returns-clause-nowhere
@@ -62,8 +61,8 @@ returns-clause-given c = λ admission room was is next. next
 pub returns-clause-none_due : goal.returns-clause-none_due
 returns-clause-none_due c = last_due
 
-pub returns-clause-too_many : goal.returns-clause-too_many
-returns-clause-too_many c = λ admission was. inr (refl, refl)
+pub returns-clause-left : goal.returns-clause-left
+returns-clause-left c = still_kept
 
 pub returns-clause-at_once : goal.returns-clause-at_once
 returns-clause-at_once c = λ admission was is room hands first.
