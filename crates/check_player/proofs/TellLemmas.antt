@@ -36,12 +36,12 @@ tells_asking was is outcome told none refused says due came = λ kept. (
   says
       ∙ ap (λ (t : List ℕ). string_bytes was.said ++ t) (sym (append-nil told))
       ∙ ap
-        (λ (o : Option (Option Fault)). string_bytes was.said ++ (told ++ due_line (is_first_by was.is_undoing was.fault o) (due_in is)))
-        (sym none),
+      (λ (o : Option (Option Fault)). string_bytes was.said ++ (told ++ due_line (is_first_by was.is_undoing was.fault o) (due_in is)))
+      (sym none),
   ap string_bytes due
       ∙ ap
-        (λ (o : Option (Option Fault)). due_after (is_first_by was.is_undoing was.fault o) (string_bytes was.due) (due_in is))
-        (sym none),
+      (λ (o : Option (Option Fault)). due_after (is_first_by was.is_undoing was.fault o) (string_bytes was.due) (due_in is))
+      (sym none),
   ap (λ (d : Vec (Vec ℕ)). map (λ (datagram : Vec ℕ). datagram.items) d.items) came,
 )
 
@@ -60,7 +60,7 @@ tells_done was mid is fault tells refused said due names line came = λ kept.
     let left = tells (sym refused ∙ kept) in
     let first = is_first_fault was.is_undoing was.fault fault in
     let same : due_in mid ≡ due_in is =
-        sym (ap (λ (n : Names). filled n is.line.now) names ∙ ap (λ (l : Bor (List ℕ)). filled mid.names l.now) line)
+    sym (ap (λ (n : Names). filled n is.line.now) names ∙ ap (λ (l : Bor (List ℕ)). filled mid.names l.now) line)
     in (
       left.0,
       ap string_bytes said ∙ left.1 ∙ ap (λ (d : List ℕ). string_bytes was.said ++ due_line first d) same,
@@ -81,16 +81,16 @@ unfolding Tells
 tells_on was mid is one outcome told other came tells refused undoing fault said due brought same = λ kept.
     let left = tells kept in
     let first : is_first_by mid.is_undoing mid.fault one ≡ is_first_by was.is_undoing was.fault outcome =
-        ap (λ (u : Bool). is_first_by u mid.fault one) undoing
-            ∙ ap (λ (f : Option Fault). is_first_by was.is_undoing f one) fault
-            ∙ ap (is_first_by was.is_undoing was.fault) same
+    ap (λ (u : Bool). is_first_by u mid.fault one) undoing
+    ∙ ap (λ (f : Option Fault). is_first_by was.is_undoing f one) fault
+    ∙ ap (is_first_by was.is_undoing was.fault) same
     in (
       sym refused ∙ left.0,
       left.1
           ∙ ap (λ (b : Bool). string_bytes mid.said ++ (told ++ due_line b (due_in is))) first
           ∙ ap
-            (λ (s : List ℕ). s ++ (told ++ due_line (is_first_by was.is_undoing was.fault outcome) (due_in is)))
-            (ap string_bytes said),
+          (λ (s : List ℕ). s ++ (told ++ due_line (is_first_by was.is_undoing was.fault outcome) (due_in is)))
+          (ap string_bytes said),
       left.2
           ∙ ap (λ (b : Bool). due_after b (string_bytes mid.due) (due_in is)) first
           ∙ ap (λ (d : List ℕ). due_after (is_first_by was.is_undoing was.fault outcome) d (due_in is)) (ap string_bytes due),
@@ -106,9 +106,9 @@ unfolding Tells
 tells_behind was mid is one outcome told other came tells refused undoing fault says due brought same = λ kept.
     let left = tells kept in
     let first : is_first_by mid.is_undoing mid.fault one ≡ is_first_by was.is_undoing was.fault outcome =
-        ap (λ (u : Bool). is_first_by u mid.fault one) undoing
-            ∙ ap (λ (f : Option Fault). is_first_by was.is_undoing f one) fault
-            ∙ ap (is_first_by was.is_undoing was.fault) same
+    ap (λ (u : Bool). is_first_by u mid.fault one) undoing
+    ∙ ap (λ (f : Option Fault). is_first_by was.is_undoing f one) fault
+    ∙ ap (is_first_by was.is_undoing was.fault) same
     in (
       sym refused ∙ left.0,
       left.1

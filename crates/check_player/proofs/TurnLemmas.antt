@@ -75,9 +75,9 @@ pub further_memory : (now : ℕ) (was is : Player) (turn : Option Turn) → Furt
 unfolding Further TakesStep AnswersLeft
 further_memory now was is turn further kept =
     let left : further.1.is_refused ≡ false =
-        ⊎_elim
-            (λ answered. ap (λ (player : Player). player.is_refused) (sym answered.1) ∙ kept)
-            (λ plays. step_memory now further.1 is turn plays.1 kept)
-            further.5
+    ⊎_elim
+    (λ answered. ap (λ (player : Player). player.is_refused) (sym answered.1) ∙ kept)
+    (λ plays. step_memory now further.1 is turn plays.1 kept)
+    further.5
     in
     ap (λ (player : Player). player.is_refused) (sym further.3.7) ∙ further.4.3 left

@@ -83,11 +83,7 @@ fn journal_of(
 }
 
 // A network of the gateway's own, which spoils as this says.
-fn spoilt_by(
-    alloc: Global,
-    spoiling: Spoiling,
-    domain: &[u8],
-) -> Result<Box<SpoiltWay>, AllocError>
+fn spoilt_by(alloc: Global, spoiling: Spoiling, domain: &[u8]) -> Result<Box<SpoiltWay>, AllocError>
     ensures { IfOk result (λ way. way.value.network.waiting.items ≡ []) }
 {
     let network = BadNetwork::new(alloc, spoiling.with_name(domain));

@@ -87,9 +87,14 @@ pub refuses_some : (setup : Setup) (m : Machine) (line moment count : ℕ) (was 
     → RefusesLine setup m line was is
 refuses_some setup m line moment count was is seen now so kept told = record {
   kept = kept;
-  number = inr (seen, count, so, ap (λ (t : Told). t.number) (subst
-      (λ (n : ℕ). is.told ≡ with_changes n line (record was.told { text = [] }) (take count (changes_behind (slice_get was.seen.items (line - 1)) seen)))
-      now told));
+  number = inr (
+    seen,
+    count,
+    so,
+    ap (λ (t : Told). t.number) (subst
+        (λ (n : ℕ). is.told ≡ with_changes n line (record was.told { text = [] }) (take count (changes_behind (slice_get was.seen.items (line - 1)) seen)))
+        now told),
+  );
 }
 
 -- the line behind so many

@@ -24,18 +24,18 @@ pub returns-clause-begins : goal.returns-clause-begins
 unfolding WaitsOn
 returns-clause-begins c = λ was is turn waits none kept.
     subst
-        (λ (until : Option ℕ). (turn ≡ Some (turns.Wait (until_in until 500 1000))) × (is.until ≡ Some (until_in until 500 1000)))
-        none
-        ((waits kept).0, (waits kept).1)
+    (λ (until : Option ℕ). (turn ≡ Some (turns.Wait (until_in until 500 1000))) × (is.until ≡ Some (until_in until 500 1000)))
+    none
+    ((waits kept).0, (waits kept).1)
 
 pub returns-clause-has_begun : goal.returns-clause-has_begun
 unfolding WaitsOn
 returns-clause-has_begun c = λ was is turn waits some kept.
     subst
-        (λ (until : Option ℕ). (turn ≡ Some (turns.Wait (until_in until 500 1400))) × (is.until ≡ Some (until_in until 500 1400))
-        × (is.begun ≡ was.begun))
-        some
-        (waits kept)
+    (λ (until : Option ℕ). (turn ≡ Some (turns.Wait (until_in until 500 1400))) × (is.until ≡ Some (until_in until 500 1400))
+    × (is.begun ≡ was.begun))
+    some
+    (waits kept)
 
 pub returns-clause-unasked : goal.returns-clause-unasked
 unfolding WaitsOn
@@ -46,27 +46,27 @@ pub returns-clause-answer : goal.returns-clause-answer
 unfolding WaitsOn
 returns-clause-answer c = λ was is turn waits none first kept.
     subst
-        (λ (begun : Option ℕ). (turn ≡ Some (turns.Wait (answer_until None begun 1000))) × (is.until ≡ Some (answer_until None begun 1000))
-        × (is.begun ≡ begun_in None begun 1000))
-        first
-        (subst
-        (λ (until : Option ℕ). (turn ≡ Some (turns.Wait (answer_until until was.begun 1000)))
-        × (is.until ≡ Some (answer_until until was.begun 1000)) × (is.begun ≡ begun_in until was.begun 1000))
-        none
-        (waits kept))
+    (λ (begun : Option ℕ). (turn ≡ Some (turns.Wait (answer_until None begun 1000))) × (is.until ≡ Some (answer_until None begun 1000))
+    × (is.begun ≡ begun_in None begun 1000))
+    first
+    (subst
+    (λ (until : Option ℕ). (turn ≡ Some (turns.Wait (answer_until until was.begun 1000)))
+    × (is.until ≡ Some (answer_until until was.begun 1000)) × (is.begun ≡ begun_in until was.begun 1000))
+    none
+    (waits kept))
 
 pub returns-clause-anew : goal.returns-clause-anew
 unfolding WaitsOn
 returns-clause-anew c = λ was is turn waits none before kept.
     subst
-        (λ (begun : Option ℕ). (turn ≡ Some (turns.Wait (answer_until None begun 30500))) × (is.until ≡ Some (answer_until None begun 30500))
-        × (is.begun ≡ begun_in None begun 30500))
-        before
-        (subst
-        (λ (until : Option ℕ). (turn ≡ Some (turns.Wait (answer_until until was.begun 30500)))
-        × (is.until ≡ Some (answer_until until was.begun 30500)) × (is.begun ≡ begun_in until was.begun 30500))
-        none
-        (waits kept))
+    (λ (begun : Option ℕ). (turn ≡ Some (turns.Wait (answer_until None begun 30500))) × (is.until ≡ Some (answer_until None begun 30500))
+    × (is.begun ≡ begun_in None begun 30500))
+    before
+    (subst
+    (λ (until : Option ℕ). (turn ≡ Some (turns.Wait (answer_until until was.begun 30500)))
+    × (is.until ≡ Some (answer_until until was.begun 30500)) × (is.begun ≡ begun_in until was.begun 30500))
+    none
+    (waits kept))
 
 pub returns-clause-repeat : goal.returns-clause-repeat
 unfolding WaitsOn

@@ -14,11 +14,11 @@ unfolding Tells
 returns-clause-due_behind c = λ was is told came tells playing none kept.
     (tells kept).1
     ∙ ap
-      (λ (u : Bool). string_bytes was.said ++ (told ++ due_line (is_first_fault u was.fault (Some Otherwise)) (due_in is)))
-      playing
+    (λ (u : Bool). string_bytes was.said ++ (told ++ due_line (is_first_fault u was.fault (Some Otherwise)) (due_in is)))
+    playing
     ∙ ap
-      (λ (f : Option Fault). string_bytes was.said ++ (told ++ due_line (is_first_fault false f (Some Otherwise)) (due_in is)))
-      none
+    (λ (f : Option Fault). string_bytes was.said ++ (told ++ due_line (is_first_fault false f (Some Otherwise)) (due_in is)))
+    none
 
 pub returns-clause-due : goal.returns-clause-due
 unfolding Tells

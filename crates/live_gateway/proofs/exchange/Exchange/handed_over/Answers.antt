@@ -139,14 +139,14 @@ loop-preserved g c = elim c.match-packet.branch [
       one_longer c.loop.invariant.out.0 c.in_ok-packet.packet c.loop.counter c.loop.invariant.out.1,
       passed_on g.S.Surroundings.sends c.args.admission.now c.loop.invariant.out.0 c.in_ok-packet.packet c.args.self.now c.loop.self w.send_late.new.self
           c.loop.invariant.out.2 (inl (record {
-        handed = c.take_due.new.self;
-        hands = record { due = c.in_ok-packet.ensures.due; rest = c.take_due.ensures.rest };
-        goes = w.in-Out.is;
-        sent = w.send_late.ensures.noted.0;
-        leaves = rw (w.as_bytes.ensures) at w.send_late.ensures.noted.1;
-        noted = w.send_late.ensures.noted.2;
-        rest = w.send_late.ensures.rest;
-      })),
+            handed = c.take_due.new.self;
+            hands = record { due = c.in_ok-packet.ensures.due; rest = c.take_due.ensures.rest };
+            goes = w.in-Out.is;
+            sent = w.send_late.ensures.noted.0;
+            leaves = rw (w.as_bytes.ensures) at w.send_late.ensures.noted.1;
+            noted = w.send_late.ensures.noted.2;
+            rest = w.send_late.ensures.rest;
+          })),
     );
   }
   | in-In+else-come w ↦ record {
@@ -170,13 +170,13 @@ loop-preserved g c = elim c.match-packet.branch [
       one_longer c.loop.invariant.out.0 c.in_ok-packet.packet c.loop.counter c.loop.invariant.out.1,
       passed_on g.S.Surroundings.sends c.args.admission.now c.loop.invariant.out.0 c.in_ok-packet.packet c.args.self.now c.loop.self w.come.new.self
           c.loop.invariant.out.2 (inr (record {
-        handed = c.take_due.new.self;
-        hands = record { due = c.in_ok-packet.ensures.due; rest = c.take_due.ensures.rest };
-        comes = w.in-In.is;
-        strange = sym w.come.ensures.heard ∙ w.if-come.false;
-        away = w.come.ensures.noted.strange (sym w.come.ensures.heard ∙ w.if-come.false);
-        rest = w.come.ensures.rest;
-      })),
+            handed = c.take_due.new.self;
+            hands = record { due = c.in_ok-packet.ensures.due; rest = c.take_due.ensures.rest };
+            comes = w.in-In.is;
+            strange = sym w.come.ensures.heard ∙ w.if-come.false;
+            away = w.come.ensures.noted.strange (sym w.come.ensures.heard ∙ w.if-come.false);
+            rest = w.come.ensures.rest;
+          })),
     );
   }
 ]

@@ -37,7 +37,7 @@ returns-then-not-hears-clause-counts g c =
     (ap (λ e. e.read) c.turn_away.ensures.rest) (ap (λ e. e.faults) c.turn_away.ensures.rest)
 
 pub returns-then-not-hears-clause-turn : goal.returns-then-not-hears-clause-turn
-returns-then-not-hears-clause-turn g c =  (
+returns-then-not-hears-clause-turn g c = (
   ap (λ e. e.now) c.turn_away.ensures.rest ∙ ap (λ e. e.now) c.read_socket.ensures.rest ∙ c.handed_over.ensures.turn.0,
   ap (λ e. e.is_offering) c.turn_away.ensures.rest ∙ ap (λ e. e.is_offering) c.read_socket.ensures.rest ∙ c.handed_over.ensures.turn.1,
 )
@@ -53,7 +53,7 @@ returns-clause-counts g c =
     c.pass.ensures.read c.pass.ensures.faults
 
 pub returns-clause-turn : goal.returns-clause-turn
-returns-clause-turn g c =  (
+returns-clause-turn g c = (
   c.pass.ensures.turn.0 ∙ ap (λ e. e.now) c.read_socket.ensures.rest ∙ c.handed_over.ensures.turn.0,
   c.pass.ensures.turn.1 ∙ ap (λ e. e.is_offering) c.read_socket.ensures.rest ∙ c.handed_over.ensures.turn.1,
 )
