@@ -111,7 +111,7 @@ TakesFound sends admission None front given room was is = (given ≡ None) × (i
 TakesFound sends admission (Some found) front given room was is =
     GoesWhereHeard sends (is_heard admission found.0) admission found.0 (take found.1 front) given room was is
 
--- the network gave nothing on: it was looked then for a datagram of the socket, once
+-- the network gave nothing on: it was looked then for a datagram of the socket, once, with all the room that there is
 pub record LooksBehind {S : Type 0}
     (receives : S → Result (Option (SocketAddrV4 × ℕ)) Fault → List ℕ → S → Type 0)
     (sends : S → SocketAddrV4 → List ℕ → Result ⊤ Fault → S → Type 0) (admission : Admission)
@@ -121,6 +121,7 @@ pub record LooksBehind {S : Type 0}
   pub found : Option (SocketAddrV4 × ℕ)
   pub first : List ℕ
   pub front : List ℕ
+  pub whole : length front ≡ length room
   pub none : HandsOut sends admission None first was before
   pub looked : LooksOnce receives before found front after
   pub only : after ≡ record before { around = after.around; read = after.read; faults = after.faults }

@@ -1,5 +1,5 @@
 -- What a turn does, by its kind.
-use Rattle.std.specs.Prelude.{◌≡◌, ◌⊎◌, ⊤, ℕ, Bool, true, false, ◌||◌, not, List, [], take, Option, None, Some, option_map, Result}
+use Rattle.std.specs.Prelude.{◌≡◌, ◌⊎◌, ⊤, ℕ, ◌+◌, Bool, true, false, ◌||◌, not, List, [], length, take, Option, None, Some, option_map, Result}
 use Rattle.std.specs.Global.{Box}
 use Rattle.std.specs.declared.net.socket_addr.SocketAddr.{SocketAddr}
 use Rattle.std.specs.declared.net.socket_addr.SocketAddrV4.{SocketAddrV4}
@@ -16,6 +16,7 @@ use Rattle.surroundings.specs.Typing.{left_of}
 use Rattle.surroundings.specs.declared.surroundings.Fault.{Fault}
 use Rattle.surroundings.specs.declared.surroundings.Told.{Told}
 use Rattle.traces.specs.Writing.{Input, arrived, passed}
+use Rattle.transmission.specs.Texts.{largest_datagram}
 use Rattle.turns.specs.Clock.{earlier, has_come}
 use Rattle.turns.specs.declared.circle.Ready.{Ready}
 use Rattle.turns.specs.declared.situation.Situation.{Situation}
@@ -56,13 +57,19 @@ TriesFound told traffic sends looked (Some found) room was is =
     × Tries sends (arrived found.0 (take found.1 room)) (datagram found.0 (take found.1 room))
     (at_desk told traffic was) looked (at_desk told traffic is) is.exchange
 
--- it was looked for a datagram at the desk's own exchange, once, and what was found was tried; nothing else came of the look
+-- room for the largest datagram, and for one byte more, which tells one that is too long from it
+abbrev pub IsRoom : List ℕ → Type 0
+IsRoom room = length room ≡ largest_datagram + 1
+
+-- It was looked for a datagram at the desk's own exchange, once, with room for a whole one, and what was found was tried; nothing else
+-- came of the look.
 pub record LooksForOne {S T : Type 0}
     (told : T → Option (List ℕ)) (traffic : S → Traffic)
     (receives : S → Result (Option (SocketAddrV4 × ℕ)) Fault → List ℕ → S → Type 0)
     (sends : S → SocketAddrV4 → List ℕ → Result ⊤ Fault → S → Type 0) (was is : Desk S T) : Type 0 where
   pub found : Option (SocketAddrV4 × ℕ)
   pub room : List ℕ
+  pub whole : IsRoom room
   pub looked : Exchange S
   pub counts : CountsReceived receives was.admission was.exchange found room looked
   pub came : FoundSince traffic was.admission was.exchange found room looked

@@ -68,6 +68,8 @@ pub fn what_a_look_gives_has_examples()
         → TakesFound sends_any admission None [] given [] was is → (given ≡ None) × (is ≡ was) }
     ensures unlooked { (admission : Admission) (given : Option (SocketAddrV4 × ℕ)) (was is : Exchange ℕ)
         → LooksBehind looks_never sends_any admission given [] was is → ⊥ }
+    ensures whole { (admission : Admission) (given : Option (SocketAddrV4 × ℕ)) (room : List ℕ) (was is : Exchange ℕ)
+        (looks : LooksBehind looks_never sends_any admission given room was is) → length looks.front ≡ length room }
     ensures handed { (admission : Admission) (was is : Exchange ℕ)
         → LooksOver looks_never sends_any admission (Some (at_port 9 2727, 5)) [] was is
         → HandsOut sends_any admission (Some (at_port 9 2727, 5)) [] was is }

@@ -1,7 +1,7 @@
 //! Worked examples of what a turn does, as theorems.
 #![tactic(auto)]
 
-ghost use Rattle.std.specs.Prelude.{◌≡◌, ◌⊎◌, ◌∷◌, ◌++◌, ⊤, codes, true, false, ℕ, List, [], Bool, Option, Some, None, is_some, Ok, Err};
+ghost use Rattle.std.specs.Prelude.{◌≡◌, ◌⊎◌, ◌∷◌, ◌++◌, ⊤, codes, true, false, ℕ, List, [], Bool, Option, Some, None, is_some, length, Ok, Err};
 ghost use Rattle.gateway_core.specs.GatewayState.{GatewayState};
 ghost use Rattle.gateway_rules.specs.declared.refusal.Refusal.{Refusal as Why};
 ghost use Rattle.live_ends.specs.declared.ending.CommonEnding.{CommonEnding};
@@ -93,9 +93,11 @@ pub fn a_desk_ends_as_its_records_and_counts_say()
         → (ending ≡ OutOfMemory) ⊎ IsCounted desk last }
 {}
 
-/// What an exchange gives: nothing that wasn't looked for where no network is before the socket, and nothing of who isn't heard.
+/// What an exchange gives: nothing that wasn't looked for where no network is before the socket, and nothing of who isn't heard. There is
+/// room for a datagram of 4,000 bytes, and to see that one is longer.
 pub fn what_an_exchange_gives_has_examples()
     ensures unlooked { (was is : Desk ℕ ℕ) → is_some was.exchange.network ≡ false → LooksNowhere was is → ⊥ }
+    ensures room { (was is : Desk ℕ ℕ) (looks : LooksNowhere was is) → length looks.room ≡ 4001 }
     ensures nothing { (looked : Exchange ℕ) (was is : Desk ℕ ℕ) → FindsNothing looked was is → is.exchange ≡ looked }
     ensures heard { (admission : Admission) → is_heard admission one.0 ≡ true → heard_in admission (Some one) ≡ Some one }
     ensures strange { (admission : Admission) → is_heard admission one.0 ≡ false → heard_in admission (Some one) ≡ None }

@@ -32,6 +32,9 @@ returns-clause-nothing c = λ admission given was is takes. takes
 pub returns-clause-unlooked : goal.returns-clause-unlooked
 returns-clause-unlooked c = λ admission given was is looks. looks.looked.looked
 
+pub returns-clause-whole : goal.returns-clause-whole
+returns-clause-whole c = λ admission given room was is looks. looks.whole
+
 pub returns-clause-handed : goal.returns-clause-handed
 returns-clause-handed c = handed_alone
 

@@ -9,6 +9,9 @@ use Rattle.live_laws.proofs.turning_examples.what_an_exchange_gives_has_examples
 pub returns-clause-unlooked : goal.returns-clause-unlooked
 returns-clause-unlooked c = λ was is none l. nobody_looked was.admission was.exchange l.looked l.found l.room none l.counts
 
+pub returns-clause-room : goal.returns-clause-room
+returns-clause-room c = λ was is looks. looks.whole
+
 pub returns-clause-nothing : goal.returns-clause-nothing
 returns-clause-nothing c = λ looked was is tries. ap (λ (desk : Desk ℕ ℕ). desk.exchange) tries.0
 

@@ -16,6 +16,7 @@ pub returns-in_default-clause-looked : goal.returns-in_default-clause-looked
 returns-in_default-clause-looked g c = record {
   found = None;
   room = c.receive.new.room;
+  whole = c.receive.ensures.length;
   looked = c.receive.new.self;
   counts = c.in_default.ensures.counts;
   came = c.in_default.ensures.came;
@@ -49,6 +50,7 @@ returns-clause-looked g c =
     record {
       found = Some (c.in-Some.source, c.in-Some.len);
       room = c.receive.new.room;
+      whole = c.receive.ensures.length;
       looked = c.receive.new.self;
       counts = c.in-Some.ensures.counts;
       came = c.in-Some.ensures.came;
