@@ -1,6 +1,7 @@
 -- What is done of a line, from what the calls of its turn say.
 use Rattle.std.proofs.Common.{◌≡◌, inl, inr, ℕ, List, Option, None, Some, refl, sym, ◌∙◌, ap, subst}
 use Rattle.std.specs.Prelude.{⊤, not, is_ok, true, Result, Ok, Err, OnOk, OnErr, IfOk, IfErr}
+use Rattle.std.specs.Result.{result_err}
 use Rattle.std.specs.declared.net.socket_addr.SocketAddrV4.{SocketAddrV4}
 use Rattle.mg_line.specs.declared.phone.Act.{Act}
 use Rattle.gateway_core.specs.GatewayState.{GatewayState}
@@ -8,6 +9,7 @@ use Rattle.gateway_core.specs.Stands.{Stands}
 use Rattle.gateway_core.specs.Wire.{counted}
 use Rattle.plain_machine.specs.Event.{GatewayEvent, phone}
 use Rattle.plain_machine.specs.Lists.{plain}
+use Rattle.plain_machine.specs.Refusing.{Ends, refusal_of}
 use Rattle.gateway_rules.specs.declared.refusal.Refusal.{Refusal}
 use Rattle.traces.specs.Writing.{Input, typed}
 use Rattle.surroundings.specs.declared.surroundings.Fault.{Fault}
@@ -28,15 +30,18 @@ pub tries_act : {S A : Type 0} (sends : S → SocketAddrV4 → List ℕ → Resu
     was.live from (typed text) (phone line act) mid.live sent)
     → OnErr done (sent ≡ from) → IfErr done (λ refusal. Refuses was.live text (phone line act) refusal printed mid.live)
     → Notes (not (is_ok done)) sent to → mid.came.refused ≡ was.came.refused → is ≡ with_input (not (is_ok done)) mid
-    → IsActAnswer done printed answer → TriesAct sends text line act answer was from is to
-tries_act sends text line act (Ok done) printed answer was mid is from sent to takes stays misses notes counts same says =
+    → IsActAnswer done printed answer
+    → ((events : List GatewayEvent) → Stands was.live.gateway events → refusal_of (plain was.live.gateway.setup events) (phone line act) ≡ None
+    → Ends (plain was.live.gateway.setup events) (phone line act) (result_err done))
+    → TriesAct sends text line act answer was from is to
+tries_act sends text line act (Ok done) printed answer was mid is from sent to takes stays misses notes counts same says ends =
     inl (
       subst (λ (s : Standing). TakesOver sends was.live from (typed text) (phone line act) s.live to) (sym same)
           (takes_over sends was.live from sent to (typed text) (phone line act) mid.live takes notes),
       ap (λ (s : Standing). s.came.refused) same ∙ counts,
       says.done_so,
     )
-tries_act {S} sends text line act (Err refusal) printed answer was mid is from sent to takes stays misses notes counts same says =
+tries_act {S} sends text line act (Err refusal) printed answer was mid is from sent to takes stays misses notes counts same says ends =
     inr (
       refusal,
       printed,
@@ -45,6 +50,7 @@ tries_act {S} sends text line act (Err refusal) printed answer was mid is from s
       ap (λ (s : Standing). s.came.refused) same ∙ ap (λ (n : ℕ). counted n 1) counts,
       λ e. says.memory (rw e refl),
       says.refused,
+      ends,
     )
 
 -- what a line is was told and answered, or memory was refused

@@ -1,9 +1,14 @@
 -- What a turn does, from what its calls say.
 use Rattle.std.proofs.Common.{◌≡◌, ◌⊎◌, inl, inr, ℕ, ◌+◌, ◌<◌, ◌≤◌, ◌^◌, [], sym, ◌∙◌, ap, subst, arith}
 use Rattle.std.specs.Prelude.{⊤, not, is_ok, Result, Ok, Err, OnOk, OnErr, List, true}
+use Rattle.std.specs.Result.{result_err}
 use Rattle.std.specs.declared.net.socket_addr.SocketAddrV4.{SocketAddrV4}
+use Rattle.gateway_core.specs.Stands.{Stands}
 use Rattle.gateway_core.specs.Wire.{counted}
+use Rattle.gateway_rules.specs.declared.refusal.Refusal.{Refusal}
 use Rattle.plain_machine.specs.Event.{GatewayEvent}
+use Rattle.plain_machine.specs.Lists.{plain}
+use Rattle.plain_machine.specs.Refusing.{Ends}
 use Rattle.traces.specs.Writing.{Input}
 use Rattle.turns.specs.declared.schedule.Schedule.{Schedule}
 use Rattle.turns.specs.declared.situation.Situation.{Situation}
@@ -24,23 +29,27 @@ use Rattle.live_gateway.proofs.EndingLemmas.{wrote_once_more}
 use Rattle.live_gateway.proofs.OverLemmas.{takes_over}
 
 -- it was taken over an exchange, or refused, and that is counted
-pub tries : {S A B : Type 0} (sends : S → SocketAddrV4 → List ℕ → Result ⊤ Fault → S → Type 0) (input : Input) (event : GatewayEvent) (done : Result A B)
+pub tries : {S A : Type 0} (sends : S → SocketAddrV4 → List ℕ → Result ⊤ Fault → S → Type 0) (input : Input) (event : GatewayEvent) (done : Result A Refusal)
     (was mid is : Standing) (from sent to : Exchange S)
     → OnOk done (TakesBy (λ a gateway b. IsTold a gateway b) (λ a at bytes own mark b. HandsOver sends a at bytes own mark b)
     was.live from input event mid.live sent)
     → OnErr done (sent ≡ from) → OnErr done (Ran was.live [] mid.live) → Notes (not (is_ok done)) sent to
-    → mid.came.refused ≡ was.came.refused → is ≡ with_input (not (is_ok done)) mid → Tries sends input event was from is to
-tries sends input event (Ok done) was mid is from sent to takes stays misses notes counts same =
+    → mid.came.refused ≡ was.came.refused → is ≡ with_input (not (is_ok done)) mid
+    → ((events : List GatewayEvent) → Stands was.live.gateway events → Ends (plain was.live.gateway.setup events) event (result_err done))
+    → Tries sends input event was from is to
+tries sends input event (Ok done) was mid is from sent to takes stays misses notes counts same ends =
     inl (
       subst (λ (s : Standing). TakesOver sends was.live from input event s.live to) (sym same)
           (takes_over sends was.live from sent to input event mid.live takes notes),
       ap (λ (s : Standing). s.came.refused) same ∙ counts,
     )
-tries {S} sends input event (Err why) was mid is from sent to takes stays misses notes counts same =
+tries {S} sends input event (Err why) was mid is from sent to takes stays misses notes counts same ends =
     inr (
       subst (λ (s : Standing). Ran was.live [] s.live) (sym same) misses,
       subst (λ (x : Exchange S). Notes true x to) stays notes,
       ap (λ (s : Standing). s.came.refused) same ∙ ap (λ (n : ℕ). counted n 1) counts,
+      why,
+      ends,
     )
 
 -- a play that stands so

@@ -36,7 +36,7 @@ use Rattle.live_telephones.specs.declared.watch.Watch.{Watch}
 use Rattle.live_gateway.specs.declared.desk.Desk.{Desk}
 use Rattle.live_gateway.specs.declared.exchange.Exchange.{Exchange}
 use Rattle.live_gateway.specs.Exchanging.{TakesOver, Notes}
-use Rattle.live_gateway.specs.Desk.{Standing, at_desk}
+use Rattle.live_gateway.specs.Desk.{Standing, at_desk, MayRefuseIfDone}
 use Rattle.live_gateway.specs.Leaving.{OnlyShows, OnlyTells, OnlyReplies}
 
 -- The line, and what it asks for
@@ -91,7 +91,8 @@ pub record IsActAnswer {A : Type 0} (done : Result A Refusal) (printed answer : 
   pub memory : done ≡ Err refusals.OutOfMemory → answer ≡ no_memory
   pub refused : IfErr done (λ refusal. refusal ≢ refusals.OutOfMemory → answer ≡ printed)
 
--- an act that a line says was done, over an exchange, and that is answered; or it was refused, as is told, answered and counted
+-- an act that a line says was done, over an exchange, and that is answered; or it was refused, as it may, and as is told, answered and
+-- counted
 abbrev pub TriesAct :
     {S : Type 0} → (S → SocketAddrV4 → List ℕ → Result ⊤ Fault → S → Type 0) → List ℕ → ℕ → Act → List ℕ
     → Standing → Exchange S → Standing → Exchange S → Type 0
@@ -100,7 +101,8 @@ TriesAct sends text line act answer was from is to =
     × (answer ≡ codes "done\n"))
     ⊎ ((refusal : Refusal) × (printed : List ℕ) × Refuses was.live text (phone line act) refusal printed is.live
     × Notes true from to × (is.came.refused ≡ counted was.came.refused 1)
-    × (refusal ≡ refusals.OutOfMemory → answer ≡ no_memory) × (refusal ≢ refusals.OutOfMemory → answer ≡ printed))
+    × (refusal ≡ refusals.OutOfMemory → answer ≡ no_memory) × (refusal ≢ refusals.OutOfMemory → answer ≡ printed)
+    × MayRefuseIfDone was.live.gateway (phone line act) refusal)
 
 -- what a line is was asked, as a line says, and is told and answered; or memory was refused for that, and it is answered
 abbrev pub Asks : List ℕ → ℕ → List ℕ → Live → Live → Type 0

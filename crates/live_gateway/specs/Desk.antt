@@ -1,9 +1,13 @@
 -- A desk, as its contracts see it.
-use Rattle.std.specs.Prelude.{◌≡◌, ℕ, Bool, true, List, Option}
+use Rattle.std.specs.Prelude.{◌≡◌, ℕ, Bool, true, List, Option, None, Some}
 use Rattle.std.specs.declared.net.socket_addr.SocketAddrV4.{SocketAddrV4}
+use Rattle.gateway_core.specs.GatewayState.{GatewayState}
 use Rattle.gateway_core.specs.Stands.{Stands}
 use Rattle.gateway_core.specs.Wire.{counted}
+use Rattle.gateway_rules.specs.declared.refusal.Refusal.{Refusal}
 use Rattle.plain_machine.specs.Event.{GatewayEvent}
+use Rattle.plain_machine.specs.Lists.{plain}
+use Rattle.plain_machine.specs.Refusing.{Ends, refusal_of}
 use Rattle.surroundings.specs.Sending.{Received, Traffic, Grows}
 use Rattle.traces.specs.Writing.{Entry}
 use Rattle.live_play.specs.Coming.{Came, arrived_in, AreAllBut}
@@ -29,6 +33,16 @@ at_desk told traffic desk = record {
 -- an input was refused, or taken
 abbrev pub with_input : Bool → Standing → Standing
 with_input is_refused standing = record standing { came = record standing.came { refused = refusals is_refused standing.came.refused } }
+
+-- Whatever events a gateway stands for, it may refuse this one so: as it must be refused, or for want of memory where it takes some.
+abbrev pub MayRefuse : GatewayState → GatewayEvent → Refusal → Type 0
+MayRefuse gateway event refusal =
+    (events : List GatewayEvent) → Stands gateway events → Ends (plain gateway.setup events) event (Some refusal)
+
+-- so it is with what can be done; of what can't be, memory may be wanted to say why
+abbrev pub MayRefuseIfDone : GatewayState → GatewayEvent → Refusal → Type 0
+MayRefuseIfDone gateway event refusal = (events : List GatewayEvent) → Stands gateway events
+    → refusal_of (plain gateway.setup events) event ≡ None → Ends (plain gateway.setup events) event (Some refusal)
 
 -- It went on by these entries of a play, while this came. The datagrams that came in at the entries are those that came, without what
 -- isn't heard, each with its bytes, in their order; but that some may be missing that memory was refused for: no more of them than inputs

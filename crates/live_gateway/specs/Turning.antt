@@ -6,6 +6,7 @@ use Rattle.std.specs.declared.net.socket_addr.SocketAddrV4.{SocketAddrV4}
 use Rattle.mg_bytes.specs.Lists.{is_empty}
 use Rattle.gateway_core.specs.Stands.{Stands}
 use Rattle.gateway_core.specs.Wire.{counted}
+use Rattle.gateway_rules.specs.declared.refusal.Refusal.{Refusal}
 use Rattle.plain_machine.specs.Event.{GatewayEvent, datagram, tick}
 use Rattle.plain_machine.specs.Falling.{first_due}
 use Rattle.plain_machine.specs.Lists.{plain}
@@ -32,17 +33,18 @@ use Rattle.live_gateway.specs.Answering.{DoesLine}
 use Rattle.live_gateway.specs.Passing.{Looks}
 use Rattle.live_gateway.specs.Visiting.{AreReady, ClosesAt}
 use Rattle.live_gateway.specs.Ending.{WroteTimes}
-use Rattle.live_gateway.specs.Desk.{Standing, at_desk, IsHeard}
+use Rattle.live_gateway.specs.Desk.{Standing, at_desk, MayRefuse, IsHeard}
 use Rattle.live_gateway.specs.Exchanging.{CountsReceived, FoundSince, OnlyWrites, TakesOver, Notes, came_by, next_due, moment_at, faults_by}
 
--- The gateway took an event that came in so, over an exchange, as a play tells it; or refused it, which is counted, and nothing was told
--- nor handed over.
+-- The gateway took an event that came in so, over an exchange, as a play tells it; or refused it, as it may, which is counted, and nothing
+-- was told nor handed over.
 abbrev pub Tries :
     {S : Type 0} → (S → SocketAddrV4 → List ℕ → Result ⊤ Fault → S → Type 0) → Input → GatewayEvent
     → Standing → Exchange S → Standing → Exchange S → Type 0
 Tries sends input event was from is to =
     (TakesOver sends was.live from input event is.live to × (is.came.refused ≡ was.came.refused))
-    ⊎ (Ran was.live [] is.live × Notes true from to × (is.came.refused ≡ counted was.came.refused 1))
+    ⊎ (Ran was.live [] is.live × Notes true from to × (is.came.refused ≡ counted was.came.refused 1)
+    × (refusal : Refusal) × MayRefuse was.live.gateway event refusal)
 
 -- None came that is heard, and nothing changed but at the exchange that looked. Or this one did, at the front of this room, and the
 -- gateway took or refused it, over that exchange: what goes out at it changes nothing of what came.

@@ -1,6 +1,6 @@
 -- What the worked examples of turns, of visitors and of datagrams want shown.
 use Rattle.std.proofs.Common.{◌≡◌, ◌⊎◌, inl, inr, ℕ, Bool, true, false, List, [], ◌∷◌, ◌++◌, Option, None, Some, ◌∙◌, refl, ap, subst}
-use Rattle.std.specs.Prelude.{⊤, Result, Ok, Err, IsErr, is_some}
+use Rattle.std.specs.Prelude.{⊤, codes, Result, Ok, Err, IsErr, is_some}
 use Rattle.std.specs.Global.{Box}
 use Rattle.std.specs.declared.net.socket_addr.SocketAddrV4.{SocketAddrV4}
 use Rattle.bad_network.specs.declared.fate.Fate.{Fate}
@@ -32,13 +32,20 @@ use Rattle.live_gateway.specs.declared.spoilt_way.SpoiltWay.{SpoiltWay}
 use Rattle.live_gateway.specs.Ending.{is_record_refused, IsCounted, EndsWith}
 use Rattle.live_gateway.specs.Exchanging.{mark_of, NotesFate, TakesOver, IsSentSo, SendsOver, Becomes, CountsReceived}
 use Rattle.live_gateway.specs.Visiting.{ServesOnce}
-use Rattle.live_gateway.specs.Desk.{Standing}
-use Rattle.live_gateway.specs.Turning.{Tries}
+use Rattle.live_gateway.specs.Desk.{Standing, MayRefuse}
 use Rattle.live_play.specs.Running.{Live}
 use Rattle.gateway_core.specs.Wire.{counted}
-use Rattle.plain_machine.specs.Event.{GatewayEvent}
-use Rattle.traces.specs.Writing.{Input}
-use Rattle.live_laws.specs.TurnExample.{one, HandsNowhere, HandsWith}
+use Rattle.gateway_core.specs.Stands.{Stands}
+use Rattle.gateway_rules.specs.declared.refusal.Refusal.{Refusal}
+use Rattle.gateway_rules.specs.declared.refusal.Refusal.TheVariants.{OutOfMemory as OfMemory}
+use Rattle.mg_line.specs.declared.phone.Act.TheVariants.{OffHook}
+use Rattle.plain_machine.specs.Event.{GatewayEvent, datagram, phone, tick}
+use Rattle.plain_machine.specs.Lists.{plain}
+use Rattle.plain_machine.specs.Machine.{Machine}
+use Rattle.plain_machine.specs.Refusing.{Ends, refusal_of}
+use Rattle.plain_machine.proofs.EndLaws.{ends_well, ends_by_memory}
+use Rattle.traces.specs.Writing.{Input, arrived, passed}
+use Rattle.live_laws.specs.TurnExample.{one, CanFreely, TriesNowhere, TriesOffHook, HandsNowhere, HandsWith}
 
 -- ---- the end
 
@@ -132,11 +139,43 @@ taken_keeps was is input event from to takes = (
   ap (λ (x : Exchange ℕ). x.now) takes.noted.rest ∙ takes.only.turn.0,
 )
 
-pub tried_counts : (was is : Standing) (input : Input) (event : GatewayEvent) (from to : Exchange ℕ)
-    → Tries (λ (before : ℕ) (at : SocketAddrV4) (bytes : List ℕ) (sent : Result ⊤ Fault) (after : ℕ). ⊤) input event was from is to
+pub tried_counts : (was is : Standing) (input : Input) (event : GatewayEvent) (from to : Exchange ℕ) → TriesNowhere input event was from is to
     → (is.came.refused ≡ was.came.refused) ⊎ (to.faults.refused ≡ counted from.faults.refused 1)
 tried_counts was is input event from to (inl takes) = inl takes.1
 tried_counts was is input event from to (inr misses) = inr (ap (λ (x : Exchange ℕ). x.faults.refused) misses.1.rest)
+
+-- what can be done, and wants no memory, isn't refused
+never_refused : (m : Machine) (event : GatewayEvent) (refusal : Refusal) → CanFreely m event → Ends m event (Some refusal) → ⊥
+never_refused m event refusal can ends =
+    let none : Some refusal ≡ None = ends_well m event (Some refusal) can.0 can.1 ends in
+    cc
+
+pub freely_ticks : (was is : Standing) (events : List GatewayEvent) (from to : Exchange ℕ) → Stands was.live.gateway events
+    → CanFreely (plain was.live.gateway.setup events) (tick 5) → TriesNowhere (passed 5) (tick 5) was from is to
+    → is.came.refused ≡ was.came.refused
+freely_ticks was is events from to stands can (inl takes) = takes.1
+freely_ticks was is events from to stands can (inr misses) =
+    absurd (never_refused (plain was.live.gateway.setup events) (tick 5) misses.3 can (misses.4 events stands))
+
+pub freely_done : (was is : Standing) (events : List GatewayEvent) (from to : Exchange ℕ) (answer : List ℕ) → Stands was.live.gateway events
+    → CanFreely (plain was.live.gateway.setup events) (phone 1 OffHook) → TriesOffHook answer was from is to → answer ≡ codes "done\n"
+freely_done was is events from to answer stands can (inl takes) = takes.2
+freely_done was is events from to answer stands can (inr misses) =
+    absurd (never_refused (plain was.live.gateway.setup events) (phone 1 OffHook) misses.0 can (misses.7 events stands can.0))
+
+-- a datagram always can be taken
+datagram_can : (m : Machine) (source : SocketAddrV4) (bytes : List ℕ) → refusal_of m (datagram source bytes) ≡ None
+unfolding refusal_of
+datagram_can m source bytes = refl
+
+pub heard_or_unremembered : (was is : Standing) (from to : Exchange ℕ) → Stands was.live.gateway []
+    → TriesNowhere (arrived one.0 []) (datagram one.0 []) was from is to
+    → (is.came.refused ≡ was.came.refused) ⊎ MayRefuse was.live.gateway (datagram one.0 []) OfMemory
+heard_or_unremembered was is from to stands (inl takes) = inl takes.1
+heard_or_unremembered was is from to stands (inr misses) =
+    let why : misses.3 ≡ OfMemory = ends_by_memory (plain was.live.gateway.setup []) (datagram one.0 []) misses.3
+        (datagram_can (plain was.live.gateway.setup []) one.0 []) (misses.4 [] stands) in
+    inr (subst (λ (refusal : Refusal). MayRefuse was.live.gateway (datagram one.0 []) refusal) why misses.4)
 
 -- ---- what is noted
 

@@ -1,13 +1,17 @@
 -- What the worked examples speak of: a desk over surroundings that tell nothing, whose trace tells nothing either.
-use Rattle.std.specs.Prelude.{◌≡◌, ⊤, ℕ, codes, false, List, [], ◌∷◌, Option, None, Some, Result, Ok, Err, IsErr}
+use Rattle.std.specs.Prelude.{◌≡◌, ⊤, ℕ, codes, false, true, List, [], ◌∷◌, Option, None, Some, Result, Ok, Err, IsErr}
 use Rattle.std.specs.declared.net.socket_addr.SocketAddrV4.{SocketAddrV4}
 use Rattle.bad_network.specs.declared.fate.Fate.{Fate}
 use Rattle.bad_network.specs.declared.fate.Fate.TheVariants.{Lost, Once}
 use Rattle.live_ends.specs.declared.ending.CommonEnding.{CommonEnding}
 use Rattle.live_journal.specs.declared.trace.Trace.{Trace}
 use Rattle.plain_machine.specs.declared.label.SentMessage.{SentMessage}
+use Rattle.plain_machine.specs.Event.{GatewayEvent}
+use Rattle.plain_machine.specs.Machine.{Machine}
+use Rattle.plain_machine.specs.Refusing.{refusal_of, takes_none}
 use Rattle.surroundings.specs.Sending.{untold}
 use Rattle.traces.specs.declared.telling.Mark.{Mark}
+use Rattle.traces.specs.Writing.{Input}
 use Rattle.surroundings.specs.declared.surroundings.Fault.{Fault}
 use Rattle.message_counts.specs.Tallying.{with_stranger}
 use Rattle.message_counts.specs.declared.message_tally.MessageTally.{MessageTally}
@@ -16,11 +20,12 @@ use Rattle.live_gateway.specs.declared.desk.Desk.{Desk}
 use Rattle.live_gateway.specs.declared.exchange.Exchange.{Exchange}
 use Rattle.mg_line.specs.declared.phone.Act.TheVariants.{OffHook}
 use Rattle.live_gateway.specs.Admitting.{is_heard}
-use Rattle.live_gateway.specs.Answering.{DoesAct}
+use Rattle.live_gateway.specs.Answering.{DoesAct, TriesAct}
+use Rattle.live_gateway.specs.Desk.{Standing}
 use Rattle.live_gateway.specs.Ending.{EndsWith}
 use Rattle.live_gateway.specs.Exchanging.{Becomes, HandsOver}
 use Rattle.live_gateway.specs.Noting.{with_looked}
-use Rattle.live_gateway.specs.Turning.{TriesFound, LooksForOne}
+use Rattle.live_gateway.specs.Turning.{Tries, TriesFound, LooksForOne}
 
 -- a datagram of 5 bytes from 10.0.0.9:2727
 abbrev pub one : SocketAddrV4 × ℕ
@@ -39,6 +44,17 @@ LooksNowhere was is =
 -- nothing was found by an exchange that looked so
 abbrev pub FindsNothing : Exchange ℕ → Desk ℕ ℕ → Desk ℕ ℕ → Type 0
 FindsNothing looked was is = TriesFound (λ told. None) (λ around. untold) (λ before to bytes sent after. ⊤) looked None [] was is
+
+-- an event can be taken, and wants no memory
+abbrev pub CanFreely : Machine → GatewayEvent → Type 0
+CanFreely m event = (refusal_of m event ≡ None) × (takes_none m event ≡ true)
+
+-- an event was tried so, whatever is sent; and line 1 was taken off hook
+abbrev pub TriesNowhere : Input → GatewayEvent → Standing → Exchange ℕ → Standing → Exchange ℕ → Type 0
+TriesNowhere input event was from is to = Tries (λ before at bytes sent after. ⊤) input event was from is to
+
+abbrev pub TriesOffHook : List ℕ → Standing → Exchange ℕ → Standing → Exchange ℕ → Type 0
+TriesOffHook answer was from is to = TriesAct (λ before at bytes sent after. ⊤) (codes "off-hook 1") 1 OffHook answer was from is to
 
 -- a desk ended so, and who writes what was recorded was told these words last, if any
 abbrev pub EndsSaying : List ℕ → Desk ℕ Trace → CommonEnding → Type 0

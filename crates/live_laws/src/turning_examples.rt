@@ -13,12 +13,15 @@ ghost use Rattle.live_gateway.specs.declared.exchange.Exchange.{Exchange};
 ghost use Rattle.live_gateway.specs.Admitting.{is_heard};
 ghost use Rattle.live_gateway.specs.Answering.{IsActAnswer};
 ghost use Rattle.live_gateway.specs.Ending.{is_record_refused, IsCounted, OnlyEnds};
-ghost use Rattle.live_laws.specs.TurnExample.{one, lost_one, once, failed, LooksNowhere, FindsNothing, SendsNowhere, HandsAnywhere, HandsNowhere, HandsWith, EndsSaying, CountsStranger, ActsAnywhere};
+ghost use Rattle.live_laws.specs.TurnExample.{one, lost_one, once, failed, CanFreely, TriesNowhere, TriesOffHook, LooksNowhere, FindsNothing, SendsNowhere, HandsAnywhere, HandsNowhere, HandsWith, EndsSaying, CountsStranger, ActsAnywhere};
 ghost use Rattle.live_gateway.specs.Exchanging.{heard_in, mark_of, is_lost, faults_by, faultless, with_unreceived, unsent_in, IsTold, OnlySends, OnlyWrites, Explains, Notes, LosesOver, TakesOver};
-ghost use Rattle.live_gateway.specs.Desk.{Standing};
+ghost use Rattle.live_gateway.specs.Desk.{Standing, MayRefuse};
 ghost use Rattle.live_play.specs.Running.{Live};
-ghost use Rattle.plain_machine.specs.Event.{GatewayEvent};
-ghost use Rattle.traces.specs.Writing.{Input};
+ghost use Rattle.gateway_core.specs.Stands.{Stands};
+ghost use Rattle.mg_line.specs.declared.phone.Act.TheVariants.{OffHook};
+ghost use Rattle.plain_machine.specs.Event.{GatewayEvent, datagram, phone, tick};
+ghost use Rattle.plain_machine.specs.Lists.{plain};
+ghost use Rattle.traces.specs.Writing.{Input, arrived, passed};
 ghost use Rattle.gateway_core.specs.Wire.{counted};
 ghost use Rattle.message_counts.specs.Counting.{counts_in};
 ghost use Rattle.message_counts.specs.Tallying.{with_handed_out};
@@ -31,7 +34,7 @@ ghost use Rattle.traces.specs.declared.telling.Mark.TheVariants.{Unsent, Lost};
 ghost use Rattle.live_gateway.specs.Leaving.{OnlyShows, OnlyTells, OnlyPlays, OnlyTicks, OnlyLogs, NotesPause, OnlyHears, OnlyReplies, OnlyWaits, TakesIf, DoesVisit};
 ghost use Rattle.exchange_log.specs.Pausing.{pause_line};
 ghost use Rattle.live_outlets.specs.declared.record.RecordState.TheVariants.{Off, On};
-ghost use Rattle.live_gateway.specs.Turning.{ready_at, RunsTurns, Tries};
+ghost use Rattle.live_gateway.specs.Turning.{ready_at, RunsTurns};
 ghost use Rattle.surroundings.specs.Sending.{untold};
 ghost use Rattle.std.specs.Global.{Box};
 ghost use Rattle.page_board.specs.Showing.{BoardState};
@@ -139,14 +142,23 @@ pub fn what_goes_over_an_exchange_has_examples()
     ensures ticked { (was is : Desk ℕ ℕ) → OnlyTicks 5 was is → is.exchange.now.clock ≡ 5 }
 {}
 
-/// Where a gateway takes an event nothing is read, nor counted as refused; and of a desk at which an act was asked for the end stays.
+/// Where a gateway takes an event nothing is read, nor counted as refused; and of a desk at which an act was asked for the end stays. A
+/// tick and an act that can be done, and take no memory, are done; a datagram is refused for want of memory alone.
 pub fn what_is_tried_has_examples()
     ensures taken { (was is : Live) (input : Input) (event : GatewayEvent) (from to : Exchange ℕ)
         → TakesOver (λ before to bytes sent after. ⊤) was from input event is to
         → (to.faults.refused ≡ from.faults.refused) × (to.read ≡ from.read) × (to.now ≡ from.now) }
     ensures tried { (was is : Standing) (input : Input) (event : GatewayEvent) (from to : Exchange ℕ)
-        → Tries (λ before to bytes sent after. ⊤) input event was from is to
+        → TriesNowhere input event was from is to
         → (is.came.refused ≡ was.came.refused) ⊎ (to.faults.refused ≡ counted from.faults.refused 1) }
+    ensures ticked { (was is : Standing) (events : List GatewayEvent) (from to : Exchange ℕ) → Stands was.live.gateway events
+        → CanFreely (plain was.live.gateway.setup events) (tick 5) → TriesNowhere (passed 5) (tick 5) was from is to
+        → is.came.refused ≡ was.came.refused }
+    ensures heard { (was is : Standing) (from to : Exchange ℕ) → Stands was.live.gateway []
+        → TriesNowhere (arrived one.0 []) (datagram one.0 []) was from is to
+        → (is.came.refused ≡ was.came.refused) ⊎ MayRefuse was.live.gateway (datagram one.0 []) Why.OutOfMemory }
+    ensures done { (was is : Standing) (events : List GatewayEvent) (from to : Exchange ℕ) (answer : List ℕ) → Stands was.live.gateway events
+        → CanFreely (plain was.live.gateway.setup events) (phone 1 OffHook) → TriesOffHook answer was from is to → answer ≡ codes "done\n" }
     ensures acted { (was is : Desk ℕ ℕ) → ActsAnywhere was is → (is.end ≡ was.end) × (is.admission ≡ was.admission) }
 {}
 

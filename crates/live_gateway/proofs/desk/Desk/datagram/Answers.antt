@@ -67,6 +67,7 @@ returns-clause-looked g c =
             (explained_then _ _ c.note_datagram.new.exchange _ c.note_datagram.ensures.notes
             (rw (c.is_ok-is_taken.ensures.value) at c.note_taken.ensures.notes))
             (ap (λ (x : Came). x.refused) same ∙ c.receive.ensures.refused)
-            noted,
+            noted
+            c.datagram-done.ensures.ends,
       );
     }

@@ -99,7 +99,8 @@ returns-in-Act-clause-line g c =
             (counted_so told traffic c.act-done.new.self c.act-done.new.out c.answer_act.new.exchange _
             (c.answer_act.ensures.network ∙ c.note_taken.ensures.network) (c.answer_act.ensures.traffic ∙ ap traffic c.note_taken.ensures.around)
             (ap (λ (x : Faults). x.refused) c.answer_act.ensures.faults ∙ (rw (c.is_ok.ensures.value) at c.note_taken.ensures.refused)))
-            (rw (c.printed-printed.ensures) at answered.1);
+            (rw (c.printed-printed.ensures) at answered.1)
+            c.act-done.ensures.ends;
         says = record {
           answered = answered.2;
           left = c.answer_act.ensures.left;

@@ -48,7 +48,8 @@ returns-clause-tried g c =
     (ap (λ (x : Came). x.refused)
     (rw (c.begin.ensures.network, c.begin.ensures.around, c.begin.ensures.faults) at c.tick-done.ensures.came))
     (counted_so told traffic c.tick-done.new.self c.tick-done.new.out c.note_taken.new.exchange _
-    c.note_taken.ensures.network (ap traffic c.note_taken.ensures.around) (rw (c.is_ok.ensures.value) at c.note_taken.ensures.refused)))
+    c.note_taken.ensures.network (ap traffic c.note_taken.ensures.around) (rw (c.is_ok.ensures.value) at c.note_taken.ensures.refused))
+    c.tick-done.ensures.ends)
 
 pub returns-clause-rest : goal.returns-clause-rest
 returns-clause-rest g c = (
