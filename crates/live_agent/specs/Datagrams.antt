@@ -1,5 +1,5 @@
 -- What a datagram does at a board and over a wire.
-use Rattle.std.specs.Prelude.{◌≡◌, ⊤, ℕ, zero, suc, Bool, true, false, is_some, position, List, [], ◌∷◌, take, Option, Some, None, IfNone, IfOk, OnErr, Result, Ok, slice_get}
+use Rattle.std.specs.Prelude.{◌≡◌, ⊤, ℕ, zero, suc, Bool, true, false, is_some, position, List, [], ◌∷◌, take, length, Option, Some, None, IfNone, IfSome, IfOk, OnErr, Result, Ok, slice_get}
 use Rattle.std.specs.Result.{result_err}
 use Rattle.std.specs.declared.net.socket_addr.SocketAddrV4.{SocketAddrV4}
 use Rattle.agent_texts.specs.declared.tally.Tally.{Tally}
@@ -17,13 +17,14 @@ use Rattle.transmission.specs.Texts.{texts_of}
 use Rattle.switchboard.specs.declared.switchboard.Switchboard.{Switchboard}
 use Rattle.load_bench.specs.Telephones.{CountsCame}
 use Rattle.live_agent.specs.Clock.{milliseconds}
+use Rattle.live_agent.specs.declared.session.TheConstants.{ROOM}
 use Rattle.live_agent.specs.declared.wire.Wire.{Wire}
 use Rattle.switchboard.specs.Boards.{is_at, taking_in}
 use Rattle.switchboard.specs.Hearing.{HearsText}
 use Rattle.live_agent.specs.Handing.{HandsOver, OffersTo}
 use Rattle.live_agent.specs.Sending.{SendsOver, SendsOutputs}
 use Rattle.live_agent.specs.Settling.{SettlesAll}
-use Rattle.switchboard.specs.Steps.{AtPlace, OthersStay, Refuses}
+use Rattle.switchboard.specs.Steps.{AtPlace, OthersStay, Refuses, WaitsIn}
 use Rattle.switchboard.specs.Taking.{taken_place, TakesOf}
 use Rattle.switchboard.specs.Tallying.{counted_if}
 use Rattle.live_agent.specs.Telephones.{CountsFor}
@@ -56,7 +57,7 @@ abbrev pub SettlesIf : {S : Type 0} → (S → SocketAddrV4 → List ℕ → Res
 SettlesIf sends false board was now is = (now ≡ board) × (is ≡ was)
 SettlesIf sends true board was now is = SettlesAll sends board was now is
 
--- of the line that is taken so many behind the first; it counts where there was anything, and is told
+-- of the line that is taken so many behind the first; it counts where there was anything, and is told, and that line waits to be settled
 pub record TakesNext {S : Type 0} (sends : S → SocketAddrV4 → List ℕ → Result ⊤ Fault → S → Type 0) (place index : ℕ) (board : Switchboard) (was : Wire S)
     (now : Switchboard) (is : Wire S)
     : Type 0 where
@@ -64,6 +65,7 @@ pub record TakesNext {S : Type 0} (sends : S → SocketAddrV4 → List ℕ → R
   pub taken : Switchboard
   pub told : Wire S
   pub takes : TakesOf place (taken_place index (slice_get board.gateways.items place) board.notifying) found board taken
+  pub waits : found ≡ true → IfSome (taken_place index (slice_get board.gateways.items place) board.notifying) (λ line. WaitsIn line taken.office)
   pub rest : taken ≡ record board { stations = taken.stations; office = taken.office }
   pub counts : told.journal.value.tally ≡ counted_if found with_notification was.journal.value.tally
   pub leaves : told ≡ record was { journal = told.journal }
@@ -170,6 +172,7 @@ abbrev pub TakesFound : {S : Type 0} → (S → SocketAddrV4 → List ℕ → Re
 TakesFound sends None room board was now is = (now ≡ board) × (is ≡ was)
 TakesFound sends (Some found) room board was now is = TakesReceived sends was.network found.0 (take found.1 room) board was now is
 
+-- it is looked once for one that the sockets gave, in the room that there is for it
 pub record TakesLooked {S : Type 0} (sends : S → SocketAddrV4 → List ℕ → Result ⊤ Fault → S → Type 0)
     (receives : S → Result (Option (SocketAddrV4 × ℕ)) Fault → List ℕ → S → Type 0)
     (board : Switchboard) (was : Wire S) (now : Switchboard) (is : Wire S)
@@ -177,6 +180,7 @@ pub record TakesLooked {S : Type 0} (sends : S → SocketAddrV4 → List ℕ →
   pub outcome : Result (Option (SocketAddrV4 × ℕ)) Fault
   pub room : List ℕ
   pub looked : Wire S
+  pub long : length room ≡ ROOM
   pub looks : receives was.around outcome room looked.around
   pub counts : looked.journal.value.tally ≡ looked_counted outcome was.journal.value.tally
   pub alone : OnlyCounts was.journal.value looked.journal.value

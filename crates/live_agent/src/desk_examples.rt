@@ -1,7 +1,7 @@
 //! Worked examples of what a desk waits for, of what its turns leave, and of how it ends, as theorems.
 #![tactic(auto)]
 
-ghost use Rattle.std.specs.Prelude.{◌≡◌, ⊤, [], ◌∷◌, ℕ, Bool, true, false, List, Option, Some, None, Ok, Err, codes};
+ghost use Rattle.std.specs.Prelude.{◌≡◌, ⊤, [], ◌∷◌, ℕ, Bool, true, false, List, Option, Some, None, Ok, Err, codes, length, slice_get};
 ghost use Rattle.std.specs.declared.net.socket_addr.SocketAddrV4.{SocketAddrV4};
 ghost use Rattle.std.specs.Global.{Box};
 ghost use Rattle.std.specs.Result.{result_err};
@@ -44,7 +44,9 @@ ghost use Rattle.live_agent.specs.Datagrams.{with_stranger, DealsIf, HearsBy, He
 ghost use Rattle.switchboard.specs.Hearing.{HearsText};
 ghost use Rattle.switchboard.specs.Dues.{FallsDueAt};
 ghost use Rattle.switchboard.specs.Example.{HasAgent};
-ghost use Rattle.switchboard.specs.Steps.{settled_in};
+ghost use Rattle.switchboard.specs.Steps.{settled_in, WaitsIn};
+ghost use Rattle.switchboard.specs.Taking.{taken_place};
+ghost use Rattle.live_agent.specs.declared.session.TheConstants.{ROOM};
 ghost use Rattle.live_agent.specs.Ending.{counted_in, EndsWith};
 ghost use Rattle.live_agent.specs.Handing.{comes_in, HandsFirst, HandsLast, Leaves, Offers, OffersTo, SendsEachOn, SendsOn, TakesOffer};
 ghost use Rattle.live_agent.specs.Sending.{GoesOut, SendsAll, SendsCommand, SendsOne, SendsOutputs, SendsOver, SettlesLines};
@@ -170,6 +172,10 @@ pub fn what_a_datagram_does_has_examples()
         takes.told.journal.value.tally ≡ was.journal.value.tally }
     ensures counts { (board now : Switchboard) (was is : Wire ℕ) (takes : TakesNext sends_any 0 0 board was now is) → takes.found ≡ true →
         takes.told.journal.value.tally ≡ with_notification was.journal.value.tally }
+    ensures waits_then { (line : ℕ) (board now : Switchboard) (was is : Wire ℕ) (takes : TakesNext sends_any 0 0 board was now is) → takes.found ≡ true →
+        taken_place 0 (slice_get board.gateways.items 0) board.notifying ≡ Some line → WaitsIn line takes.taken.office }
+    ensures room { (board now : Switchboard) (was is : Wire ℕ) (looks : TakesLooked sends_any receives_any board was now is) →
+        length looks.room ≡ ROOM }
     ensures logs_nothing { (board now : Switchboard) (was is : Wire ℕ) (takes : TakesNext sends_any 0 0 board was now is) →
         (takes.told.journal.value.log ≡ was.journal.value.log) × (takes.told.journal.value.capture ≡ was.journal.value.capture) }
     ensures no_line { (board now : Switchboard) (was is : Wire ℕ) → TakesEach sends_any 0 0 board was now is → now ≡ board }

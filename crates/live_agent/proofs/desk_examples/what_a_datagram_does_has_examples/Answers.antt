@@ -1,5 +1,6 @@
 use Rattle.std.proofs.Common.{◌≡◌, ℕ, Bool, List, [], Option, Result, Ok, ap, subst, ◌∙◌}
-use Rattle.std.specs.Prelude.{IfNone, slice_get}
+use Rattle.std.specs.Prelude.{IfNone, IfSome, slice_get}
+use Rattle.switchboard.specs.Steps.{WaitsIn}
 use Rattle.std.specs.declared.net.socket_addr.SocketAddrV4.{SocketAddrV4}
 use Rattle.agent_texts.specs.declared.journal.Journal.{Journal}
 use Rattle.agent_texts.specs.Counts.{with_notification}
@@ -72,3 +73,10 @@ returns-clause-looks_for_one c = λ board now was is looks none.
 pub returns-clause-nobody_steps : goal.returns-clause-nobody_steps
 returns-clause-nobody_steps c = λ source outputs board now none steps.
     subst (λ (gateways : List Gateway). IfNone (slice_get gateways 0) (outputs ≡ Ok [])) none steps.nobody
+
+pub returns-clause-waits_then : goal.returns-clause-waits_then
+returns-clause-waits_then c = λ line board now was is takes some taken.
+    subst (λ (one : Option ℕ). IfSome one (λ found. WaitsIn found takes.taken.office)) taken (takes.waits some)
+
+pub returns-clause-room : goal.returns-clause-room
+returns-clause-room c = λ board now was is looks. looks.long
