@@ -1,7 +1,7 @@
 -- What is said to telephones, and when a load is over.
 use Rattle.std.proofs.Common.{◌≡◌, ℕ, ◌+◌, ◌<◌, ◌≤◌, Bool, true, false, List, [], ◌∷◌, length, get_or, drop, Option, Some, None, refl, sym, ap, subst, ◌∙◌}
 use Rattle.std.proofs.lemmas.List.{drop_more, at_drop_all}
-use Rattle.std.specs.Prelude.{◌&&◌}
+use Rattle.std.specs.Prelude.{◌&&◌, vec_len}
 use Rattle.std.specs.Global.{Box}
 use Rattle.std.specs.declared.net.socket_addr.SocketAddr.{SocketAddr}
 use Rattle.load_bench.specs.Over.{bench_over, given_up}
@@ -11,7 +11,7 @@ use Rattle.load_bench.specs.declared.said.Said.{Said}
 use Rattle.load_bench.specs.declared.settings.LoadFault.TheVariants.{OutOfMemory}
 use Rattle.live_agent.specs.declared.loading.Load.{Load}
 use Rattle.live_agent.specs.declared.wire.Wire.{Wire}
-use Rattle.live_agent.specs.Telephones.{course_behind, end_of, load_over, CountsFor, OfLoad, Passes, PassesLoad, SaysAll, SaysEach, SaysOne}
+use Rattle.live_agent.specs.Telephones.{course_behind, end_of, load_over, CountsFor, HearsIn, HearsOnce, OfLoad, Passes, PassesLoad, SaysAll, SaysEach, SaysOne}
 
 both_true : (all : Bool) → (all && true) ≡ all
 both_true true = refl
@@ -96,3 +96,11 @@ module _ {S : Type 0} (answers : S → SocketAddr → List ℕ → S → Type 0)
             (gives ∙ ap (λ (one : Bench). given_up OutOfMemory one.course.value) clears);
         rest = both ∙ ap (λ (one : Bench). record was { said = one.said; course = is.course }) (sym both);
       }
+
+module _ {S : Type 0} (hears : S → Option (SocketAddr × ℕ) → List ℕ → S → Type 0) (answers : S → SocketAddr → List ℕ → S → Type 0) where
+  -- what its telephones say is heard in its room
+  pub hears_in : (moment : ℕ) (taken : Bool) (before after : S) (load : Option (Box Load)) (was is : Box Load) → load ≡ Some was
+      → HearsOnce hears answers moment (vec_len was.value.room) taken before after was.value.bench.value is.value.bench.value
+      → HearsIn hears answers moment taken before after load (Some is)
+  hears_in moment taken before after load was is made once =
+      subst (λ (one : Option (Box Load)). HearsIn hears answers moment taken before after one (Some is)) (sym made) once

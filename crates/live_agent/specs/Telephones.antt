@@ -1,5 +1,5 @@
 -- What a load makes of time, and of what its telephones say: what is said to them then, and whether it is over.
-use Rattle.std.specs.Prelude.{◌≡◌, ◌⊎◌, ℕ, Bool, true, false, ◌&&◌, if◌then◌else◌, is_some, take, List, [], ◌∷◌, Option, Some, None}
+use Rattle.std.specs.Prelude.{◌≡◌, ◌⊎◌, ℕ, Bool, true, false, ◌&&◌, if◌then◌else◌, is_some, vec_len, length, take, List, [], ◌∷◌, Option, Some, None}
 use Rattle.std.specs.Global.{Box}
 use Rattle.std.specs.declared.net.socket_addr.SocketAddr.{SocketAddr}
 use Rattle.std.specs.declared.net.socket_addr.SocketAddr.TheVariants.{V4}
@@ -14,6 +14,7 @@ use Rattle.load_bench.specs.declared.settings.LoadFault.{LoadFault}
 use Rattle.load_bench.specs.declared.settings.LoadFault.TheVariants.{OutOfMemory}
 use Rattle.live_ends.specs.declared.ending.CommonEnding.{CommonEnding}
 use Rattle.live_agent.specs.declared.loading.Load.{Load}
+use Rattle.live_agent.specs.declared.loading.TheConstants.{ROOM}
 use Rattle.live_agent.specs.declared.loading.LoadEnding.{LoadEnding}
 use Rattle.live_agent.specs.declared.loading.LoadEnding.TheVariants.{Unmade, Made}
 use Rattle.live_agent.specs.Clock.{milliseconds}
@@ -103,33 +104,42 @@ SaysHeard answers moment None room before after was is = (after ≡ before) × (
 SaysHeard answers moment (Some found) room before after was is =
     (heard : Bench) × HearsThem found.0 (take found.1 room) moment was heard × SaysAll answers before heard after is
 
--- it is looked once what they say
+-- it is looked once what they say, into a room that is so long
 pub record HearsOnce {S : Type 0} (hears : S → Option (SocketAddr × ℕ) → List ℕ → S → Type 0) (answers : S → SocketAddr → List ℕ → S → Type 0)
-    (moment : ℕ) (taken : Bool) (before after : S) (was is : Bench)
+    (moment size : ℕ) (taken : Bool) (before after : S) (was is : Bench)
     : Type 0 where
   pub found : Option (SocketAddr × ℕ)
   pub room : List ℕ
   pub looked : S
+  pub long : length room ≡ size
   pub looks : hears before found room looked
   pub is_taken : taken ≡ is_some found
   pub says : SaysHeard answers moment found room looked after was is
+
+-- into the room of a load that is made, which is still made
+abbrev pub HearsIn : {S : Type 0} → (S → Option (SocketAddr × ℕ) → List ℕ → S → Type 0) → (S → SocketAddr → List ℕ → S → Type 0) → ℕ → Bool → S → S
+    → Option (Box Load) → Option (Box Load) → Type 0
+HearsIn hears answers moment taken before after None is = ⊥
+HearsIn hears answers moment taken before after (Some was) None = ⊥
+HearsIn hears answers moment taken before after (Some was) (Some is) =
+    HearsOnce hears answers moment (vec_len was.value.room) taken before after was.value.bench.value is.value.bench.value
 
 -- So it is at this moment, and a datagram that has come counts as read. Where the load is over then the end has come.
 pub record HearsTelephones {S : Type 0} (hears : S → Option (SocketAddr × ℕ) → List ℕ → S → Type 0) (answers : S → SocketAddr → List ℕ → S → Type 0)
     (moment : ℕ) (was is : Wire S)
     : Type 0 where
   pub taken : Bool
-  pub hears_them : OfLoad (HearsOnce hears answers moment taken was.around is.around) was.load is.load
+  pub hears_them : HearsIn hears answers moment taken was.around is.around was.load is.load
   pub reads : is.read ≡ with_read taken was.read
   pub ends : is.end ≡ end_of (load_over moment is.load) was.end
   pub rest : is ≡ record was { around = is.around; read = is.read; end = is.end; load = is.load }
 
 -- At its beginning and its end
 
--- what a bench has to say is said, and it is that of a load from then on
+-- what a bench has to say is said, and it is that of a load from then on, which has room for any datagram
 abbrev pub SaysTo : {S : Type 0} → (S → SocketAddr → List ℕ → S → Type 0) → S → Bench → S → Option (Box Load) → Type 0
 SaysTo answers before asked after None = ⊥
-SaysTo answers before asked after (Some load) = SaysAll answers before asked after load.value.bench.value
+SaysTo answers before asked after (Some load) = SaysAll answers before asked after load.value.bench.value × (vec_len load.value.room ≡ ROOM)
 
 -- A load is made over a wire, which ends with it: its telephones are asked what it has to ask them. Or it ends at once, and none is made.
 abbrev pub BeginsLoad : {S : Type 0} → (S → SocketAddr → List ℕ → S → Type 0) → Option CommonEnding → Wire S → Wire S → Type 0

@@ -1,7 +1,7 @@
 //! Worked examples of what a desk waits for, of what its turns leave, and of how it ends, as theorems.
 #![tactic(auto)]
 
-ghost use Rattle.std.specs.Prelude.{◌≡◌, ⊤, [], ◌∷◌, ℕ, Bool, true, false, List, Option, Some, None, Ok, Err, codes, length, slice_get};
+ghost use Rattle.std.specs.Prelude.{◌≡◌, ⊤, [], ◌∷◌, ℕ, Bool, true, false, List, Option, Some, None, Ok, Err, codes, length, slice_get, vec_len};
 ghost use Rattle.std.specs.declared.net.socket_addr.SocketAddrV4.{SocketAddrV4};
 ghost use Rattle.std.specs.Global.{Box};
 ghost use Rattle.std.specs.Result.{result_err};
@@ -46,6 +46,7 @@ ghost use Rattle.switchboard.specs.Dues.{FallsDueAt};
 ghost use Rattle.switchboard.specs.Example.{HasAgent};
 ghost use Rattle.switchboard.specs.Steps.{settled_in, WaitsIn};
 ghost use Rattle.switchboard.specs.Taking.{taken_place};
+ghost use Rattle.live_agent.specs.declared.loading.TheConstants.{ROOM as LOAD_ROOM};
 ghost use Rattle.live_agent.specs.declared.session.TheConstants.{ROOM};
 ghost use Rattle.live_agent.specs.Ending.{counted_in, EndsWith};
 ghost use Rattle.live_agent.specs.Handing.{comes_in, HandsFirst, HandsLast, Leaves, Offers, OffersTo, SendsEachOn, SendsOn, TakesOffer};
@@ -53,7 +54,7 @@ ghost use Rattle.live_agent.specs.Sending.{GoesOut, SendsAll, SendsCommand, Send
 ghost use Rattle.live_agent.specs.Serving.{served_ending, RunsTurns, ServesOver, ServesToEnd, StopsAt, Writes};
 ghost use Rattle.live_agent.specs.Settling.{SendsEach, SendsIssued, SendsNext, SettlesBy, ShowsEach, ShowsOne};
 ghost use Rattle.live_agent.specs.Tallying.{leaving_counted, with_refusal, with_send_fault, OnlyCounts, OnlyNotes, OnlyRecords, OnlyTells, OnlyTellsAndNotes};
-ghost use Rattle.live_agent.specs.Telephones.{course_behind, end_of, ending_in, load_ending, load_over, BeginsLoad, CountsFor, HearsTelephones, OfLoad, Passes, PassesLoad, Reports, SaysAll, SaysEach, SaysHeard, SaysOne};
+ghost use Rattle.live_agent.specs.Telephones.{course_behind, end_of, ending_in, load_ending, load_over, BeginsLoad, CountsFor, HearsOnce, HearsTelephones, OfLoad, Passes, PassesLoad, Reports, SaysAll, SaysEach, SaysHeard, SaysOne, SaysTo};
 ghost use Rattle.live_agent.specs.Ticking.{GivesUpEach, GivesUpMany, GivesUpNext, TicksEach, TicksOne, WakesEach, WakesMany};
 ghost use Rattle.live_agent.specs.Turning.{line_request, first_request, DoesRequest, DoesTick, DoesTurn, EndsBy, Notes, TakesTyped, TellsCounts, TicksOver, Waits};
 ghost use Rattle.switchboard.specs.Typed.{typed_text};
@@ -278,6 +279,10 @@ pub fn what_telephones_are_told_has_examples()
     ensures reports { (was is : Bench) → Reports was is → is.tally ≡ was.tally }
     ensures unmade_for { (bench : Bench) → bench.course.value.fault ≡ Some faults.NoLines → load_ending bench ≡ loads.Unmade faults.NoLines }
     ensures unmade_at_all { ending_in None ≡ loads.Unmade faults.OutOfMemory }
+    ensures begins_with_room { (before after : ℕ) (asked : Bench) (load : Box Load) → SaysTo answers_any before asked after (Some load) →
+        vec_len load.value.room ≡ LOAD_ROOM }
+    ensures hears_in_room { (before after : ℕ) (was is : Bench) (hears : HearsOnce hears_any answers_any 700 4001 true before after was is) →
+        length hears.room ≡ 4001 }
     // Where they said nothing, nothing is said to them; what they say counts as read.
     ensures nothing { (before after : ℕ) (was is : Bench) → SaysHeard answers_any 700 None [] before after was is → (after ≡ before) × (is ≡ was) }
     ensures reads { (was is : Wire ℕ) (hears : HearsTelephones hears_any answers_any 700 was is) → hears.taken ≡ true → is.read ≡ one_more was.read }

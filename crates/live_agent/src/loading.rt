@@ -1,10 +1,11 @@
 //! Makes a load: calls at a rate between the telephones of gateways, which another call agent serves, or this program's own exchange.
-ghost use Rattle.std.specs.Prelude.{◌≡◌, ◌≤◌, ◌&&◌, true, false, is_some, length, take, IfOk};
+ghost use Rattle.std.specs.Prelude.{◌≡◌, ◌≤◌, ◌&&◌, true, false, is_some, length, take, vec_len, IfOk};
 ghost use Rattle.load_bench.specs.declared.settings.LoadFault.TheVariants.{OutOfMemory};
 ghost use Rattle.load_bench.specs.Over.{bench_over};
 ghost use Rattle.load_bench.specs.Telephones.{CountsCame, CountsSent, Hears};
 ghost use Rattle.live_agent.specs.Clock.{milliseconds};
 ghost use Rattle.live_agent.specs.declared.loading.LoadEnding.TheVariants.{Unmade};
+ghost use Rattle.live_agent.specs.declared.loading.TheConstants.{ROOM};
 ghost use Rattle.live_agent.specs.Telephones.{end_of, load_ending, BeginsLoad, CountsFor, EndsLoad, HearsOnce, HearsTelephones, PassesLoad, Reports};
 ghost use Rattle.live_agent.specs.Telephones.{SaysAll, SaysAndReports, SaysEach, SaysEnded, SaysOne, SaysPassed};
 ghost use Rattle.live_agent.specs.Wiring.{due_of, with_read, FallsDueOver};
@@ -201,7 +202,7 @@ fn hear<S: Surroundings>(
     moment: u64,
 ) -> Look
     ensures over { result.is_over ≡ bench_over moment bench.new }
-    ensures heard { HearsOnce S.hears S.answers moment result.taken around.old around.new bench.old bench.new }
+    ensures heard { HearsOnce S.hears S.answers moment (length room.old) result.taken around.old around.new bench.old bench.new }
 {
     let Some(found) = around.hear(room) else {
         return Look {
@@ -220,7 +221,8 @@ fn hear<S: Surroundings>(
 // So it is over a load.
 fn hear_in<S: Surroundings>(alloc: Global, around: &mut S, load: &mut Load, moment: u64) -> Look
     ensures over { result.is_over ≡ bench_over moment load.new.bench.value }
-    ensures heard { HearsOnce S.hears S.answers moment result.taken around.old around.new load.old.bench.value load.new.bench.value }
+    ensures heard { HearsOnce S.hears S.answers moment (vec_len load.old.room) result.taken around.old around.new
+        load.old.bench.value load.new.bench.value }
 {
     hear(
         alloc,
@@ -373,13 +375,16 @@ fn bench_of(
 }
 
 // The room for what telephones say.
-fn room_of(alloc: Global) -> Result<Vec<u8>, OutOfMemory> {
+fn room_of(alloc: Global) -> Result<Vec<u8>, OutOfMemory>
+    ensures { IfOk result (λ room. vec_len room ≡ ROOM) }
+{
     vec![in alloc; 0u8; ROOM]
 }
 
 // A load of this bench's, with this room for what telephones say.
 fn load_of(alloc: Global, bench: Box<Bench>, room: Vec<u8>) -> Result<Box<Load>, OutOfMemory>
-    ensures { IfOk result (λ load. load.value.bench ≡ bench) }
+    ensures bench { IfOk result (λ load. load.value.bench ≡ bench) }
+    ensures room { IfOk result (λ load. load.value.room ≡ room) }
 {
     boxed(alloc, Load { bench, room })
 }

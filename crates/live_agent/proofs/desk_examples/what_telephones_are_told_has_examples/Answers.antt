@@ -70,3 +70,9 @@ returns-clause-reports c = λ was is reports. ap (λ (bench : Bench). bench.tall
 
 pub returns-clause-unmade_for : goal.returns-clause-unmade_for
 returns-clause-unmade_for c = λ bench given_up. ap (λ (fault : Option LoadFault). made_by fault bench) given_up
+
+pub returns-clause-begins_with_room : goal.returns-clause-begins_with_room
+returns-clause-begins_with_room c = λ before after asked load says. says.1
+
+pub returns-clause-hears_in_room : goal.returns-clause-hears_in_room
+returns-clause-hears_in_room c = λ before after was is hears. hears.long

@@ -1,7 +1,6 @@
 use Rattle.std.proofs.Common.{refl}
 use Rattle.std.specs.Box.{with_value}
-use Rattle.live_agent.proofs.TelephoneLemmas.{ended_so, of_load}
-use Rattle.live_agent.specs.Telephones.{HearsOnce}
+use Rattle.live_agent.proofs.TelephoneLemmas.{ended_so, hears_in}
 use Rattle.live_agent.proofs.wire.Wire.hear_telephones.Goals as goal
 
 pub returns-clause-heard : goal.returns-clause-heard
@@ -9,9 +8,8 @@ returns-clause-heard g c = λ holds.
     let made = with_value c.in-Some.load c.hear_in-look.new.load in
     record {
       taken = c.hear_in-look.result.taken;
-      hears_them = of_load
-          (HearsOnce g.S.Surroundings.hears g.S.Surroundings.answers c.args.moment c.hear_in-look.result.taken c.args.self.now.around c.hear_in-look.new.around)
-          c.args.self.now.load c.in-Some.load made c.in-Some.is (rw (c.deref_mut.ensures.value) at c.hear_in-look.ensures.heard);
+      hears_them = hears_in g.S.Surroundings.hears g.S.Surroundings.answers c.args.moment c.hear_in-look.result.taken c.args.self.now.around
+          c.hear_in-look.new.around c.args.self.now.load c.in-Some.load made c.in-Some.is (rw (c.deref_mut.ensures.value) at c.hear_in-look.ensures.heard);
       reads = c.with_read-self.ensures;
       ends = ended_so c.args.moment made c.hear_in-look.result.is_over c.args.self.now.end _ c.hear_in-look.ensures.over c.end_of-self.ensures;
       rest = refl;
