@@ -174,7 +174,7 @@ pub heard_or_unremembered : (was is : Standing) (from to : Exchange ℕ) → Sta
 heard_or_unremembered was is from to stands (inl takes) = inl takes.1
 heard_or_unremembered was is from to stands (inr misses) =
     let why : misses.3 ≡ OfMemory = ends_by_memory (plain was.live.gateway.setup []) (datagram one.0 []) misses.3
-        (datagram_can (plain was.live.gateway.setup []) one.0 []) (misses.4 [] stands) in
+    (datagram_can (plain was.live.gateway.setup []) one.0 []) (misses.4 [] stands) in
     inr (subst (λ (refusal : Refusal). MayRefuse was.live.gateway (datagram one.0 []) refusal) why misses.4)
 
 -- ---- what is noted
