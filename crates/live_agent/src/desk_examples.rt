@@ -40,6 +40,7 @@ ghost use Rattle.live_agent.specs.declared.session.Request.TheVariants as reques
 ghost use Rattle.switchboard.specs.declared.switchboard.Switchboard.{Switchboard};
 ghost use Rattle.live_agent.specs.declared.wire.Wire.{Wire};
 ghost use Rattle.live_agent.specs.AnyAround.{no_sockets, no_traffic, sends_any, receives_any, hears_any, answers_any, answers_more, answers_never, asks_at, asks_in_order, becomes_any, ends_any, serves_any, serves_never, writes_any, writes_nothing};
+ghost use Rattle.live_agent.specs.Clock.{milliseconds};
 ghost use Rattle.live_agent.specs.Datagrams.{with_stranger, DealsIf, HearsBy, HearsDatagram, HearsOne, HearsPacket, HearsTexts, SettlesIf, StepsAt, TakesEach, TakesElse, TakesFound, TakesLooked, TakesNext, TakesReceived};
 ghost use Rattle.switchboard.specs.Hearing.{HearsText};
 ghost use Rattle.switchboard.specs.Dues.{FallsDueAt};
@@ -84,6 +85,8 @@ pub fn what_is_waited_for_has_examples()
     ensures sooner { longest_until 1000 (Some 500) 400 ≡ 100 }
     ensures later { longest_until 1000 (Some 2000) 400 ≡ 600 }
     ensures least { longest_until 1000 (Some 300) 400 ≡ 1 }
+    // A load counts by ms, of which each is a thousand microseconds.
+    ensures ms { milliseconds 2999 ≡ 2 }
 {}
 
 /// How a desk ends.
