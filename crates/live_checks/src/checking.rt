@@ -1,9 +1,10 @@
 //! Plays all checks at a gateway, and reports.
-ghost use Rattle.std.specs.Prelude.{◌≡◌, [], ◌++◌, true, None, Some, Err, codes, string_bytes, IsOk, IfOk, IfSome};
+ghost use Rattle.std.specs.Prelude.{◌≡◌, [], ◌++◌, true, false, None, Some, Err, codes, string_bytes, IsOk, IfOk, IfSome};
 ghost use Rattle.gateway_checks.specs.Reporting.{with_verdict};
 ghost use Rattle.live_outlets.specs.Backlog.{is_kept};
 ghost use Rattle.live_outlets.specs.declared.backlog.TheConstants.{TEXT_ROOM};
-ghost use Rattle.live_checks.specs.Checking.{IsBegun, base_behind, verdict_in, CountsOne, Counts, Rests, status_of, IsStatusOf};
+ghost use Rattle.live_checks.specs.Checking.{IsBegun, base_behind, verdict_in, is_among, is_named, MayLeaveOut, is_each_possible};
+ghost use Rattle.live_checks.specs.Checking.{CountsOne, CountsEach, Rests, status_of, IsStatusOf};
 ghost use Rattle.live_checks.specs.Checking.{IsObjectLine, report_data};
 ghost use Rattle.live_checks.specs.Report.{tally_data};
 
@@ -119,18 +120,17 @@ fn put_out<F: Write + Drop>(
 }
 
 // Whether a name is among these, which have commas between them.
-fn is_among(names: &str, name: &str) -> bool {
-    for other in names.split(',') {
-        if other.trim() == name {
-            return true;
-        }
-    }
-    false
+fn is_among(names: &str, name: &str) -> bool
+    ensures { result ≡ is_among names.now name.now }
+{
+    names.split(',').any(|other| other.trim() == name)
 }
 
 // Whether the means are there that a check needs: another line, the address of the gateway's call agent, someone at the
 // telephone, and who starts the gateway anew.
-fn is_possible(settings: &CheckSettings<'_>, check: &Check<'_>) -> bool {
+fn is_possible(settings: &CheckSettings<'_>, check: &Check<'_>) -> bool
+    ensures { is_each_possible settings.now ≡ true → result ≡ true }
+{
     let has_hook = match settings.telephone {
         Some(telephone) => telephone.is_hook,
         None => false,
@@ -164,7 +164,9 @@ fn player_of<'a>(
 }
 
 // Whether a check is named, where some are.
-fn is_named(settings: &CheckSettings<'_>, check: &Check<'_>) -> bool {
+fn is_named(settings: &CheckSettings<'_>, check: &Check<'_>) -> bool
+    ensures { result ≡ is_named settings.now.only check.now.name.now }
+{
     match settings.only {
         Some(names) => is_among(names, check.name),
         None => true,
@@ -172,7 +174,9 @@ fn is_named(settings: &CheckSettings<'_>, check: &Check<'_>) -> bool {
 }
 
 // Whether a check is played: one that takes long is asked for, by its name or with all that do.
-fn is_wanted(settings: &CheckSettings<'_>, check: &Check<'_>) -> bool {
+fn is_wanted(settings: &CheckSettings<'_>, check: &Check<'_>) -> bool
+    ensures { result ≡ false → MayLeaveOut settings.now }
+{
     let is_asked = settings.only.is_some() || settings.is_slow || !check.is_slow();
     is_asked && is_possible(settings, check)
 }
@@ -428,7 +432,9 @@ fn check_one<R: Net + Clock, F: Write + Drop>(
     ends: &mut Ends<'_, R>,
     check: &Check<'static>,
 )
-    ensures counts { CountsOne checking.old.settings.now checking.old.names.now checking.old.tally checking.new.tally }
+    ensures counts { ends.new.fault ≡ None
+        → CountsOne checking.old.settings.now checking.old.names.now check.now checking.old.tally checking.new.tally }
+    ensures still { ends.new.fault ≡ None → ends.old.fault ≡ None }
     ensures rest { Rests checking.old checking.new }
 {
     let settings = checking.settings;
@@ -453,40 +459,56 @@ fn check_one<R: Net + Clock, F: Write + Drop>(
     }
 }
 
-// Plays the checks of a text that are asked for.
-#[tactic(auto, using(crate::proofs::CountLemmas::counts_none, crate::proofs::CountLemmas::counts_more))]
+// Plays those of these checks that are asked for, one behind the other.
 fn check_each<R: Net + Clock, F: Write + Drop>(
     out: &mut Outlet<F>,
     checking: &mut Checking<'_>,
     ends: &mut Ends<'_, R>,
-    text: &'static str,
+    checks: &[Check<'static>],
 )
-    ensures counts { Counts checking.old.settings.now checking.old.names.now checking.old.tally checking.new.tally }
+    ensures counts { ends.new.fault ≡ None
+        → CountsEach checking.old.settings.now checking.old.names.now checks.now checking.old.tally checking.new.tally }
     ensures rest { Rests checking.old checking.new }
 {
-    for block in text.split("\n= ").skip(1) {
-        check_one(out, checking, ends, &check_of(block));
+    for check in checks {
+        check_one(out, checking, ends, check);
     }
 }
 
-// Plays all checks that are asked for, and tells how many have come to what.
-#[tactic(auto, using(crate::proofs::CountLemmas::counts_none, crate::proofs::CountLemmas::counts_both))]
+// Plays those of these checks that are asked for, and tells how many have come to what.
 fn check_all<R: Net + Clock, F: Write + Drop>(
     out: &mut Outlet<F>,
     checking: &mut Checking<'_>,
     ends: &mut Ends<'_, R>,
+    checks: &[Check<'static>],
 )
-    ensures counts { Counts checking.old.settings.now checking.old.names.now checking.old.tally checking.new.tally }
+    ensures counts { ends.new.fault ≡ None
+        → CountsEach checking.old.settings.now checking.old.names.now checks.now checking.old.tally checking.new.tally }
 {
     find(checking, ends);
     find_lines(checking, ends);
-    let texts = all_checks();
-    for text in texts.iter() {
-        check_each(out, checking, ends, *text);
-    }
+    check_each(out, checking, ends, checks);
     if ends.fault().is_none() {
         ends.keep(put_out(out, checking.counts()));
     }
+}
+
+// Puts the checks of a text behind others.
+fn read_text(checks: &mut Vec<Check<'static>>, text: &'static str) -> Result<(), OutOfMemory> {
+    for block in text.split("\n= ").skip(1) {
+        checks.push(check_of(block))?;
+    }
+    Ok(())
+}
+
+// All checks, in their order.
+fn checks_read(alloc: Global) -> Result<Vec<Check<'static>>, OutOfMemory> {
+    let mut checks = Vec::new(alloc);
+    let texts = all_checks();
+    for text in texts.iter() {
+        read_text(&mut checks, *text)?;
+    }
+    Ok(checks)
 }
 
 // Plays all, from the two sockets with these names, with ids from behind this number on.
@@ -500,6 +522,9 @@ fn check_from<'a, R: Net + Clock, F: Write + Drop>(
 ) -> Result<Checked, CheckFault>
     ensures { IfOk result (λ checked. IsStatusOf settings.now checked.status) }
 {
+    let Ok(checks) = checks_read(alloc) else {
+        return Err(CheckFault::OutOfMemory);
+    };
     let first = check_of(SERVES);
     let player = player_of(alloc, settings, names, settings.line, base, &first);
     let Ok(player) = boxed(alloc, player) else {
@@ -514,7 +539,7 @@ fn check_from<'a, R: Net + Clock, F: Write + Drop>(
         names,
         cases: String::new(alloc),
     };
-    check_all(out, &mut checking, ends);
+    check_all(out, &mut checking, ends, checks.as_slice());
     checking.outcome(ends.fault())
 }
 
@@ -563,20 +588,12 @@ pub fn check_gateway<R: AllocGlobal + Net + Clock, F: Write + Drop>(
     }
 }
 
-// Puts the checks of a text in a list.
-fn put_entries(out: &mut String, text: &'static str) -> Result<(), OutOfMemory> {
-    for block in text.split("\n= ").skip(1) {
-        put_entry(out, &check_of(block))?;
-    }
-    Ok(())
-}
-
 /// All checks, a line each: the name, the sections of its rule, and the rule.
 pub fn check_list(alloc: Global) -> Result<String, OutOfMemory> {
     let mut out = String::new(alloc);
-    let texts = all_checks();
-    for text in texts.iter() {
-        put_entries(&mut out, *text)?;
+    let checks = checks_read(alloc)?;
+    for check in checks.iter() {
+        put_entry(&mut out, check)?;
     }
     Ok(out)
 }

@@ -2,7 +2,9 @@
 //! breaks.
 #![tactic(auto)]
 
-ghost use Rattle.std.specs.Prelude.{◌≡◌, ◌⊎◌, ◌++◌, [], ℕ, List, Bool, false, codes, string_bytes, Option, Some, None};
+ghost use Rattle.std.specs.Prelude.{◌≡◌, ◌⊎◌, ◌++◌, ◌∷◌, ◌||◌, [], ℕ, List, Bool, true, false, bytes_eq, codes, string_bytes, Option, Some, None};
+ghost use Rattle.std.specs.Borrow.{Bor};
+ghost use Rattle.std.specs.Str.{trim};
 ghost use Rattle.serde_json.specs.Data.{Data};
 ghost use Rattle.serde_json.specs.Written.{IsInOrder};
 ghost use Rattle.gateway_checks.specs.declared.check.Check.{Check};
@@ -19,8 +21,10 @@ ghost use Rattle.live_checks.specs.declared.check_fault.CheckFault.{CheckFault};
 ghost use Rattle.live_checks.specs.declared.check_fault.CheckFault.TheVariants.{NoAnswer};
 ghost use Rattle.live_checks.specs.declared.checking.CheckSettings.{CheckSettings};
 ghost use Rattle.live_checks.specs.declared.checking.SocketNames.{SocketNames};
-ghost use Rattle.live_checks.specs.Checking.{IsBegun, base_behind, verdict_in, CountsPlayed, CountsOne, CountsTimes, Counts, nothing_counted};
+ghost use Rattle.live_checks.specs.Checking.{IsBegun, base_behind, verdict_in, CountsPlayed, CountsOne, CountsEach, nothing_counted};
+ghost use Rattle.live_checks.specs.Checking.{is_name, is_among, is_named, can_restart, is_each_possible, is_each_asked, MayLeaveOut};
 ghost use Rattle.live_checks.specs.Checking.{status_of, IsStatusOf, IsObjectLine};
+ghost use Rattle.live_checks.specs.declared.telephone.Telephone.{Telephone};
 ghost use Rattle.live_checks.specs.Playing.{first_of, IsGiven, HearsTimes, Hears, IsActedFor, Answers, AsksAt, TurnsOnce, TurnsTimes, IsOver, PlaysOut};
 
 /// Each sentence at an example.
@@ -83,24 +87,57 @@ pub fn how_a_check_begins_has_examples()
 /// Each sentence at an example.
 pub fn what_counts_has_examples()
     ensures verdict { (player : Player) → verdict_in player ≡ verdict_of player.is_open player.fault }
-    ensures played { (settings : CheckSettings) (names : SocketNames) (was is : Tally) → CountsPlayed settings names (codes "aaln/1") was is
-        → (check : Check) × (base : ℕ) × (begun : Player) × (over : Player) × IsBegun check settings names (codes "aaln/1") base begun
+    ensures played { (settings : CheckSettings) (names : SocketNames) (check : Check) (was is : Tally)
+        → CountsPlayed settings names (codes "aaln/1") check was is
+        → (base : ℕ) × (begun : Player) × (over : Player) × IsBegun check settings names (codes "aaln/1") base begun
         × PlaysOut begun over × (is ≡ with_verdict was (Some (verdict_in over))) }
-    ensures one { (settings : CheckSettings) (names : SocketNames) (was is : Tally) → CountsOne settings names was is
-        → (is ≡ was) ⊎ ((is ≡ with_verdict was None) ⊎ CountsPlayed settings names settings.line.now was is) }
-    ensures none { (settings : CheckSettings) (names : SocketNames) (was is : Tally) → CountsTimes 0 settings names was is → is ≡ was }
-    ensures once { (settings : CheckSettings) (names : SocketNames) (was is : Tally) → CountsTimes 1 settings names was is
-        → (between : Tally) × (between ≡ was) × CountsOne settings names between is }
-    ensures all { (settings : CheckSettings) (names : SocketNames) (was is : Tally) → Counts settings names was is
-        → (count : ℕ) × CountsTimes count settings names was is }
+    ensures one { (settings : CheckSettings) (names : SocketNames) (check : Check) (was is : Tally) → CountsOne settings names check was is
+        → ((is_named settings.only check.name.now ≡ false) × (is ≡ was))
+        ⊎ ((MayLeaveOut settings × (is ≡ with_verdict was None)) ⊎ CountsPlayed settings names settings.line.now check was is) }
+    // Each counts, once, in their order.
+    ensures none { (settings : CheckSettings) (names : SocketNames) (was is : Tally) → CountsEach settings names [] was is → is ≡ was }
+    ensures two { (settings : CheckSettings) (names : SocketNames) (first second : Check) (was is : Tally)
+        → CountsEach settings names (first ∷ second ∷ []) was is
+        → (between : Tally) × (last : Tally) × CountsOne settings names first was between × CountsOne settings names second between last
+        × (is ≡ last) }
+    // Where all can be played, and none is named, each that was read is played.
+    ensures all { (settings : CheckSettings) (names : SocketNames) (check : Check) (is : Tally)
+        → settings.only ≡ None → is_each_asked settings ≡ true → is_each_possible settings ≡ true
+        → CountsEach settings names (check ∷ []) nothing_counted is
+        → CountsPlayed settings names settings.line.now check nothing_counted is }
     ensures nothing { nothing_counted ≡ record { passed = 0; failed = 0; left_open = 0; not_supported = 0; not_played = 0 } }
     // A check that failed shows in the exit status.
     ensures none_failed { status_of (record { passed = 3; failed = 0; left_open = 1; not_supported = 1; not_played = 1 }) ≡ 0 }
     ensures failed { status_of (record { passed = 3; failed = 1; left_open = 0; not_supported = 0; not_played = 0 }) ≡ 1 }
     ensures failed_twice { status_of (record { passed = 3; failed = 2; left_open = 0; not_supported = 0; not_played = 0 }) ≡ 1 }
     ensures status { (settings : CheckSettings) (status : ℕ) → IsStatusOf settings status
-        → (names : SocketNames) × (tally : Tally) × Counts settings names nothing_counted tally × (status ≡ status_of tally) }
+        → (names : SocketNames) × (checks : List Check) × (tally : Tally) × CountsEach settings names checks nothing_counted tally
+        × (status ≡ status_of tally) }
     // An object has its line.
     ensures line { (told : Data) (line : List ℕ) → IsObjectLine told line
         → (object : List ℕ) × IsInOrder object told × (line ≡ object ++ codes "\n") }
+{}
+
+/// Each sentence at an example.
+pub fn which_checks_are_played_has_examples()
+    ensures blanks { (name piece : List ℕ) → is_name name piece ≡ bytes_eq (trim piece) name }
+    ensures commas { (name : List ℕ) → is_among (codes "audit,create") name
+        ≡ (is_name name (codes "audit") || (is_name name (codes "create") || false)) }
+    ensures nameless { (name : List ℕ) → is_among [] name ≡ (is_name name [] || false) }
+    ensures all { (name : List ℕ) → is_named None name ≡ true }
+    ensures some { (names : Bor (List ℕ)) (name : List ℕ) → is_named (Some names) name ≡ is_among names.now name }
+    // What a check may need.
+    ensures nobody { can_restart None ≡ false }
+    ensures restarts { (telephone : Telephone) → can_restart (Some telephone) ≡ telephone.is_hook }
+    ensures lone { (settings : CheckSettings) → settings.other ≡ None → is_each_possible settings ≡ false }
+    ensures portless { (settings : CheckSettings) → settings.own.port ≡ 0 → is_each_possible settings ≡ false }
+    ensures unworked { (settings : CheckSettings) → settings.telephone ≡ None → is_each_possible settings ≡ false }
+    ensures possible { (settings : CheckSettings) (other : Bor (List ℕ)) (telephone : Telephone) → settings.other ≡ Some other
+        → settings.own.port ≡ 2727 → settings.telephone ≡ Some telephone → telephone.is_hook ≡ true → is_each_possible settings ≡ true }
+    // Those that take long.
+    ensures quick { (settings : CheckSettings) → settings.only ≡ None → settings.is_slow ≡ false → is_each_asked settings ≡ false }
+    ensures slow { (settings : CheckSettings) → settings.is_slow ≡ true → is_each_asked settings ≡ true }
+    ensures by_name { (settings : CheckSettings) (names : Bor (List ℕ)) → settings.only ≡ Some names → is_each_asked settings ≡ true }
+    ensures left_out { (settings : CheckSettings) → MayLeaveOut settings
+        → (is_each_asked settings ≡ false) ⊎ (is_each_possible settings ≡ false) }
 {}

@@ -1,7 +1,8 @@
-use Rattle.std.proofs.lemmas.Result.{IfOk-weaker}
+use Rattle.std.proofs.Common.{sym, ◌∙◌}
+use Rattle.live_checks.proofs.CountLemmas.{counts_all}
 use Rattle.live_checks.proofs.checking.check_from.Goals as goal
 
 pub returns : goal.returns
 returns g c =
-    IfOk-weaker c.outcome.result _ _ (λ checked h. (c.args.names.now, c.check_all.new.checking.tally, c.check_all.ensures.counts, h))
-    c.outcome.ensures.status
+    counts_all _ c.args.settings.now c.args.names.now c.as_slice.result.now c.check_all.new.checking.tally c.fault.result
+    (λ none. c.check_all.ensures.counts (sym c.fault.ensures ∙ none)) c.outcome.ensures.status c.outcome.ensures.faultless
