@@ -2,3 +2,4 @@ pub mod Computing
 pub mod TypingLemmas
 pub mod TrafficLemmas
 pub mod SpeakingLemmas
+pub mod WaitingLemmas

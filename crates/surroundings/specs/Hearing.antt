@@ -9,6 +9,10 @@ use Rattle.surroundings.specs.declared.lines.Lines.{Lines}
 use Rattle.surroundings.specs.Requests.{requests_from, is_own}
 use Rattle.surroundings.specs.Typing.{left_of}
 
+-- so many bytes of a datagram of lines are read; what is longer is cut off
+abbrev pub most_typed : ℕ
+most_typed = 4096
+
 -- lines are left, from the first on that asks for something, of this sender or of nobody: all of them where there is room for them
 pub record Begins (sender : Option SocketAddr) (text : List ℕ) (was is : Lines) : Type 0 where
   pub who : is.sender ≡ sender
@@ -24,12 +28,12 @@ abbrev pub Looked : List SocketAddrV4 → Option (SocketAddr × ℕ) → List �
 Looked sockets None room was taken is = (taken ≡ false) × (is ≡ was)
 Looked sockets (Some found) room was taken is = (taken ≡ true) × Takes sockets found.0 (take found.1 room) was is
 
--- Where a line is left, it isn't looked for more. Else it is looked once, and what that gives is taken.
+-- Where a line is left, it isn't looked for more. Else it is looked once, with room for so much, and what that gives is taken.
 pub record Hears {S : Type 0} (sockets : S → List SocketAddrV4) (hears : S → Option (SocketAddr × ℕ) → List ℕ → S → Type 0) (before : S)
     (was : Lines) (taken : Bool) (after : S) (is : Lines) : Type 0 where
   pub waits : is_empty (left_of was) ≡ false → (taken ≡ false) × (is ≡ was) × (after ≡ before)
-  pub looks : is_empty (left_of was) ≡ true → (found : Option (SocketAddr × ℕ)) × (room : List ℕ) × hears before found room after
-      × Looked (sockets after) found room was taken is
+  pub looks : is_empty (left_of was) ≡ true → (found : Option (SocketAddr × ℕ)) × (room : List ℕ) × (length room ≡ most_typed)
+      × hears before found room after × Looked (sockets after) found room was taken is
 
 -- it is answered to who sent the lines; where nobody did, nobody is told
 abbrev pub AnswersTo : {S : Type 0} → (S → SocketAddr → List ℕ → S → Type 0) → Option SocketAddr → S → List ℕ → S → Type 0

@@ -1,5 +1,6 @@
 pub mod Sending
 pub mod Keeping
+pub mod Waiting
 pub mod Requests
 pub mod Typing
 pub mod Hearing

@@ -1,6 +1,7 @@
 -- From whom datagrams are taken: who may speak to a program, as far as an address tells. A port tells nobody apart, since who sends
 -- may choose it.
-use Rattle.std.specs.Prelude.{ℕ, ◌+◌, ◌-◌, ◌%◌, ◌^◌, Bool, true, false, ◌&&◌, ◌||◌, nat_le, codes, bytes_eq, if◌then◌else◌, List, [], ◌∷◌, ◌++◌, Option, Some, None, option_map, option_and_then}
+use Rattle.std.specs.Prelude.{ℕ, ◌+◌, ◌-◌, ◌%◌, ◌^◌, Bool, true, false, ◌&&◌, ◌||◌, nat_le, codes, bytes_eq, if◌then◌else◌, List, [], ◌∷◌}
+use Rattle.std.specs.Prelude.{◌++◌, Option, Some, None, option_map, option_and_then}
 use Rattle.std.specs.List.{list_any}
 use Rattle.std.specs.Net.Addr.{ipv4_bits}
 use Rattle.std.specs.declared.net.ipv4_addr.Ipv4Addr.{Ipv4Addr}

@@ -8,9 +8,8 @@ ghost use Rattle.std.specs.declared.net.socket_addr.SocketAddr.{SocketAddr as Se
 ghost use Rattle.mg_bytes.specs.Lines.{cut, TakesLine};
 ghost use Rattle.mg_bytes.specs.Lists.{is_empty};
 ghost use Rattle.surroundings.specs.Requests.{requests_from};
-ghost use Rattle.surroundings.specs.declared.lines.TheConstants.{ROOM};
 ghost use Rattle.surroundings.specs.Typing.{left_of, behind, EndsWith, v4_of};
-ghost use Rattle.surroundings.specs.Hearing.{Begins, Takes, Looked, Hears, AnswersTo};
+ghost use Rattle.surroundings.specs.Hearing.{most_typed, Begins, Takes, Looked, Hears, AnswersTo};
 
 use crate::requests::{from_request, is_own};
 use crate::surroundings::Surroundings;
@@ -131,7 +130,7 @@ impl Lines {
     pub fn new(alloc: Global) -> Result<Lines, AllocError>
         ensures left { IfOk result (λ lines. left_of lines ≡ []) }
         ensures sender { IfOk result (λ lines. lines.sender ≡ None) }
-        ensures room { IfOk result (λ lines. vec_capacity lines.text ≡ ROOM) }
+        ensures room { IfOk result (λ lines. vec_capacity lines.text ≡ most_typed) }
     {
         Ok(Lines {
             sender: None,
@@ -265,8 +264,8 @@ impl Lines {
 
     // It is looked once for lines.
     fn look<S: Surroundings>(&mut self, around: &mut S) -> bool
-        ensures looks { (found : Option (Sender × ℕ)) × (room : List ℕ) × S.hears around.old found room around.new
-            × Looked (S.sockets around.new) found room self.old result self.new }
+        ensures looks { (found : Option (Sender × ℕ)) × (room : List ℕ) × (length room ≡ most_typed)
+            × S.hears around.old found room around.new × Looked (S.sockets around.new) found room self.old result self.new }
         ensures same { result ≡ false → self.new ≡ self.old }
         ensures traffic { S.traffic around.new ≡ S.traffic around.old }
         ensures room { vec_capacity self.old.text ≤ vec_capacity self.new.text }

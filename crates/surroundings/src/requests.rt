@@ -4,7 +4,8 @@ ghost use Rattle.std.specs.Prelude.{◌≡◌};
 ghost use Rattle.std.specs.declared.net.socket_addr.SocketAddr.{SocketAddr};
 ghost use Rattle.mg_bytes.specs.Lines.{cut};
 ghost use Rattle.mg_bytes.specs.Words.{words as words_of};
-ghost use Rattle.surroundings.specs.Requests.{is_marked, is_among, is_answer_word, begins_answer, is_answer, is_request, requests_from, is_host, is_from, is_from_any, is_own};
+ghost use Rattle.surroundings.specs.Requests.{is_marked, is_among, is_answer_word, begins_answer, is_answer, is_request, requests_from};
+ghost use Rattle.surroundings.specs.Requests.{is_host, is_from, is_from_any, is_own};
 ghost use Rattle.surroundings.specs.Typing.{EndsWith};
 
 use mg_bytes::{lines, words};

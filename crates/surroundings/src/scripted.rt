@@ -1,6 +1,7 @@
 //! A program's surroundings in memory, by a script.
 ghost use Rattle.std.specs.Prelude.{◌≡◌, ◌≤◌, ◌<◌, ◌++◌, ◌∷◌, [], false, Some, length, IfSome, OnOk, OnErr};
 ghost use Rattle.surroundings.specs.Keeping.{told_by, KeepsAnswer};
+ghost use Rattle.surroundings.specs.Waiting.{next_by, HappensFirst, GoesOn};
 
 use crate::arrivals::Arrivals;
 use crate::keeping::{SentDatagram, keep};
@@ -195,7 +196,9 @@ impl Scripted {
     }
 
     // When what comes first happens, if it does by then.
-    fn next_by(&self, until: u64) -> Option<u64> {
+    fn next_by(&self, until: u64) -> Option<u64>
+        ensures { result ≡ next_by until self.now.moment self.now.coming.items }
+    {
         let coming = self.coming.front()?;
         let next = coming.moment.max(self.moment);
         if next > until { None } else { Some(next) }
@@ -203,6 +206,7 @@ impl Scripted {
 
     // What comes first stops the program, or lets a send fail, if it is of that kind: whether it is.
     fn is_disturbed(&mut self) -> bool
+        ensures happens { HappensFirst self.old.coming.items self.old result self.new }
         ensures sent { self.new.sent ≡ self.old.sent }
         ensures whole { self.new.is_whole ≡ self.old.is_whole }
         ensures received { self.new.received ≡ self.old.received }
@@ -222,6 +226,7 @@ impl Scripted {
 
     // The program goes on: what stops it, or lets a send fail, happens if it is next, and by then.
     fn go_on(&mut self, until: u64)
+        ensures goes { GoesOn (next_by until self.old.moment self.old.coming.items) until self.old self.new }
         ensures sent { self.new.sent ≡ self.old.sent }
         ensures whole { self.new.is_whole ≡ self.old.is_whole }
         ensures received { self.new.received ≡ self.old.received }
@@ -232,7 +237,7 @@ impl Scripted {
         };
         self.moment = next;
         if self.is_disturbed() {
-            let _ = self.take(0);
+            let _ = self.coming.pop_front();
         }
     }
 
@@ -258,16 +263,21 @@ fn is_asked(what: &Happening, is_lines: bool) -> bool {
 }
 
 impl Surroundings for Scripted {
-    ghost use Rattle.std.specs.Prelude.{⊤};
+    ghost use Rattle.std.specs.Prelude.{◌≡◌, ⊤, Ok};
     ghost use Rattle.surroundings.specs.Keeping.{told_by, Answers};
+    ghost use Rattle.surroundings.specs.Waiting.{time_at, Waits};
 
     ghost traffic = { told_by };
 
     ghost sockets = { λ around. around.own };
 
-    ghost passes = { λ around given. ⊤ };
+    ghost passes = { λ around given. given ≡ Ok around.moment };
+
+    ghost dates = { λ around time. time ≡ time_at around.moment };
 
     ghost tells = { λ around given. ⊤ };
+
+    ghost sleeps = { Waits };
 
     ghost receives = { λ was given room is. ⊤ };
 

@@ -2,7 +2,8 @@
 ghost use Rattle.std.specs.Prelude.{◌≡◌, ◌≤◌, ◌^◌, [], Some, OnOk, OnErr, IfOk, option_map};
 ghost use Rattle.std.specs.List.{list_any};
 ghost use Rattle.mg_bytes.specs.Items.{items_of};
-ghost use Rattle.surroundings.specs.Speaking.{size_of, network_at, is_within, admitted_by, anybody, nobody, with_host, may_speak, bits_of, network_from, network_of, networks_from, these, admitted_in};
+ghost use Rattle.surroundings.specs.Speaking.{size_of, network_at, is_within, admitted_by, anybody, nobody, with_host, may_speak};
+ghost use Rattle.surroundings.specs.Speaking.{bits_of, network_from, network_of, networks_from, these, admitted_in};
 
 use mg_bytes::{decimal, ipv4_address, list_items, split_once};
 use std::alloc::{AllocError, Global};

@@ -18,8 +18,8 @@ pub struct Told {
 /// A socket for datagrams, another for lines, a clock, and a wait for all of them.
 ///
 /// It says whether it tells what went over it: one in memory does, sockets don't; and what it can be held to of what it gave, of what
-/// it was told to answer, and of what became of what it was to send. Who calls it is held to that it was asked so. No call waits but
-/// `wait`.
+/// it was told to answer, of what became of what it was to send, and of each wait. Who calls it is held to that it was asked so. No
+/// call waits but `wait`.
 pub trait Surroundings {
     ghost use Rattle.std.specs.Prelude.{⊤, ℕ, List, Option, Result};
     ghost use Rattle.std.specs.declared.net.socket_addr.SocketAddr.{SocketAddr};
@@ -37,8 +37,14 @@ pub trait Surroundings {
     /// It was asked how long it is since the start: that gave this.
     ghost passes: { Self → Result ℕ Fault → Type 0 };
 
+    /// It was asked what time it is: that gave this.
+    ghost dates: { Self → ℕ → Type 0 };
+
     /// It was asked of which sockets it was told that something may have come: that gave this.
     ghost tells: { Self → Told → Type 0 };
+
+    /// It waited, for so long at most: that came to this.
+    ghost sleeps: { Self → ℕ → Result ⊤ Fault → Self → Type 0 };
 
     /// It was looked for a datagram: that gave this, and left the room so.
     ghost receives: { Self → Result (Option (SocketAddrV4 × ℕ)) Fault → List ℕ → Self → Type 0 };
@@ -57,7 +63,8 @@ pub trait Surroundings {
         ensures { passes self.now result };
 
     /// What time it is, in microseconds since 1970 began, in UTC. A change of the time of day since the start isn't in it.
-    fn time(&self) -> u64;
+    fn time(&self) -> u64
+        ensures { dates self.now result };
 
     /// The addresses of its two sockets.
     fn own(&self) -> [SocketAddrV4; 2]
@@ -69,7 +76,8 @@ pub trait Surroundings {
 
     /// Waits until something comes, but no longer than this, in ms; at 0 it only asks what has come.
     fn wait(&mut self, longest: u64) -> Result<(), Fault>
-        ensures { traffic self.new ≡ traffic self.old };
+        ensures kept { traffic self.new ≡ traffic self.old }
+        ensures waited { sleeps self.old longest result self.new };
 
     /// A datagram, put at the start of the room, if one has come: from where, and how long it is. One that is longer than the room
     /// fills it.
