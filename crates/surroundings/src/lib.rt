@@ -15,6 +15,7 @@ mod speaking;
 pub mod speaking_examples;
 mod surroundings;
 mod telling;
+pub mod waiting_examples;
 
 pub use crate::keeping::{SentDatagram, keep};
 pub use crate::lines::Lines;
