@@ -9,7 +9,8 @@ use Rattle.live_ends.specs.declared.address_words.AddressWord.{AddressWord}
 use Rattle.live_ends.specs.declared.ending.About.{About}
 use Rattle.live_ends.specs.declared.ending.FileNames.{FileNames}
 use Rattle.live_ends.specs.declared.ending.CommonEnding.{CommonEnding}
-use Rattle.live_ends.specs.declared.ending.CommonEnding.TheVariants.{Served, Help, Version, Usage, Told, BadAddress, BadNetwork, Unreadable, Unwritable, Unbound, Clock, Write, OutOfMemory}
+use Rattle.live_ends.specs.declared.ending.CommonEnding.TheVariants.{Served, Help, Version, Usage, Told, BadAddress, BadNetwork}
+use Rattle.live_ends.specs.declared.ending.CommonEnding.TheVariants.{Unreadable, Unwritable, Unbound, Clock, Write, OutOfMemory}
 use Rattle.live_ends.specs.AddressWords.{word_text}
 use Rattle.live_ends.specs.NetworkFaults.{wanted_by}
 use Rattle.live_outlets.specs.Reasons.{reason_of}

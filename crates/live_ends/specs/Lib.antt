@@ -1,5 +1,6 @@
 pub mod Parting
 pub mod Looking
+pub mod Waiting
 pub mod AddressWords
 pub mod NetworkFaults
 pub mod Wording

@@ -1,5 +1,6 @@
 -- The files of a capture that is parted: each has a number behind its name, as `calls.pcap.7`, and so many of them are kept.
-use Rattle.std.specs.Prelude.{ℕ, Bool, ◌&&◌, nat_le, nat_lt, codes, decimal, if◌then◌else◌, List, ◌++◌, length, take, drop, nat_eq, Option, Some, None}
+use Rattle.std.specs.Prelude.{ℕ, Bool, ◌&&◌, nat_le, nat_lt, codes, decimal, if◌then◌else◌, List, ◌++◌, length, take, drop, nat_eq}
+use Rattle.std.specs.Prelude.{Option, Some, None}
 use Rattle.std.specs.Cmp.Lexicographic.{pointwise}
 use Rattle.mg_bytes.specs.Option.{◌>>=◌}
 use Rattle.mg_bytes.specs.Numbers.{decimal_of}

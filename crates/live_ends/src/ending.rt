@@ -3,7 +3,8 @@ ghost use Rattle.std.specs.Prelude.{◌≡◌, ◌≢◌, ◌++◌, Ok, Err, Som
 ghost use Rattle.std.specs.Net.Grammar.{IsSocketV4Text};
 ghost use Rattle.bad_network.specs.Parts.{spoiling_of};
 ghost use Rattle.live_outlets.specs.Written.{faults_in};
-ghost use Rattle.live_ends.specs.Ending.{status_of, is_asked, served_ending, bad_address_text, bad_network_text, refused_text, unbound_text, ending_text};
+ghost use Rattle.live_ends.specs.Ending.{status_of, is_asked, served_ending, bad_address_text, bad_network_text, refused_text};
+ghost use Rattle.live_ends.specs.Ending.{unbound_text, ending_text};
 
 use crate::address_words::AddressWord;
 use crate::network_faults::wanted_by;

@@ -12,7 +12,8 @@ ghost use Rattle.live_ends.specs.declared.address_words.AddressWord.{AddressWord
 ghost use Rattle.live_ends.specs.declared.address_words.AddressWord.TheVariants as words;
 ghost use Rattle.live_ends.specs.declared.ending.About.{About};
 ghost use Rattle.live_ends.specs.declared.ending.FileNames.{FileNames};
-ghost use Rattle.live_ends.specs.declared.ending.CommonEnding.TheVariants.{Served, Help, Version, Usage, Told, BadAddress, BadNetwork, Unreadable, Unwritable, Unbound, Clock, Write, OutOfMemory};
+ghost use Rattle.live_ends.specs.declared.ending.CommonEnding.TheVariants.{Served, Help, Version, Usage, Told, BadAddress, BadNetwork};
+ghost use Rattle.live_ends.specs.declared.ending.CommonEnding.TheVariants.{Unreadable, Unwritable, Unbound, Clock, Write, OutOfMemory};
 ghost use Rattle.live_ends.specs.AddressWords.{word_text};
 ghost use Rattle.live_ends.specs.Ending.{status_of, is_asked, served_ending, ending_text};
 ghost use Rattle.live_ends.specs.NetworkFaults.{wanted_by};

@@ -4,6 +4,7 @@
 ghost use Rattle.std.specs.Prelude.{◌≡◌, codes, true, false, [], ◌∷◌, Some, None};
 ghost use Rattle.live_ends.specs.Parting.{number_behind, numbered, is_old, is_full};
 ghost use Rattle.live_ends.specs.Looking.{no_visit, has_visits};
+ghost use Rattle.live_ends.specs.Waiting.{longest_wait};
 
 /// Each sentence at an example.
 pub fn each_sentence_has_an_example()
@@ -26,4 +27,8 @@ pub fn each_sentence_has_an_example()
     ensures room { is_full 100 60 40 ≡ false }
     ensures the_oldest_file_goes_no_room { is_full 100 60 41 ≡ true }
     ensures alone { is_full 100 0 500 ≡ false }
+    // A loop waits as long as it has nothing to do, but for 20 ms at most where something waits to be taken.
+    ensures nothing_waits { longest_wait false 700 ≡ 700 }
+    ensures something_waits { longest_wait true 700 ≡ 20 }
+    ensures shorter { longest_wait true 5 ≡ 5 }
 {}

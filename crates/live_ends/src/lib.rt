@@ -17,6 +17,7 @@ mod parting;
 mod program;
 mod readiness;
 mod standing;
+mod waiting;
 mod wording;
 
 pub use crate::address_words::AddressWord;
@@ -28,4 +29,5 @@ pub use crate::live::{Live, SocketWanted, bind};
 pub use crate::parting::{CaptureFiles, Parting};
 pub use crate::program::{Begun, OUT_OF_MEMORY, begin, end, open_capture, say_last};
 pub use crate::readiness::{MOST_VISITORS, Readiness, Visit};
+pub use crate::waiting::longest_wait;
 pub use crate::wording::{put_around, put_pieces};

@@ -147,7 +147,11 @@ impl<R: Net + Clock> Surroundings for Live<'_, R> {
 
     ghost passes = { λ live given. ⊤ };
 
+    ghost dates = { λ live time. ⊤ };
+
     ghost tells = { λ live given. ⊤ };
+
+    ghost sleeps = { λ was longest outcome is. ⊤ };
 
     ghost receives = { λ was given room is. ⊤ };
 

@@ -168,7 +168,7 @@ impl CaptureFiles {
     /// So many bytes are put into the file that is written.
     pub fn put(&mut self, more: usize)
         ensures written { self.new.written ≡ sum_within self.old.written more }
-        ensures number { self.new.number ≡ self.old.number }
+        ensures rest { self.new ≡ record self.old { written = self.new.written } }
     {
         self.written = self.written.saturating_add(more as u64);
     }
