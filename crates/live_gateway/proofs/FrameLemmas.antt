@@ -1,10 +1,11 @@
 -- What of an exchange, and of a desk, stays as it was.
 use Rattle.std.proofs.Common.{◌≡◌, ◌⊎◌, inl, inr, ℕ, Bool, List, Option, refl, ◌∙◌, ap, subst}
-use Rattle.std.specs.Prelude.{nat_lt, if◌then◌else◌, true, false, Result, Ok, Err}
+use Rattle.std.specs.Prelude.{⊤, nat_lt, if◌then◌else◌, true, false, Result, Ok, Err}
 use Rattle.std.specs.Global.{Box}
 use Rattle.message_counts.specs.declared.reporting.Faults.{Faults}
 use Rattle.page_board.specs.Showing.{BoardState}
 use Rattle.surroundings.specs.Sending.{Traffic}
+use Rattle.surroundings.specs.declared.surroundings.Fault.{Fault}
 use Rattle.surroundings.specs.declared.surroundings.Told.{Told}
 use Rattle.turns.specs.declared.schedule.Schedule.{Schedule}
 use Rattle.turns.specs.declared.turn.Turn.{Turn}
@@ -118,16 +119,22 @@ visit_same {S} {T} told traffic tells serves moment visitors left was is visit =
       page.1 ∙ ap (λ (x : Desk S T). x.admission) visit.before,
     )
 
+-- it was asked for the time of day where it stood before, too
+pub dated_before : {S : Type 0} (dates : S → ℕ → Type 0) (was looked : Exchange S) (time : ℕ) → looked ≡ record was { faults = looked.faults }
+    → dates looked.around time → dates was.around time
+dated_before {S} dates was looked time same dated = subst (λ (x : Exchange S). dates x.around time) same dated
+
 -- a turn leaves the schedule
-pub leaves_schedule : {S T V : Type 0} (traffic : S → Traffic) (tells : S → Told → Type 0)
+pub leaves_schedule : {S T V : Type 0} (traffic : S → Traffic) (dates : S → ℕ → Type 0) (tells : S → Told → Type 0)
+    (sleeps : S → ℕ → Result ⊤ Fault → S → Type 0)
     (serves : V → S → BoardState → ℕ → V → S → BoardState → Type 0) (now : ℕ) (turn : Turn)
-    (visitors left : Option (Box V)) (was is : Desk S T) → Leaves traffic tells serves now turn visitors left was is → is.schedule ≡ was.schedule
-leaves_schedule {S} {T} traffic tells serves now End visitors left was is leaves = ap (λ (x : Desk S T). x.schedule) leaves.0
-leaves_schedule {S} {T} traffic tells serves now Look visitors left was is leaves = ap (λ (x : Desk S T). x.schedule) leaves.0.rest
-leaves_schedule {S} {T} traffic tells serves now (Wait until) visitors left was is leaves = ap (λ (x : Desk S T). x.schedule) leaves.0.rest
-leaves_schedule {S} {T} traffic tells serves now (Tick moment) visitors left was is leaves = ap (λ (x : Desk S T). x.schedule) leaves.0.0
-leaves_schedule traffic tells serves now Command visitors left was is leaves = leaves.1
-leaves_schedule {S} {T} traffic tells serves now Datagram visitors left was is leaves = ap (λ (x : Desk S T). x.schedule) leaves.0
-leaves_schedule {S} {T} traffic tells serves now Visit visitors left was is leaves =
+    (visitors left : Option (Box V)) (was is : Desk S T) → Leaves traffic dates tells sleeps serves now turn visitors left was is → is.schedule ≡ was.schedule
+leaves_schedule {S} {T} traffic dates tells sleeps serves now End visitors left was is leaves = ap (λ (x : Desk S T). x.schedule) leaves.0
+leaves_schedule {S} {T} traffic dates tells sleeps serves now Look visitors left was is leaves = ap (λ (x : Desk S T). x.schedule) leaves.0.rest
+leaves_schedule {S} {T} traffic dates tells sleeps serves now (Wait until) visitors left was is leaves = ap (λ (x : Desk S T). x.schedule) leaves.0.rest
+leaves_schedule {S} {T} traffic dates tells sleeps serves now (Tick moment) visitors left was is leaves = ap (λ (x : Desk S T). x.schedule) leaves.0.0
+leaves_schedule traffic dates tells sleeps serves now Command visitors left was is leaves = leaves.1
+leaves_schedule {S} {T} traffic dates tells sleeps serves now Datagram visitors left was is leaves = ap (λ (x : Desk S T). x.schedule) leaves.0
+leaves_schedule {S} {T} traffic dates tells sleeps serves now Visit visitors left was is leaves =
     ap (λ (x : Desk S T). x.schedule) leaves.page.rest ∙ ap (λ (x : Desk S T). x.schedule) leaves.before
-leaves_schedule {S} {T} traffic tells serves now (Note pause) visitors left was is leaves = ap (λ (x : Desk S T). x.schedule) leaves.0.0
+leaves_schedule {S} {T} traffic dates tells sleeps serves now (Note pause) visitors left was is leaves = ap (λ (x : Desk S T). x.schedule) leaves.0.0

@@ -21,6 +21,7 @@ use Rattle.told_messages.specs.Logging.{Sends, Turns}
 use Rattle.told_messages.specs.Recording.{Records, unsent_text}
 use Rattle.told_messages.specs.Showing.{GoesOn, HappenedWith, Turned}
 use Rattle.told_messages.specs.declared.log.Log.{Log}
+use Rattle.live_ends.specs.Waiting.{longest_wait}
 use Rattle.live_journal.specs.Capturing.{Captures}
 use Rattle.live_journal.specs.Spoiling.{fate_note, Notes as NotesOf}
 use Rattle.live_play.specs.Coming.{Came}
@@ -88,6 +89,18 @@ with_unreceived faults = record faults { receive = counted faults.receive 1 }
 abbrev pub faults_by : {E : Type 0} → Result ℕ E → Faults → Faults
 faults_by (Ok moment) faults = if nat_lt moment first_unread then faults else with_unreceived faults
 faults_by (Err fault) faults = with_unreceived faults
+
+-- that a wait failed counts
+abbrev pub faults_behind : {E : Type 0} → Result ⊤ E → Faults → Faults
+faults_behind (Ok waited) faults = faults
+faults_behind (Err fault) faults = with_unreceived faults
+
+-- it waited for so long at most, but no longer than until what waits to be taken is offered again, and did nothing else with what is
+-- around it; that this failed counts, once
+abbrev pub Waits : {S : Type 0} → (S → ℕ → Result ⊤ Fault → S → Type 0) → ℕ → Exchange S → Exchange S → Type 0
+Waits sleeps longest was is =
+    (outcome : Result ⊤ Fault) × sleeps was.around (longest_wait was.is_offering longest) outcome is.around
+    × (is.faults ≡ faults_behind outcome was.faults)
 
 -- a datagram was handed out, of which this is to be noted: that it wasn't sent counts
 abbrev pub with_mark : Option Mark → Faults → Faults

@@ -1,5 +1,5 @@
 -- What a turn leaves of a desk as it was, by its kind, and what is so as a run begins.
-use Rattle.std.specs.Prelude.{◌≡◌, ◌⊎◌, ℕ, ◌-◌, Bool, true, false, not, ◌&&◌, List, Option, Result}
+use Rattle.std.specs.Prelude.{◌≡◌, ⊤, ℕ, ◌-◌, Bool, true, false, not, ◌&&◌, List, Option, Result}
 use Rattle.std.specs.Global.{Box}
 use Rattle.mg_bytes.specs.Lists.{is_empty}
 use Rattle.gateway_core.specs.Stands.{Stands}
@@ -22,7 +22,7 @@ use Rattle.live_telephones.specs.Paging.{ShowsPage, TakesAct}
 use Rattle.live_gateway.specs.declared.desk.Desk.{Desk}
 use Rattle.live_gateway.specs.declared.exchange.Exchange.{Exchange}
 use Rattle.live_gateway.specs.Visiting.{ServesOnce}
-use Rattle.live_gateway.specs.Exchanging.{moment_at, faults_by, with_read, with_unreceived}
+use Rattle.live_gateway.specs.Exchanging.{moment_at, faults_by, with_read, Waits}
 
 -- of an exchange, only what the page is shown changes
 abbrev pub OnlyShows : {S : Type 0} → Exchange S → Exchange S → Type 0
@@ -36,9 +36,11 @@ OnlyTells was is = is ≡ record was { around = is.around; journal = record was.
 abbrev pub OnlyPlays : {S T : Type 0} → Desk S T → Desk S T → Type 0
 OnlyPlays was is = is ≡ record was { play = is.play; exchange = is.exchange }
 
--- the clock went to a moment: only its play and its exchange change, and that is the moment of its turn
-abbrev pub OnlyTicks : {S T : Type 0} → ℕ → Desk S T → Desk S T → Type 0
-OnlyTicks moment was is = OnlyPlays was is × (is.exchange.now.clock ≡ moment)
+-- the clock went to a moment: only its play and its exchange change, and that is the moment of its turn, which has the time of day that
+-- was told then
+abbrev pub OnlyTicks : {S T : Type 0} → (S → ℕ → Type 0) → ℕ → Desk S T → Desk S T → Type 0
+OnlyTicks dates moment was is =
+    OnlyPlays was is × (is.exchange.now.clock ≡ moment) × dates was.exchange.around is.exchange.now.time
 
 -- only its log changes
 abbrev pub OnlyLogs : {S T : Type 0} → Desk S T → Desk S T → Type 0
@@ -61,10 +63,10 @@ OnlyHears taken was is = is ≡ record was {
 abbrev pub OnlyReplies : {S T : Type 0} → Desk S T → Desk S T → Type 0
 OnlyReplies was is = is ≡ record was { exchange = record was.exchange { around = is.exchange.around }; lines = is.lines }
 
--- it waited: only what is around it changes, and the count of waits that failed
-pub record OnlyWaits {S T : Type 0} (was is : Desk S T) : Type 0 where
+-- it waited for so long at most: only what is around it changes, by that, and the count of waits that failed, where this one did
+pub record OnlyWaits {S T : Type 0} (sleeps : S → ℕ → Result ⊤ Fault → S → Type 0) (longest : ℕ) (was is : Desk S T) : Type 0 where
+  pub waited : Waits sleeps longest was.exchange is.exchange
   pub rest : is ≡ record was { exchange = record was.exchange { around = is.exchange.around; faults = is.exchange.faults } }
-  pub faults : (is.exchange.faults ≡ was.exchange.faults) ⊎ (is.exchange.faults ≡ with_unreceived was.exchange.faults)
 
 -- whether the page is asked for its next act: where it is its turn, or nobody may have typed, as far as was told
 abbrev pub IsAsked : {S : Type 0} → (S → Told → Type 0) → S → Bool → Bool → Type 0
@@ -122,16 +124,17 @@ pub record Starts {S T : Type 0} (passes : S → Result ℕ Fault → Type 0) (w
   }
   pub faults : is.exchange.faults ≡ faults_by clock was.exchange.faults
 
--- what a turn of this kind leaves, at this moment; of ticks, datagrams and lines `Does` says more. Visitors have a turn where it is theirs.
+-- What a turn of this kind leaves, at this moment; of ticks, datagrams and lines `Does` says more. It waits until its moment, or only looks
+-- what has come. Visitors have a turn where it is theirs.
 abbrev pub Leaves :
-    {S T V : Type 0} → (S → Traffic) → (S → Told → Type 0) → (V → S → BoardState → ℕ → V → S → BoardState → Type 0) → ℕ → Turn
-    → Option (Box V) → Option (Box V) → Desk S T → Desk S T → Type 0
-Leaves traffic tells serves now End visitors left was is = (is ≡ was) × (left ≡ visitors)
-Leaves traffic tells serves now Look visitors left was is = OnlyWaits was is × (left ≡ visitors)
-Leaves traffic tells serves now (Wait until) visitors left was is = OnlyWaits was is × (left ≡ visitors)
-Leaves traffic tells serves now (Tick moment) visitors left was is = OnlyTicks moment was is × (left ≡ visitors)
-Leaves traffic tells serves now Command visitors left was is =
+    {S T V : Type 0} → (S → Traffic) → (S → ℕ → Type 0) → (S → Told → Type 0) → (S → ℕ → Result ⊤ Fault → S → Type 0)
+    → (V → S → BoardState → ℕ → V → S → BoardState → Type 0) → ℕ → Turn → Option (Box V) → Option (Box V) → Desk S T → Desk S T → Type 0
+Leaves traffic dates tells sleeps serves now End visitors left was is = (is ≡ was) × (left ≡ visitors)
+Leaves traffic dates tells sleeps serves now Look visitors left was is = OnlyWaits sleeps 0 was is × (left ≡ visitors)
+Leaves traffic dates tells sleeps serves now (Wait until) visitors left was is = OnlyWaits sleeps (until - now) was is × (left ≡ visitors)
+Leaves traffic dates tells sleeps serves now (Tick moment) visitors left was is = OnlyTicks dates moment was is × (left ≡ visitors)
+Leaves traffic dates tells sleeps serves now Command visitors left was is =
     (is.admission ≡ was.admission) × (is.schedule ≡ was.schedule) × (left ≡ visitors)
-Leaves traffic tells serves now Datagram visitors left was is = OnlyPlays was is × (left ≡ visitors)
-Leaves traffic tells serves now Visit visitors left was is = DoesVisit traffic tells serves now visitors left was is
-Leaves traffic tells serves now (Note pause) visitors left was is = NotesPause pause was is × (left ≡ visitors)
+Leaves traffic dates tells sleeps serves now Datagram visitors left was is = OnlyPlays was is × (left ≡ visitors)
+Leaves traffic dates tells sleeps serves now Visit visitors left was is = DoesVisit traffic tells serves now visitors left was is
+Leaves traffic dates tells sleeps serves now (Note pause) visitors left was is = NotesPause pause was is × (left ≡ visitors)

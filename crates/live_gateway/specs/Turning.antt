@@ -144,11 +144,12 @@ pub record IsSituation {S T V : Type 0}
   pub read : at.read ≡ was.exchange.read
   pub ready : at.ready ≡ ready_at told (not (is_empty (left_of was.lines))) (next_due was.exchange.network) at.ticked is_visited
 
--- It does what comes next by its schedule, as things stand, and goes on with the schedule behind that. Who watches is told then what
--- changed. Visitors have a turn where that is what comes next, and no other one.
+-- It does what comes next by its schedule, as things stand, and goes on with the schedule behind that; what it records has the time of day
+-- that was told as the turn began. Who watches is told then what changed. Visitors have a turn where that is what comes next, and no other one.
 pub record DoesNext {S T V : Type 0}
     (told : T → Option (List ℕ)) (traffic : S → Traffic) (sockets : S → List SocketAddrV4)
-    (passes : S → Result ℕ Fault → Type 0) (tells : S → Told → Type 0)
+    (passes : S → Result ℕ Fault → Type 0) (dates : S → ℕ → Type 0) (tells : S → Told → Type 0)
+    (sleeps : S → ℕ → Result ⊤ Fault → S → Type 0)
     (receives : S → Result (Option (SocketAddrV4 × ℕ)) Fault → List ℕ → S → Type 0)
     (sends : S → SocketAddrV4 → List ℕ → Result ⊤ Fault → S → Type 0)
     (hears : S → Option (SocketAddr × ℕ) → List ℕ → S → Type 0) (answers : S → SocketAddr → List ℕ → S → Type 0)
@@ -165,9 +166,10 @@ pub record DoesNext {S T V : Type 0}
     schedule = begun.schedule;
   }
   pub clock : begun.exchange.now.clock ≡ at.ticked
+  pub dated : dates was.exchange.around begun.exchange.now.time
   pub faults : begun.exchange.faults ≡ faults_by situation.clock was.exchange.faults
   pub does : Does told traffic sockets tells receives sends hears answers turn begun done
-  pub leaves : Leaves traffic tells serves at.moment turn visitors left begun done
+  pub leaves : Leaves traffic dates tells sleeps serves at.moment turn visitors left begun done
   pub behind : is ≡ record done { exchange = record done.exchange { around = is.exchange.around }; watch = is.watch }
   pub kept : traffic is.exchange.around ≡ traffic done.exchange.around
   pub still : WatchesStill answers done.watch.watchers.places is.exchange.around is.watch.watchers.places

@@ -141,7 +141,7 @@ impl<S: Surroundings + Drop, T: Teller + Drop> Desk<S, T> {
         ensures tried { Tries S.sends (passed moment) (tick moment)
             (at_desk T.told S.traffic self.old) (record self.old.exchange { now = self.new.exchange.now })
             (at_desk T.told S.traffic self.new) self.new.exchange }
-        ensures rest { OnlyTicks moment self.old self.new }
+        ensures rest { OnlyTicks S.dates moment self.old self.new }
     {
         self.exchange.begin(moment);
         let done = self.play.tick(&mut self.exchange, moment);
@@ -319,7 +319,7 @@ impl<S: Surroundings + Drop, T: Teller + Drop> Desk<S, T> {
             → (plain self.old.play.gateway.value.setup events).now < to) }
         ensures play { GoesOn T.told S.traffic self.old self.new }
         ensures does { Does T.told S.traffic S.sockets S.tells S.receives S.sends S.hears S.answers turn self.old self.new }
-        ensures leaves { Leaves S.traffic S.tells V.serves moment turn visitors.old visitors.new self.old self.new }
+        ensures leaves { Leaves S.traffic S.dates S.tells S.sleeps V.serves moment turn visitors.old visitors.new self.old self.new }
         ensures over { is_end turn ≡ true → (self.new.play ≡ self.old.play) × (self.new.end ≡ self.old.end) }
     {
         match turn {
@@ -343,7 +343,7 @@ impl<S: Surroundings + Drop, T: Teller + Drop> Desk<S, T> {
     pub fn turn<V: Visitors<S>>(&mut self, visitors: &mut Option<Box<V>>) -> bool
         ensures play { GoesOn T.told S.traffic self.old self.new }
         ensures end { EndsAt self.old.end self.old.play.gateway.value (not result) }
-        ensures does { DoesNext T.told S.traffic S.sockets S.passes S.tells S.receives S.sends S.hears S.answers
+        ensures does { DoesNext T.told S.traffic S.sockets S.passes S.dates S.tells S.sleeps S.receives S.sends S.hears S.answers
             V.waits V.closes V.serves self.old visitors.old self.new visitors.new }
         ensures over { result ≡ false → (self.new.play ≡ self.old.play) × (self.new.end ≡ self.old.end) }
     {
@@ -391,7 +391,7 @@ impl<S: Surroundings + Drop, T: Teller + Drop> Desk<S, T> {
     )
         ensures play { GoesOn T.told S.traffic self.old self.new }
         ensures end { (count : ℕ)
-            × RunsTurns S.passes (DoesNext T.told S.traffic S.sockets S.passes S.tells S.receives S.sends S.hears S.answers
+            × RunsTurns S.passes (DoesNext T.told S.traffic S.sockets S.passes S.dates S.tells S.sleeps S.receives S.sends S.hears S.answers
             V.waits V.closes V.serves) W.writes count self.old visitors.old recorder.old self.new visitors.new recorder.new
             × ((EndsAt self.new.end self.new.play.gateway.value true) ⊎ (count ≡ 2 ^ 64 - 1)) }
     {

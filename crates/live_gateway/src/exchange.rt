@@ -6,7 +6,7 @@ ghost use Rattle.surroundings.specs.Hearing.{Hears};
 ghost use Rattle.surroundings.specs.Sending.{Sent, Grows, found_by};
 ghost use Rattle.live_gateway.specs.Admitting.{is_heard};
 ghost use Rattle.live_gateway.specs.Offering.{brought, TakesDue};
-ghost use Rattle.live_gateway.specs.Exchanging.{handed_by, received_by, came_by, next_due, moment_at, faultless, refusals, with_refused, with_unreceived, with_read, faults_by, Becomes, HandsOver, LosesOver, IsSameTurn, LooksOnce, CountsReceived, FoundSince};
+ghost use Rattle.live_gateway.specs.Exchanging.{handed_by, received_by, came_by, next_due, moment_at, faultless, refusals, with_refused, with_read, faults_by, Waits, Becomes, HandsOver, LosesOver, IsSameTurn, LooksOnce, CountsReceived, FoundSince};
 ghost use Rattle.live_gateway.specs.Visiting.{ServesOnce};
 ghost use Rattle.live_gateway.specs.Noting.{NotesReceived, TurnsAway, NotesArrival, NotesLate, CountsFound};
 ghost use Rattle.live_gateway.specs.Passing.{HandsOut, GoesOver, LooksOver, LooksDirectly, Looks};
@@ -18,8 +18,9 @@ use crate::visitors::Visitors;
 use bad_network::{Fate, Packet, Way};
 use exchange_log::Note;
 use gateway_core::{Gateway, SentMessage};
+use live_ends::longest_wait;
 use live_journal::Journal;
-use live_outlets::{NEXT_OFFER, Now};
+use live_outlets::Now;
 use live_play::{FIRST_UNREAD, Outlet};
 use message_counts::{Faults, Taken};
 use small_rules::count;
@@ -110,6 +111,7 @@ impl<S: Surroundings + Drop> Exchange<S> {
         ensures network { self.new.network ≡ self.old.network }
         ensures around { self.new.around ≡ self.old.around }
         ensures clock { self.new.now.clock ≡ ticked }
+        ensures time { S.dates self.old.around self.new.now.time }
         ensures journal { self.new.journal ≡ self.old.journal }
         ensures read { self.new.read ≡ self.old.read }
         ensures faults { self.new.faults ≡ self.old.faults }
@@ -207,17 +209,13 @@ impl<S: Surroundings + Drop> Exchange<S> {
     pub fn wait(&mut self, longest: u64)
         ensures handed { handed_by self.new.network (S.traffic self.new.around).sent
             ≡ handed_by self.old.network (S.traffic self.old.around).sent }
-        ensures faults { (self.new.faults ≡ self.old.faults) ⊎ (self.new.faults ≡ with_unreceived self.old.faults) }
+        ensures waited { Waits S.sleeps longest self.old self.new }
         ensures received { received_by self.new.network (S.traffic self.new.around).received
             ≡ received_by self.old.network (S.traffic self.old.around).received }
         ensures refused { self.new.faults.refused ≡ self.old.faults.refused }
         ensures rest { self.new ≡ record self.old { around = self.new.around; faults = self.new.faults } }
     {
-        let longest = if self.is_offering {
-            longest.min(NEXT_OFFER)
-        } else {
-            longest
-        };
+        let longest = longest_wait(self.is_offering, longest);
         if self.around.wait(longest).is_err() {
             count(&mut self.faults.receive);
         }

@@ -13,6 +13,8 @@ use Rattle.surroundings.specs.Sending.{untold}
 use Rattle.traces.specs.declared.telling.Mark.{Mark}
 use Rattle.traces.specs.Writing.{Input}
 use Rattle.surroundings.specs.declared.surroundings.Fault.{Fault}
+use Rattle.turns.specs.declared.turn.Turn.{Turn}
+use Rattle.std.specs.Global.{Box}
 use Rattle.message_counts.specs.Tallying.{with_stranger}
 use Rattle.message_counts.specs.declared.message_tally.MessageTally.{MessageTally}
 use Rattle.live_gateway.specs.declared.admission.Admission.{Admission}
@@ -24,6 +26,7 @@ use Rattle.live_gateway.specs.Answering.{DoesAct, TriesAct}
 use Rattle.live_gateway.specs.Desk.{Standing}
 use Rattle.live_gateway.specs.Ending.{EndsWith}
 use Rattle.live_gateway.specs.Exchanging.{Becomes, HandsOver}
+use Rattle.live_gateway.specs.Leaving.{Leaves}
 use Rattle.live_gateway.specs.Noting.{with_looked}
 use Rattle.live_gateway.specs.Turning.{Tries, TriesFound, LooksForOne}
 
@@ -35,6 +38,18 @@ one = (record { ip = record { octets = 10 ∷ 0 ∷ 0 ∷ 9 ∷ [] }; port = 272
 abbrev pub CountsStranger : Admission → Type 0
 CountsStranger admission =
     (tally : MessageTally) → is_heard admission one.0 ≡ false → with_looked admission (Some one) tally ≡ with_stranger tally
+
+-- where surroundings wait they become how long that was, or it comes to this
+abbrev pub tells_long : ℕ → ℕ → Result ⊤ Fault → ℕ → Type 0
+tells_long before longest outcome after = after ≡ longest
+
+abbrev pub comes_to : Result ⊤ Fault → ℕ → ℕ → Result ⊤ Fault → ℕ → Type 0
+comes_to this before longest outcome after = outcome ≡ this
+
+-- such a turn left a desk so, over surroundings that become how long they wait
+abbrev pub LeavesLong : ℕ → Turn → Option (Box ℕ) → Option (Box ℕ) → Desk ℕ ℕ → Desk ℕ ℕ → Type 0
+LeavesLong now turn visitors left was is =
+    Leaves {V = ℕ} (λ around. untold) (λ around time. ⊤) (λ around told. ⊤) tells_long (λ v s b at w t c. ⊤) now turn visitors left was is
 
 -- a desk looked for a datagram, where nobody looks for one
 abbrev pub LooksNowhere : Desk ℕ ℕ → Desk ℕ ℕ → Type 0

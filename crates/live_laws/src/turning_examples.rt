@@ -13,7 +13,7 @@ ghost use Rattle.live_gateway.specs.declared.exchange.Exchange.{Exchange};
 ghost use Rattle.live_gateway.specs.Admitting.{is_heard};
 ghost use Rattle.live_gateway.specs.Answering.{IsActAnswer};
 ghost use Rattle.live_gateway.specs.Ending.{is_record_refused, IsCounted, OnlyEnds};
-ghost use Rattle.live_laws.specs.TurnExample.{one, lost_one, once, failed, CanFreely, TriesNowhere, TriesOffHook, LooksNowhere, FindsNothing, SendsNowhere, HandsAnywhere, HandsNowhere, HandsWith, EndsSaying, CountsStranger, ActsAnywhere};
+ghost use Rattle.live_laws.specs.TurnExample.{one, lost_one, once, failed, CanFreely, TriesNowhere, TriesOffHook, LeavesLong, tells_long, comes_to, LooksNowhere, FindsNothing, SendsNowhere, HandsAnywhere, HandsNowhere, HandsWith, EndsSaying, CountsStranger, ActsAnywhere};
 ghost use Rattle.live_gateway.specs.Exchanging.{heard_in, mark_of, is_lost, faults_by, faultless, with_unreceived, unsent_in, IsTold, OnlySends, OnlyWrites, Explains, Notes, LosesOver, TakesOver};
 ghost use Rattle.live_gateway.specs.Desk.{Standing, MayRefuse};
 ghost use Rattle.live_play.specs.Running.{Live};
@@ -36,6 +36,8 @@ ghost use Rattle.exchange_log.specs.Pausing.{pause_line};
 ghost use Rattle.live_outlets.specs.declared.record.RecordState.TheVariants.{Off, On};
 ghost use Rattle.live_gateway.specs.Turning.{ready_at, RunsTurns};
 ghost use Rattle.surroundings.specs.Sending.{untold};
+ghost use Rattle.surroundings.specs.declared.surroundings.Fault.{Fault};
+ghost use Rattle.turns.specs.declared.turn.Turn.TheVariants.{Look, Wait};
 ghost use Rattle.std.specs.Global.{Box};
 ghost use Rattle.page_board.specs.Showing.{BoardState};
 ghost use Rattle.live_gateway.specs.Visiting.{AreReady, ClosesAt, ServesOnce};
@@ -52,7 +54,8 @@ pub fn what_stays_has_examples()
     ensures heard { (was is : Desk ℕ ℕ) → OnlyHears false was is → is.exchange.around ≡ was.exchange.around → is.lines ≡ was.lines
         → is ≡ was }
     ensures said { (was is : Desk ℕ ℕ) → OnlyReplies was is → is.exchange.around ≡ was.exchange.around → is.lines ≡ was.lines → is ≡ was }
-    ensures waited { (was is : Desk ℕ ℕ) → OnlyWaits was is → (is.exchange.read ≡ was.exchange.read) × (is.end ≡ was.end) }
+    ensures waited { (was is : Desk ℕ ℕ) → OnlyWaits (λ before longest outcome after. ⊤) 700 was is
+        → (is.exchange.read ≡ was.exchange.read) × (is.end ≡ was.end) }
     ensures visited { (visitors left : Option (Box ℕ)) (was is : Desk ℕ ℕ)
         → DoesVisit {V = ℕ} (λ around. untold) (λ around told. ⊤) (λ v s b at w t c. ⊤) 5 visitors left was is
         → is.exchange.read ≡ was.exchange.read }
@@ -139,7 +142,22 @@ pub fn what_goes_over_an_exchange_has_examples()
     ensures labelled { (message : SentMessage) (was is : Exchange ℕ) (board shown : Box BoardState) → was.journal.board ≡ Some board
         → is.journal.board ≡ Some shown → HandsWith message was is
         → HappenedWith was.now.clock OfSent one.0 [] (sent_label message ∷ []) board.value shown.value }
-    ensures ticked { (was is : Desk ℕ ℕ) → OnlyTicks 5 was is → is.exchange.now.clock ≡ 5 }
+    ensures ticked { (was is : Desk ℕ ℕ) → OnlyTicks (λ around time. ⊤) 5 was is → is.exchange.now.clock ≡ 5 }
+    ensures dated { (was is : Desk ℕ ℕ) → OnlyTicks (λ around time. time ≡ 7) 5 was is → is.exchange.now.time ≡ 7 }
+{}
+
+/// A wait lasts until its moment, but for 20 ms at most where something waits to be taken, and a look doesn't last at all. One that fails
+/// is counted, once, and no other one.
+pub fn what_a_wait_comes_to_has_examples()
+    ensures lasts { (was is : Desk ℕ ℕ) → was.exchange.is_offering ≡ false → OnlyWaits tells_long 700 was is → is.exchange.around ≡ 700 }
+    ensures offers { (was is : Desk ℕ ℕ) → was.exchange.is_offering ≡ true → OnlyWaits tells_long 700 was is → is.exchange.around ≡ 20 }
+    ensures failed { (fault : Fault) (was is : Desk ℕ ℕ) → OnlyWaits (comes_to (Err fault)) 700 was is
+        → is.exchange.faults ≡ with_unreceived was.exchange.faults }
+    ensures went_well { (was is : Desk ℕ ℕ) → OnlyWaits (comes_to (Ok tt)) 700 was is → is.exchange.faults ≡ was.exchange.faults }
+    ensures until { (visitors left : Option (Box ℕ)) (was is : Desk ℕ ℕ) → was.exchange.is_offering ≡ false
+        → LeavesLong 500 (Wait 1200) visitors left was is → is.exchange.around ≡ 700 }
+    ensures looks { (visitors left : Option (Box ℕ)) (was is : Desk ℕ ℕ) → was.exchange.is_offering ≡ false
+        → LeavesLong 500 Look visitors left was is → is.exchange.around ≡ 0 }
 {}
 
 /// Where a gateway takes an event nothing is read, nor counted as refused; and of a desk at which an act was asked for the end stays. A

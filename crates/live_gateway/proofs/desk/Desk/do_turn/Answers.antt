@@ -1,4 +1,5 @@
-use Rattle.std.proofs.Common.{refl}
+use Rattle.std.proofs.Common.{ℕ, refl, subst}
+use Rattle.live_gateway.specs.Exchanging.{Waits}
 use Rattle.live_gateway.proofs.DeskLemmas.{stays_so}
 use Rattle.live_gateway.proofs.FrameLemmas.{with_exchange, visit_same}
 use Rattle.live_gateway.proofs.desk.Desk.do_turn.Goals as goal
@@ -39,11 +40,18 @@ returns-in-End-clause-leaves g c = rw (c.in-End.is) (refl, refl)
 
 pub returns-in-Look-clause-leaves : goal.returns-in-Look-clause-leaves
 returns-in-Look-clause-leaves g c =
-    rw (c.in-Look.is) (record { rest = with_exchange c.args.self.now _ _ c.wait.ensures.rest; faults = c.wait.ensures.faults }, refl)
+    rw (c.in-Look.is) (record { waited = c.wait.ensures.waited; rest = with_exchange c.args.self.now _ _ c.wait.ensures.rest }, refl)
 
 pub returns-in-Wait-clause-leaves : goal.returns-in-Wait-clause-leaves
 returns-in-Wait-clause-leaves g c =
-    rw (c.in-Wait.is) (record { rest = with_exchange c.args.self.now _ _ c.wait-in-Wait.ensures.rest; faults = c.wait-in-Wait.ensures.faults }, refl)
+    rw (c.in-Wait.is) (
+      record {
+        waited = subst (λ (n : ℕ). Waits g.S.Surroundings.sleeps n c.args.self.now.exchange c.wait-in-Wait.new.self)
+            c.saturating_sub.ensures c.wait-in-Wait.ensures.waited;
+        rest = with_exchange c.args.self.now _ _ c.wait-in-Wait.ensures.rest;
+      },
+      refl,
+    )
 
 pub returns-in-Tick-clause-leaves : goal.returns-in-Tick-clause-leaves
 returns-in-Tick-clause-leaves g c = rw (c.in-Tick.is) (c.tick.ensures.rest, refl)

@@ -6,6 +6,7 @@ abbrev pub invariant-loop : goal.invariant-loop
 invariant-loop g l =
     GoesOn g.T.Teller.told g.S.Surroundings.traffic l.fn.self l.self
     × RunsTurns g.S.Surroundings.passes
-    (DoesNext g.T.Teller.told g.S.Surroundings.traffic g.S.Surroundings.sockets g.S.Surroundings.passes g.S.Surroundings.tells
-    g.S.Surroundings.receives g.S.Surroundings.sends g.S.Surroundings.hears g.S.Surroundings.answers g.V.Visitors.waits g.V.Visitors.closes g.V.Visitors.serves)
+    (DoesNext g.T.Teller.told g.S.Surroundings.traffic g.S.Surroundings.sockets g.S.Surroundings.passes g.S.Surroundings.dates
+    g.S.Surroundings.tells g.S.Surroundings.sleeps g.S.Surroundings.receives g.S.Surroundings.sends g.S.Surroundings.hears g.S.Surroundings.answers
+    g.V.Visitors.waits g.V.Visitors.closes g.V.Visitors.serves)
     g.W.Recorder.writes l.counter l.fn.self l.fn.visitors l.fn.recorder l.self l.visitors l.recorder

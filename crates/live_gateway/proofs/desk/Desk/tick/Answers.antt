@@ -1,4 +1,4 @@
-use Rattle.std.proofs.Common.{◌≡◌, refl, ◌∙◌, ap}
+use Rattle.std.proofs.Common.{◌≡◌, refl, ◌∙◌, ap, subst, sym}
 use Rattle.plain_machine.specs.Event.{tick}
 use Rattle.traces.specs.Writing.{passed}
 use Rattle.live_play.specs.Coming.{Came}
@@ -52,10 +52,11 @@ returns-clause-tried g c =
     c.tick-done.ensures.ends)
 
 pub returns-clause-rest : goal.returns-clause-rest
-returns-clause-rest g c = (
-  refl,
-  ap (λ (n : Now). n.clock)
-      (noted_now _ _ _ c.note_taken.ensures.notes
-      ∙ same_now g.S.Surroundings.sends c.tick-done.result _ c.begin.new.self c.tick-done.new.out _ _ _ c.tick-done.ensures.outlet c.tick-done.ensures.untouched)
-      ∙ c.begin.ensures.clock,
-)
+returns-clause-rest g c =
+    let same : c.note_taken.new.exchange.now ≡ c.begin.new.self.now =
+    noted_now _ _ _ c.note_taken.ensures.notes
+    ∙ same_now g.S.Surroundings.sends c.tick-done.result _ c.begin.new.self c.tick-done.new.out _ _ _ c.tick-done.ensures.outlet c.tick-done.ensures.untouched in (
+      refl,
+      ap (λ (n : Now). n.clock) same ∙ c.begin.ensures.clock,
+      subst (λ (n : Now). g.S.Surroundings.dates c.args.self.now.exchange.around n.time) (sym same) c.begin.ensures.time,
+    )

@@ -7,7 +7,7 @@ use Rattle.gateway_core.specs.Stands.{Stands}
 use Rattle.live_gateway.specs.Exchanging.{moment_at}
 use Rattle.live_gateway.proofs.DeskLemmas.{between}
 use Rattle.live_gateway.proofs.EndingLemmas.{turn_ends}
-use Rattle.live_gateway.proofs.FrameLemmas.{begun_alone, with_exchange, begins_same, leaves_schedule}
+use Rattle.live_gateway.proofs.FrameLemmas.{begun_alone, dated_before, with_exchange, begins_same, leaves_schedule}
 use Rattle.live_gateway.proofs.TurningLemmas.{tick_is_later, tick_is_short}
 use Rattle.live_gateway.proofs.desk.Desk.turn.Goals as goal
 
@@ -80,13 +80,14 @@ returns-clause-does g c =
         read = c.situation-at.ensures.read;
         ready = rw (sym c.is_empty-is_line_left.ensures, c.situation-at.ensures.ticked) c.situation-at.ensures.ready.4;
       };
-      next = rw (leaves_schedule g.S.Surroundings.traffic g.S.Surroundings.tells g.V.Visitors.serves at.moment c.next-turn.result c.args.visitors.now c.do_turn.new.visitors
+      next = rw (leaves_schedule g.S.Surroundings.traffic g.S.Surroundings.dates g.S.Surroundings.tells g.S.Surroundings.sleeps g.V.Visitors.serves at.moment c.next-turn.result c.args.visitors.now c.do_turn.new.visitors
           (record c.args.self.now { exchange = c.begin.new.self; schedule = c.next-turn.new.self }) c.do_turn.new.self c.do_turn.ensures.leaves)
           c.next-turn.ensures;
       before = with_exchange (record c.args.self.now { schedule = c.next-turn.new.self }) _ _
           (begun_alone c.args.self.now.exchange c.situation-at.new.exchange c.begin.new.self c.situation-at.ensures.rest c.begin.ensures.around c.begin.ensures.network
           c.begin.ensures.journal c.begin.ensures.read c.begin.ensures.offering);
       clock = c.begin.ensures.clock;
+      dated = dated_before g.S.Surroundings.dates c.args.self.now.exchange c.situation-at.new.exchange _ c.situation-at.ensures.rest c.begin.ensures.time;
       faults = c.begin.ensures.faults ∙ c.situation-at.ensures.clock.3;
       does = c.do_turn.ensures.does;
       leaves = c.do_turn.ensures.leaves;
