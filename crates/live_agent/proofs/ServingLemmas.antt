@@ -1,14 +1,17 @@
 -- Turns, one behind another.
 use Rattle.std.proofs.Common.{◌≡◌, inl, ℕ, ◌+◌, suc, Bool, true, false, Result, Ok, Err, refl, sym, ap, subst, ◌∙◌, arith}
-use Rattle.std.specs.Prelude.{not}
+use Rattle.std.specs.Prelude.{⊤, not, List, Option}
 use Rattle.agent_texts.specs.declared.journal.Journal.{Journal}
+use Rattle.surroundings.specs.Sending.{Traffic}
 use Rattle.surroundings.specs.declared.surroundings.Fault.{Fault}
 use Rattle.surroundings.specs.declared.surroundings.Told.{Told}
+use Rattle.switchboard.specs.declared.gateway.Gateway.{Gateway}
 use Rattle.switchboard.specs.declared.switchboard.Switchboard.{Switchboard}
 use Rattle.turns.specs.declared.schedule.Schedule.{Schedule}
 use Rattle.live_agent.specs.declared.wire.Wire.{Wire}
 use Rattle.live_agent.specs.Serving.{RunsTurns, StopsAt, Writes}
-use Rattle.live_agent.specs.Wiring.{AsksNext}
+use Rattle.live_agent.specs.Turning.{Waits, WaitsUntil}
+use Rattle.live_agent.specs.Wiring.{due_of, longest_until, AsksNext, FallsDueFirst}
 
 -- what comes next isn't the end
 pub not_end : (is_over : Bool) → true ≡ not is_over → is_over ≡ false
@@ -35,6 +38,13 @@ module _ {S : Type 0} where
   pub offered_so : (was is : Wire S) (is_offering : Bool) → is ≡ record was { is_offering = is_offering }
       → is ≡ record was { is_offering = is.is_offering }
   offered_so was is is_offering next = next ∙ ap (λ (one : Wire S). record was { is_offering = one.is_offering }) (sym next)
+
+-- it waited so long that it is until a moment, and no longer than to what falls due
+pub waited_until : {S : Type 0} (traffic : S → Traffic) (sleeps : S → ℕ → Result ⊤ Fault → S → Type 0) (until moment longest : ℕ) (due : Option ℕ)
+    (gateways : List Gateway) (was is : Wire S) → FallsDueFirst moment gateways was.load (due_of was.network) due
+    → longest ≡ longest_until until due moment → Waits traffic sleeps longest was is → WaitsUntil traffic sleeps until moment gateways was is
+waited_until traffic sleeps until moment longest due gateways was is falls long waits =
+    (due, falls, subst (λ (n : ℕ). Waits traffic sleeps n was is) long waits)
 
 module _ {S : Type 0} (turns : Switchboard → Wire S → Schedule → Switchboard → Wire S → Schedule → Type 0) where
   -- one more

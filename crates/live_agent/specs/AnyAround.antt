@@ -20,6 +20,13 @@ no_sockets around = []
 abbrev pub sends_any : ℕ → SocketAddrV4 → List ℕ → Result ⊤ Fault → ℕ → Type 0
 sends_any around to bytes outcome after = ⊤
 
+-- that wait, and become how long that was at most; where it comes to this
+abbrev pub sleeps_long : ℕ → ℕ → Result ⊤ Fault → ℕ → Type 0
+sleeps_long around longest outcome after = after ≡ longest
+
+abbrev pub sleeps_so : Result ⊤ Fault → ℕ → ℕ → Result ⊤ Fault → ℕ → Type 0
+sleeps_so this around longest outcome after = outcome ≡ this
+
 abbrev pub receives_any : ℕ → Result (Option (SocketAddrV4 × ℕ)) Fault → List ℕ → ℕ → Type 0
 receives_any around outcome room after = ⊤
 

@@ -28,14 +28,15 @@ pub record Writes {S W : Type 0} (writes : W → Journal → ℕ → W → Journ
 -- what comes next by a schedule has its turn; then what was recorded is written
 pub record TurnsOnce {S W : Type 0}
     (traffic : S → Traffic) (sockets : S → List SocketAddrV4) (sends : S → SocketAddrV4 → List ℕ → Result ⊤ Fault → S → Type 0)
-    (passes : S → Result ℕ Fault → Type 0) (tells : S → Told → Type 0)
+    (passes : S → Result ℕ Fault → Type 0) (dates : S → ℕ → Type 0) (tells : S → Told → Type 0)
+    (sleeps : S → ℕ → Result ⊤ Fault → S → Type 0)
     (receives : S → Result (Option (SocketAddrV4 × ℕ)) Fault → List ℕ → S → Type 0)
     (hears : S → Option (SocketAddr × ℕ) → List ℕ → S → Type 0) (answers : S → SocketAddr → List ℕ → S → Type 0)
     (writes : W → Journal → ℕ → W → Journal → Type 0) (board : Switchboard) (was : Wire S) (schedule : Schedule) (now : Switchboard) (is : Wire S) (next : Schedule)
     : Type 0 where
   pub done : Wire S
   pub asks : AsksNext passes tells board was schedule true next
-  pub does : DoesNext traffic sockets sends passes tells receives hears answers board now was done schedule next
+  pub does : DoesNext traffic sockets sends passes dates tells sleeps receives hears answers board now was done schedule next
   pub written : Writes writes done is
 
 -- so many turns, one behind another

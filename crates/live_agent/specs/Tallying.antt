@@ -55,6 +55,11 @@ abbrev pub looked_counted : Result (Option (SocketAddrV4 × ℕ)) Fault → Tall
 looked_counted (Ok found) tally = tally
 looked_counted (Err fault) tally = with_receive_fault tally
 
+-- a wait that fails counts as one, too
+abbrev pub waited_counted : Result ⊤ Fault → Tally → Tally
+waited_counted (Ok waited) tally = tally
+waited_counted (Err fault) tally = with_receive_fault tally
+
 -- What changes of a journal beside what counts
 
 -- nothing

@@ -24,9 +24,11 @@ use Rattle.turns.specs.declared.turn.Turn.TheVariants as turns
 use Rattle.agent_texts.specs.Telling.{Tells}
 use Rattle.agent_texts.specs.declared.journal.Journal.{Journal}
 use Rattle.exchange_log.specs.Pausing.{pause_line}
+use Rattle.live_ends.specs.Waiting.{longest_wait}
 use Rattle.live_agent.specs.declared.loading.Load.{Load}
 use Rattle.live_agent.specs.declared.session.Request.{Request}
 use Rattle.live_agent.specs.declared.session.Request.TheVariants.{Nothing, Counts, Stop, StopFromAfar, Command}
+use Rattle.switchboard.specs.declared.gateway.Gateway.{Gateway}
 use Rattle.switchboard.specs.declared.switchboard.Switchboard.{Switchboard}
 use Rattle.live_agent.specs.declared.wire.Wire.{Wire}
 use Rattle.live_agent.specs.Ending.{counted_in}
@@ -34,11 +36,11 @@ use Rattle.live_agent.specs.Clock.{is_behind}
 use Rattle.live_agent.specs.Datagrams.{TakesDatagram}
 use Rattle.live_agent.specs.Sending.{SettlesLines}
 use Rattle.live_agent.specs.Settling.{SettlesAll}
-use Rattle.live_agent.specs.Tallying.{with_receive_fault}
+use Rattle.live_agent.specs.Tallying.{waited_counted}
 use Rattle.live_agent.specs.Telephones.{HearsTelephones, PassesLoad}
 use Rattle.live_agent.specs.Ticking.{TicksAll}
 use Rattle.live_agent.specs.TypedCommands.{DoesCommand}
-use Rattle.live_agent.specs.Wiring.{with_read, IsSituation}
+use Rattle.live_agent.specs.Wiring.{due_of, longest_until, with_read, FallsDueFirst, IsSituation}
 
 -- What a line asks for
 
@@ -111,13 +113,22 @@ TakesTyped sockets sends hears answers moment (Some load) board now was is = (no
 TakesTyped {S} sockets sends hears answers moment None board now was is =
     (heard : Wire S) × HearsTyped sockets hears was heard × AnswersFirst sends answers board now heard is
 
--- A wait changes what is around a wire, but nothing goes over that by it. That it failed counts, and nothing else of the journal has changed.
-abbrev pub Waits : {S : Type 0} → (S → Traffic) → Wire S → Wire S → Type 0
-Waits traffic was is =
+-- It waits for so long at most, but no longer than until what waits to be taken is offered again. That changes what is around a wire, and
+-- nothing else does, but nothing goes over it by that. Where it failed this counts, once, and nothing else of the journal has changed.
+abbrev pub Waits : {S : Type 0} → (S → Traffic) → (S → ℕ → Result ⊤ Fault → S → Type 0) → ℕ → Wire S → Wire S → Type 0
+Waits traffic sleeps longest was is =
     (traffic is.around ≡ traffic was.around)
-    × ((is.journal.value.tally ≡ was.journal.value.tally) ⊎ (is.journal.value.tally ≡ with_receive_fault was.journal.value.tally))
+    × ((outcome : Result ⊤ Fault) × sleeps was.around (longest_wait was.is_offering longest) outcome is.around
+    × (is.journal.value.tally ≡ waited_counted outcome was.journal.value.tally))
     × (is.journal.value ≡ record was.journal.value { tally = is.journal.value.tally })
     × (is ≡ record was { around = is.around; journal = is.journal })
+
+-- so until a moment, where it is now another, but no longer than to what falls due next at these gateways or over the wire
+abbrev pub WaitsUntil :
+    {S : Type 0} → (S → Traffic) → (S → ℕ → Result ⊤ Fault → S → Type 0) → ℕ → ℕ → List Gateway → Wire S → Wire S → Type 0
+WaitsUntil traffic sleeps until moment gateways was is =
+    (due : Option ℕ) × FallsDueFirst moment gateways was.load (due_of was.network) due
+    × Waits traffic sleeps (longest_until until due moment) was is
 
 -- a pause is noted in the log, and nowhere else: how much later the program woke, and how many datagrams were read meanwhile
 abbrev pub Notes : {S : Type 0} → Pause → Wire S → Wire S → Type 0
@@ -169,24 +180,28 @@ pub record DoesTick {S : Type 0} (sends : S → SocketAddrV4 → List ℕ → Re
 
 -- What a turn of a kind does, where it is this moment: a tick, a command that was typed and a datagram alone change the board.
 abbrev pub DoesTurn :
-    {S : Type 0} → (S → Traffic) → (S → List SocketAddrV4) → (S → SocketAddrV4 → List ℕ → Result ⊤ Fault → S → Type 0)
+    {S : Type 0} → (S → Traffic) → (S → List SocketAddrV4) → (S → ℕ → Result ⊤ Fault → S → Type 0)
+    → (S → SocketAddrV4 → List ℕ → Result ⊤ Fault → S → Type 0)
     → (S → Result (Option (SocketAddrV4 × ℕ)) Fault → List ℕ → S → Type 0)
     → (S → Option (SocketAddr × ℕ) → List ℕ → S → Type 0)
     → (S → SocketAddr → List ℕ → S → Type 0) → ℕ → Turn → Switchboard → Switchboard → Wire S → Wire S → Type 0
-DoesTurn traffic sockets sends receives hears answers moment turns.End board now was is = (now ≡ board) × (is ≡ was)
-DoesTurn traffic sockets sends receives hears answers moment turns.Look board now was is = (now ≡ board) × Waits traffic was is
-DoesTurn traffic sockets sends receives hears answers moment (turns.Wait until) board now was is = (now ≡ board) × Waits traffic was is
-DoesTurn traffic sockets sends receives hears answers moment (turns.Tick to) board now was is = DoesTick sends answers moment to board now was is
-DoesTurn traffic sockets sends receives hears answers moment turns.Command board now was is =
+DoesTurn traffic sockets sleeps sends receives hears answers moment turns.End board now was is = (now ≡ board) × (is ≡ was)
+DoesTurn traffic sockets sleeps sends receives hears answers moment turns.Look board now was is = (now ≡ board) × Waits traffic sleeps 0 was is
+DoesTurn traffic sockets sleeps sends receives hears answers moment (turns.Wait until) board now was is =
+    (now ≡ board) × WaitsUntil traffic sleeps until moment board.gateways.items was is
+DoesTurn traffic sockets sleeps sends receives hears answers moment (turns.Tick to) board now was is = DoesTick sends answers moment to board now was is
+DoesTurn traffic sockets sleeps sends receives hears answers moment turns.Command board now was is =
     TakesTyped sockets sends hears answers moment was.load board now was is
-DoesTurn traffic sockets sends receives hears answers moment turns.Datagram board now was is = TakesDatagram sends receives board was now is
-DoesTurn traffic sockets sends receives hears answers moment turns.Visit board now was is = (now ≡ board) × (is ≡ was)
-DoesTurn traffic sockets sends receives hears answers moment (turns.Note pause) board now was is = (now ≡ board) × Notes pause was is
+DoesTurn traffic sockets sleeps sends receives hears answers moment turns.Datagram board now was is = TakesDatagram sends receives board was now is
+DoesTurn traffic sockets sleeps sends receives hears answers moment turns.Visit board now was is = (now ≡ board) × (is ≡ was)
+DoesTurn traffic sockets sleeps sends receives hears answers moment (turns.Note pause) board now was is = (now ≡ board) × Notes pause was is
 
--- What comes next by a schedule, as things stand, is done, once lines are settled; it isn't the end. The schedule goes on by that.
+-- What comes next by a schedule, as things stand, is done, once lines are settled; it isn't the end. What is recorded of it has the time of
+-- day that was told as it began. The schedule goes on by that.
 pub record DoesNext {S : Type 0}
     (traffic : S → Traffic) (sockets : S → List SocketAddrV4) (sends : S → SocketAddrV4 → List ℕ → Result ⊤ Fault → S → Type 0)
-    (passes : S → Result ℕ Fault → Type 0) (tells : S → Told → Type 0)
+    (passes : S → Result ℕ Fault → Type 0) (dates : S → ℕ → Type 0) (tells : S → Told → Type 0)
+    (sleeps : S → ℕ → Result ⊤ Fault → S → Type 0)
     (receives : S → Result (Option (SocketAddrV4 × ℕ)) Fault → List ℕ → S → Type 0)
     (hears : S → Option (SocketAddr × ℕ) → List ℕ → S → Type 0) (answers : S → SocketAddr → List ℕ → S → Type 0)
     (board now : Switchboard) (was is : Wire S) (schedule next : Schedule)
@@ -199,5 +214,6 @@ pub record DoesNext {S : Type 0}
   pub goes_on : is_end (next_of schedule at).0 ≡ false
   pub behind : next ≡ (next_of schedule at).1
   pub begins : begun ≡ record was { now = record was.now { time = begun.now.time }; is_behind = is_behind at.moment at.ticked }
+  pub dated : dates was.around begun.now.time
   pub settles : SettlesAll sends board begun settled sent
   pub does : DoesTurn traffic sockets sends receives hears answers at.moment (next_of schedule at).0 settled now sent is

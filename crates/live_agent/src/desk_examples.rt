@@ -39,7 +39,7 @@ ghost use Rattle.live_agent.specs.declared.loading.LoadEnding.TheVariants as loa
 ghost use Rattle.live_agent.specs.declared.session.Request.TheVariants as requests;
 ghost use Rattle.switchboard.specs.declared.switchboard.Switchboard.{Switchboard};
 ghost use Rattle.live_agent.specs.declared.wire.Wire.{Wire};
-ghost use Rattle.live_agent.specs.AnyAround.{no_sockets, no_traffic, sends_any, receives_any, hears_any, answers_any, answers_more, answers_never, asks_at, asks_in_order, becomes_any, ends_any, serves_any, serves_never, writes_any, writes_nothing};
+ghost use Rattle.live_agent.specs.AnyAround.{no_sockets, no_traffic, sends_any, sleeps_long, sleeps_so, receives_any, hears_any, answers_any, answers_more, answers_never, asks_at, asks_in_order, becomes_any, ends_any, serves_any, serves_never, writes_any, writes_nothing};
 ghost use Rattle.live_agent.specs.Clock.{milliseconds};
 ghost use Rattle.live_agent.specs.Datagrams.{with_stranger, DealsIf, HearsBy, HearsDatagram, HearsOne, HearsPacket, HearsTexts, SettlesIf, StepsAt, TakesEach, TakesElse, TakesFound, TakesLooked, TakesNext, TakesReceived};
 ghost use Rattle.switchboard.specs.Hearing.{HearsText};
@@ -54,10 +54,10 @@ ghost use Rattle.live_agent.specs.Handing.{comes_in, HandsFirst, HandsLast, Leav
 ghost use Rattle.live_agent.specs.Sending.{GoesOut, SendsAll, SendsCommand, SendsOne, SendsOutputs, SendsOver, SettlesLines};
 ghost use Rattle.live_agent.specs.Serving.{served_ending, RunsTurns, ServesOver, ServesToEnd, StopsAt, Writes};
 ghost use Rattle.live_agent.specs.Settling.{SendsEach, SendsIssued, SendsNext, SettlesBy, ShowsEach, ShowsOne};
-ghost use Rattle.live_agent.specs.Tallying.{leaving_counted, with_refusal, with_send_fault, OnlyCounts, OnlyNotes, OnlyRecords, OnlyTells, OnlyTellsAndNotes};
+ghost use Rattle.live_agent.specs.Tallying.{leaving_counted, with_receive_fault, with_refusal, with_send_fault, OnlyCounts, OnlyNotes, OnlyRecords, OnlyTells, OnlyTellsAndNotes};
 ghost use Rattle.live_agent.specs.Telephones.{course_behind, end_of, ending_in, load_ending, load_over, BeginsLoad, CountsFor, HearsOnce, HearsTelephones, OfLoad, Passes, PassesLoad, Reports, SaysAll, SaysEach, SaysHeard, SaysOne, SaysTo};
 ghost use Rattle.live_agent.specs.Ticking.{GivesUpEach, GivesUpMany, GivesUpNext, TicksEach, TicksOne, WakesEach, WakesMany};
-ghost use Rattle.live_agent.specs.Turning.{line_request, first_request, DoesRequest, DoesTick, DoesTurn, EndsBy, Notes, TakesTyped, TellsCounts, TicksOver, Waits};
+ghost use Rattle.live_agent.specs.Turning.{line_request, first_request, DoesRequest, DoesTick, DoesTurn, EndsBy, Notes, TakesTyped, TellsCounts, TicksOver, Waits, WaitsUntil};
 ghost use Rattle.switchboard.specs.Typed.{typed_text};
 ghost use Rattle.switchboard.specs.TypedCommands.{IssuesCommand, IssuesMeant, IssuesThere};
 ghost use Rattle.live_agent.specs.TypedCommands.{fault_text, issued_text, TellsIssued, AnswersAll, AnswersIssued, IsTypedNext};
@@ -119,17 +119,23 @@ pub fn what_is_typed_has_examples()
 /// What turns leave of the board.
 pub fn what_turns_leave_has_examples()
     ensures looks { (board now : Switchboard) (was is : Wire ℕ) →
-        DoesTurn no_traffic no_sockets sends_any receives_any hears_any answers_any 700 Turn.Look board now was is → (now ≡ board) × (is.lines ≡ was.lines) }
+        DoesTurn no_traffic no_sockets sleeps_long sends_any receives_any hears_any answers_any 700 Turn.Look board now was is
+        → (now ≡ board) × (is.lines ≡ was.lines) }
     ensures waits { (board now : Switchboard) (was is : Wire ℕ) →
-        DoesTurn no_traffic no_sockets sends_any receives_any hears_any answers_any 700 (Turn.Wait 700) board now was is → (now ≡ board) × (is.end ≡ was.end) }
+        DoesTurn no_traffic no_sockets sleeps_long sends_any receives_any hears_any answers_any 700 (Turn.Wait 700) board now was is
+        → (now ≡ board) × (is.end ≡ was.end) }
     ensures notes { (pause : _) (board now : Switchboard) (was is : Wire ℕ) →
-        DoesTurn no_traffic no_sockets sends_any receives_any hears_any answers_any 700 (Turn.Note pause) board now was is → (now ≡ board) × (is.around ≡ was.around) }
+        DoesTurn no_traffic no_sockets sleeps_long sends_any receives_any hears_any answers_any 700 (Turn.Note pause) board now was is
+        → (now ≡ board) × (is.around ≡ was.around) }
     ensures ticks { (board now : Switchboard) (was is : Wire ℕ) →
-        DoesTurn no_traffic no_sockets sends_any receives_any hears_any answers_any 700 (Turn.Tick 700) board now was is → now.notifying ≡ board.notifying }
+        DoesTurn no_traffic no_sockets sleeps_long sends_any receives_any hears_any answers_any 700 (Turn.Tick 700) board now was is
+        → now.notifying ≡ board.notifying }
     ensures visits { (board now : Switchboard) (was is : Wire ℕ) →
-        DoesTurn no_traffic no_sockets sends_any receives_any hears_any answers_any 700 Turn.Visit board now was is → (now ≡ board) × (is ≡ was) }
+        DoesTurn no_traffic no_sockets sleeps_long sends_any receives_any hears_any answers_any 700 Turn.Visit board now was is
+        → (now ≡ board) × (is ≡ was) }
     ensures ends { (board now : Switchboard) (was is : Wire ℕ) →
-        DoesTurn no_traffic no_sockets sends_any receives_any hears_any answers_any 700 Turn.End board now was is → (now ≡ board) × (is ≡ was) }
+        DoesTurn no_traffic no_sockets sleeps_long sends_any receives_any hears_any answers_any 700 Turn.End board now was is
+        → (now ≡ board) × (is ≡ was) }
     ensures load { (load : Box Load) (board now : Switchboard) (was is : Wire ℕ) →
         TakesTyped no_sockets sends_any hears_any answers_any 700 (Some load) board now was is →
         (now ≡ board) × HearsTelephones hears_any answers_any 700 was is }
@@ -137,9 +143,20 @@ pub fn what_turns_leave_has_examples()
         (is.lines ≡ was.lines) × (is.network ≡ was.network) × (is.journal ≡ was.journal) }
     ensures over { end_of true None ≡ Some 0 }
     ensures not_over { end_of false (Some 900) ≡ Some 900 }
-    // A wait sends nothing, and one that fails counts once; a pause is noted in the log alone.
-    ensures quiet { (traffic : ℕ → Traffic) (was is : Wire ℕ) → Waits traffic was is → traffic is.around ≡ traffic was.around }
-    ensures fails { (was is : Wire ℕ) → Waits no_traffic was is → is.journal.value.told ≡ was.journal.value.told }
+    // A wait sends nothing, and one that fails counts once, where others count nothing; a pause is noted in the log alone.
+    ensures quiet { (traffic : ℕ → Traffic) (was is : Wire ℕ) → Waits traffic sleeps_long 700 was is
+        → traffic is.around ≡ traffic was.around }
+    ensures fails { (was is : Wire ℕ) → Waits no_traffic sleeps_long 700 was is → is.journal.value.told ≡ was.journal.value.told }
+    ensures failed { (fault : Fault) (was is : Wire ℕ) → Waits no_traffic (sleeps_so (Err fault)) 700 was is
+        → is.journal.value.tally ≡ with_receive_fault was.journal.value.tally }
+    ensures went_well { (was is : Wire ℕ) → Waits no_traffic (sleeps_so (Ok tt)) 700 was is
+        → is.journal.value.tally ≡ was.journal.value.tally }
+    // It lasts as long as is said, but for 20 ms at most where something waits to be taken; until a moment, but no longer than to what
+    // falls due.
+    ensures lasts { (was is : Wire ℕ) → was.is_offering ≡ false → Waits no_traffic sleeps_long 700 was is → is.around ≡ 700 }
+    ensures offers { (was is : Wire ℕ) → was.is_offering ≡ true → Waits no_traffic sleeps_long 700 was is → is.around ≡ 20 }
+    ensures until { (was is : Wire ℕ) (until : WaitsUntil no_traffic sleeps_long 1200 500 [] was is) → was.is_offering ≡ false
+        → is.around ≡ longest_until 1200 until.0 500 }
     ensures pauses { (pause : Pause) (was is : Wire ℕ) → Notes pause was is → is.journal.value.tally ≡ was.journal.value.tally }
     ensures paused { (was is : Wire ℕ) → Notes (record { lateness = 31000; read = Some 12 }) was is →
         Tells (pause_line was.now.time 31000 (Some 12)) was.journal.value.log is.journal.value.log }

@@ -137,8 +137,8 @@ pub(crate) fn serve_config<S: Surroundings + Drop, W: Recorder>(
     wire: &mut Wire<S>,
     recorder: &mut W,
 ) -> CommonEnding
-    ensures { ServesLoad (Serves S.passes S.tells (TurnsOnce S.traffic S.sockets (HandsTo S.sends S.traffic) S.passes S.tells S.receives S.hears S.answers W.writes))
-        wire.old wire.new result }
+    ensures { ServesLoad (Serves S.passes S.tells (TurnsOnce S.traffic S.sockets (HandsTo S.sends S.traffic) S.passes S.dates S.tells
+        S.sleeps S.receives S.hears S.answers W.writes)) wire.old wire.new result }
 {
     let mut board = match board_of(alloc, config, is_routed, wire) {
         Ok(board) => board,
@@ -195,8 +195,8 @@ fn serve_to_end<R: Clock, S: Surroundings + Drop, W: Recorder + Finisher>(
     wire: &mut Wire<S>,
     recorder: &mut W,
 ) -> CommonEnding
-    ensures { ServesToEnd (Serves S.passes S.tells (TurnsOnce S.traffic S.sockets (HandsTo S.sends S.traffic) S.passes S.tells S.receives S.hears S.answers W.writes))
-        W.ends board wire.old wire.new recorder.new result }
+    ensures { ServesToEnd (Serves S.passes S.tells (TurnsOnce S.traffic S.sockets (HandsTo S.sends S.traffic) S.passes S.dates S.tells
+        S.sleeps S.receives S.hears S.answers W.writes)) W.ends board wire.old wire.new recorder.new result }
 {
     let served = serve(alloc, &mut board, wire, recorder);
     board.close();
@@ -215,8 +215,8 @@ pub fn serve_over<R: Clock, S: Surroundings + Drop, W: Recorder + Finisher>(
     wire: &mut Wire<S>,
     recorder: &mut W,
 ) -> CommonEnding
-    ensures { ServesOver (Serves S.passes S.tells (TurnsOnce S.traffic S.sockets (HandsTo S.sends S.traffic) S.passes S.tells S.receives S.hears S.answers W.writes))
-        W.ends wire.old wire.new recorder.new result }
+    ensures { ServesOver (Serves S.passes S.tells (TurnsOnce S.traffic S.sockets (HandsTo S.sends S.traffic) S.passes S.dates S.tells
+        S.sleeps S.receives S.hears S.answers W.writes)) W.ends wire.old wire.new recorder.new result }
 {
     match board_of(alloc, config, is_routed, wire) {
         Ok(board) => serve_to_end(rt, alloc, board, wire, recorder),

@@ -650,7 +650,8 @@ fn do_turn<S: Surroundings + Drop>(
     turn: Turn,
     moment: u64,
 )
-    ensures { DoesTurn S.traffic S.sockets (HandsTo S.sends S.traffic) S.receives S.hears S.answers moment turn board.old board.new wire.old wire.new }
+    ensures { DoesTurn S.traffic S.sockets S.sleeps (HandsTo S.sends S.traffic) S.receives S.hears S.answers moment turn
+        board.old board.new wire.old wire.new }
 {
     match turn {
         Turn::Tick { moment: to } => {
@@ -678,8 +679,8 @@ fn turn<S: Surroundings + Drop>(
     schedule: &mut Schedule,
 ) -> Result<bool, Fault>
     ensures next { IfOk result (λ goes_on. AsksNext S.passes S.tells board.old wire.old schedule.old goes_on schedule.new) }
-    ensures does { IfOk result (λ goes_on. goes_on ≡ true → DoesNext S.traffic S.sockets (HandsTo S.sends S.traffic) S.passes S.tells S.receives S.hears S.answers
-        board.old board.new wire.old wire.new schedule.old schedule.new) }
+    ensures does { IfOk result (λ goes_on. goes_on ≡ true → DoesNext S.traffic S.sockets (HandsTo S.sends S.traffic) S.passes S.dates S.tells
+        S.sleeps S.receives S.hears S.answers board.old board.new wire.old wire.new schedule.old schedule.new) }
     ensures ended { IfOk result (λ goes_on. goes_on ≡ false → (wire.new ≡ wire.old) × (board.new ≡ board.old)) }
     ensures failed { IfErr result (λ fault. S.passes wire.old.around (Err fault)) }
     ensures fault { IfErr result (λ _. (wire.new ≡ wire.old) × (board.new ≡ board.old) × (schedule.new ≡ schedule.old)) }
@@ -717,8 +718,8 @@ fn run<S: Surroundings + Drop, W: Recorder>(
     schedule: &mut Schedule,
     recorder: &mut W,
 ) -> Result<(), Fault>
-    ensures { Runs S.passes S.tells (TurnsOnce S.traffic S.sockets (HandsTo S.sends S.traffic) S.passes S.tells S.receives S.hears S.answers W.writes) result
-        board.old wire.old schedule.old board.new wire.new }
+    ensures { Runs S.passes S.tells (TurnsOnce S.traffic S.sockets (HandsTo S.sends S.traffic) S.passes S.dates S.tells S.sleeps
+        S.receives S.hears S.answers W.writes) result board.old wire.old schedule.old board.new wire.new }
 {
     for _ in 0..u64::MAX {
         let goes_on = match turn(alloc, board, wire, schedule) {
@@ -740,8 +741,8 @@ pub(crate) fn serve<S: Surroundings + Drop, W: Recorder>(
     wire: &mut Wire<S>,
     recorder: &mut W,
 ) -> Result<(), Fault>
-    ensures { Serves S.passes S.tells (TurnsOnce S.traffic S.sockets (HandsTo S.sends S.traffic) S.passes S.tells S.receives S.hears S.answers W.writes) result
-        board.old wire.old board.new wire.new }
+    ensures { Serves S.passes S.tells (TurnsOnce S.traffic S.sockets (HandsTo S.sends S.traffic) S.passes S.dates S.tells S.sleeps
+        S.receives S.hears S.answers W.writes) result board.old wire.old board.new wire.new }
 {
     // What the start took isn't a pause.
     let start = match wire.around.moment() {

@@ -1,14 +1,15 @@
 //! The wire: what datagrams and typed lines come over, and a bad network, where one lies between; and the journal of what goes over it.
-ghost use Rattle.std.specs.Prelude.{◌≡◌, ◌⊎◌, ◌≤◌, ◌∷◌, ℕ, Bool, Option, Some, None, Result, [], true, false, not, length, is_some, IfOk, IfSome};
+ghost use Rattle.std.specs.Prelude.{◌≡◌, ◌≤◌, ⊤, ◌∷◌, ℕ, Bool, Option, Some, None, Result, [], true, false, not, length, is_some, IfOk, IfSome};
 ghost use Rattle.std.specs.declared.net.socket_addr.SocketAddrV4.{SocketAddrV4 as Peer};
 ghost use Rattle.bad_network.specs.declared.packet.Way.TheVariants.{In};
 ghost use Rattle.agent_texts.specs.Telling.{Tells};
 ghost use Rattle.exchange_log.specs.Pausing.{pause_line};
+ghost use Rattle.live_ends.specs.Waiting.{longest_wait};
 ghost use Rattle.mg_bytes.specs.Lists.{is_empty};
 ghost use Rattle.live_agent.specs.Wiring.{due_of, with_read, read_at, heard_at, ready_by};
 ghost use Rattle.live_agent.specs.Handing.{comes_in, HandsFirst, HandsOver, HandsTo, Leaves, Offers, OffersTo};
 ghost use Rattle.live_agent.specs.Sending.{SendsAll, SendsOne, SendsOver};
-ghost use Rattle.live_agent.specs.Tallying.{leaving_counted, looked_counted, with_fate, with_receive_fault, with_send_fault};
+ghost use Rattle.live_agent.specs.Tallying.{leaving_counted, looked_counted, waited_counted, with_fate, with_send_fault};
 ghost use Rattle.live_agent.specs.Tallying.{CountsLeaving, CountsOffer, CountsSent, OnlyCounts, OnlyNotes};
 ghost use Rattle.surroundings.specs.Hearing.{Hears, AnswersTo};
 ghost use Rattle.surroundings.specs.Requests.{requests_from};
@@ -21,7 +22,8 @@ use crate::loading::{Load, count_sent};
 use agent_texts::{Journal, Tally, count};
 use bad_network::{BadNetwork, Fate, Packet, Way};
 use exchange_log::{Note, Stamp, put_pause};
-use live_outlets::{NEXT_OFFER, Now, Record};
+use live_ends::longest_wait;
+use live_outlets::{Now, Record};
 use plain_machine::OutDatagram;
 use std::alloc::{AllocError, Global};
 use std::net::SocketAddrV4;
@@ -199,7 +201,8 @@ impl<S: Surroundings + Drop> Wire<S> {
 
     /// A turn begins.
     pub(crate) fn begin(&mut self)
-        ensures { self.new ≡ record self.old { now = record self.old.now { time = self.new.now.time } } }
+        ensures time { S.dates self.old.around self.new.now.time }
+        ensures rest { self.new ≡ record self.old { now = record self.old.now { time = self.new.now.time } } }
     {
         self.now.time = self.around.time();
     }
@@ -415,16 +418,13 @@ impl<S: Surroundings + Drop> Wire<S> {
     /// Waits until something comes, but no longer than this, in ms, nor than until what waits to be taken is offered again.
     pub(crate) fn wait(&mut self, longest: u64)
         ensures traffic { S.traffic self.new.around ≡ S.traffic self.old.around }
-        ensures counts { (self.new.journal.value.tally ≡ self.old.journal.value.tally)
-            ⊎ (self.new.journal.value.tally ≡ with_receive_fault self.old.journal.value.tally) }
+        ensures waited { (outcome : Result ⊤ Fault)
+            × S.sleeps self.old.around (longest_wait self.old.is_offering longest) outcome self.new.around
+            × (self.new.journal.value.tally ≡ waited_counted outcome self.old.journal.value.tally) }
         ensures journal { self.new.journal.value ≡ record self.old.journal.value { tally = self.new.journal.value.tally } }
         ensures rest { self.new ≡ record self.old { around = self.new.around; journal = self.new.journal } }
     {
-        let longest = if self.is_offering {
-            longest.min(NEXT_OFFER)
-        } else {
-            longest
-        };
+        let longest = longest_wait(self.is_offering, longest);
         if self.around.wait(longest).is_err() {
             count(&mut self.journal.tally.receive_faults);
         }

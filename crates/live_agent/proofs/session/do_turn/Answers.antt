@@ -1,5 +1,6 @@
 use Rattle.std.proofs.Common.{refl}
 use Rattle.live_agent.specs.Handing.{HandsTo}
+use Rattle.live_agent.proofs.ServingLemmas.{waited_until}
 use Rattle.live_agent.proofs.TickingLemmas.{did_tick}
 use Rattle.live_agent.proofs.session.do_turn.Goals as goal
 
@@ -16,10 +17,16 @@ pub returns-in-Datagram : goal.returns-in-Datagram
 returns-in-Datagram g c = rw (c.in-Datagram.is) c.take_datagram.ensures
 
 pub returns-in-Look : goal.returns-in-Look
-returns-in-Look g c = rw (c.in-Look.is) (refl, (c.wait.ensures.traffic, c.wait.ensures.counts, c.wait.ensures.journal, c.wait.ensures.rest))
+returns-in-Look g c = rw (c.in-Look.is) (refl, (c.wait.ensures.traffic, c.wait.ensures.waited, c.wait.ensures.journal, c.wait.ensures.rest))
 
 pub returns-in-Wait : goal.returns-in-Wait
-returns-in-Wait g c = rw (c.in-Wait.is) (refl, (c.wait-in-Wait.ensures.traffic, c.wait-in-Wait.ensures.counts, c.wait-in-Wait.ensures.journal, c.wait-in-Wait.ensures.rest))
+returns-in-Wait g c =
+    rw (c.in-Wait.is) (
+      refl,
+      waited_until g.S.Surroundings.traffic g.S.Surroundings.sleeps c.in-Wait.until c.args.moment _ _ c.args.board.now.gateways.items c.args.wire.now
+          c.wait-in-Wait.new.self c.longest_wait-longest.ensures.1 c.longest_wait-longest.ensures.2
+          (c.wait-in-Wait.ensures.traffic, c.wait-in-Wait.ensures.waited, c.wait-in-Wait.ensures.journal, c.wait-in-Wait.ensures.rest),
+    )
 
 pub returns-in-Note : goal.returns-in-Note
 returns-in-Note g c = rw (c.in-Note.is) (refl, (c.note_pause.ensures.told, c.note_pause.ensures.journal, c.note_pause.ensures.rest))

@@ -12,7 +12,7 @@ loop-init g c = (refl, refl, refl)
 pub loop-preserved : goal.loop-preserved
 loop-preserved g c =
     let went : c.in-Ok.goes_on ≡ true = search rules in
-    runs_more (TurnsOnce g.S.Surroundings.traffic g.S.Surroundings.sockets (HandsTo g.S.Surroundings.sends g.S.Surroundings.traffic) g.S.Surroundings.passes g.S.Surroundings.tells g.S.Surroundings.receives g.S.Surroundings.hears
+    runs_more (TurnsOnce g.S.Surroundings.traffic g.S.Surroundings.sockets (HandsTo g.S.Surroundings.sends g.S.Surroundings.traffic) g.S.Surroundings.passes g.S.Surroundings.dates g.S.Surroundings.tells g.S.Surroundings.sleeps g.S.Surroundings.receives g.S.Surroundings.hears
     g.S.Surroundings.answers g.W.Recorder.writes)
     c.loop.counter c.args.board.now c.loop.board c.turn.new.board c.args.wire.now c.loop.wire c.write_turn.new.wire c.args.schedule.now c.loop.schedule
     c.turn.new.schedule c.loop.invariant (record {
@@ -26,7 +26,7 @@ pub returns-in-Err : goal.returns-in-Err
 returns-in-Err g c = record {
   count = c.loop.counter;
   behind = c.loop.schedule;
-  runs = runs_so (TurnsOnce g.S.Surroundings.traffic g.S.Surroundings.sockets (HandsTo g.S.Surroundings.sends g.S.Surroundings.traffic) g.S.Surroundings.passes g.S.Surroundings.tells g.S.Surroundings.receives g.S.Surroundings.hears
+  runs = runs_so (TurnsOnce g.S.Surroundings.traffic g.S.Surroundings.sockets (HandsTo g.S.Surroundings.sends g.S.Surroundings.traffic) g.S.Surroundings.passes g.S.Surroundings.dates g.S.Surroundings.tells g.S.Surroundings.sleeps g.S.Surroundings.receives g.S.Surroundings.hears
       g.S.Surroundings.answers g.W.Recorder.writes)
       c.loop.counter c.args.board.now c.loop.board c.turn.new.board c.args.wire.now c.loop.wire c.turn.new.wire c.args.schedule.now c.loop.schedule
       c.in-Err.ensures.fault.1 c.in-Err.ensures.fault.0 c.loop.invariant;
@@ -41,7 +41,7 @@ returns-then-not-goes_on g c =
     record {
       count = c.loop.counter;
       behind = c.loop.schedule;
-      runs = runs_so (TurnsOnce g.S.Surroundings.traffic g.S.Surroundings.sockets (HandsTo g.S.Surroundings.sends g.S.Surroundings.traffic) g.S.Surroundings.passes g.S.Surroundings.tells g.S.Surroundings.receives g.S.Surroundings.hears
+      runs = runs_so (TurnsOnce g.S.Surroundings.traffic g.S.Surroundings.sockets (HandsTo g.S.Surroundings.sends g.S.Surroundings.traffic) g.S.Surroundings.passes g.S.Surroundings.dates g.S.Surroundings.tells g.S.Surroundings.sleeps g.S.Surroundings.receives g.S.Surroundings.hears
           g.S.Surroundings.answers g.W.Recorder.writes)
           c.loop.counter c.args.board.now c.loop.board c.turn.new.board c.args.wire.now c.loop.wire c.turn.new.wire c.args.schedule.now c.loop.schedule
           same.1 same.0 c.loop.invariant;

@@ -10,7 +10,7 @@ returns g c =
       c.in-Ok.start,
       c.in-Ok.ensures,
       subst
-          (λ (schedule : Schedule). Runs g.S.Surroundings.passes g.S.Surroundings.tells (TurnsOnce g.S.Surroundings.traffic g.S.Surroundings.sockets (HandsTo g.S.Surroundings.sends g.S.Surroundings.traffic) g.S.Surroundings.passes g.S.Surroundings.tells g.S.Surroundings.receives g.S.Surroundings.hears
+          (λ (schedule : Schedule). Runs g.S.Surroundings.passes g.S.Surroundings.tells (TurnsOnce g.S.Surroundings.traffic g.S.Surroundings.sockets (HandsTo g.S.Surroundings.sends g.S.Surroundings.traffic) g.S.Surroundings.passes g.S.Surroundings.dates g.S.Surroundings.tells g.S.Surroundings.sleeps g.S.Surroundings.receives g.S.Surroundings.hears
           g.S.Surroundings.answers g.W.Recorder.writes)
           c.run.result c.args.board.now c.args.wire.now schedule c.run.new.board c.run.new.wire)
           c.starting_at-schedule.ensures c.run.ensures,

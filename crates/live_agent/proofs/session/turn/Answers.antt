@@ -20,9 +20,10 @@ returns-clause-does g c =
       situation = c.in-Ok.ensures.stands;
       goes_on = ap (λ (next : Turn × Schedule). is_end next.0) (sym c.next-turn.ensures) ∙ not_end (is_end c.next-turn.result) goes;
       behind = ap (λ (next : Turn × Schedule). next.1) c.next-turn.ensures;
-      begins = begun_so c.args.wire.now c.begin.new.self _ _ c.begin.ensures c.is_behind-wire.ensures;
+      begins = begun_so c.args.wire.now c.begin.new.self _ _ c.begin.ensures.rest c.is_behind-wire.ensures;
+      dated = c.begin.ensures.time;
       settles = c.settle.ensures;
-      does = subst (λ (turn : Turn). DoesTurn g.S.Surroundings.traffic g.S.Surroundings.sockets (HandsTo g.S.Surroundings.sends g.S.Surroundings.traffic) g.S.Surroundings.receives g.S.Surroundings.hears
+      does = subst (λ (turn : Turn). DoesTurn g.S.Surroundings.traffic g.S.Surroundings.sockets g.S.Surroundings.sleeps (HandsTo g.S.Surroundings.sends g.S.Surroundings.traffic) g.S.Surroundings.receives g.S.Surroundings.hears
           g.S.Surroundings.answers c.in-Ok.at.moment turn c.settle.new.board
           c.do_turn.new.board c.settle.new.wire c.do_turn.new.wire)
           (ap (λ (next : Turn × Schedule). next.0) c.next-turn.ensures) c.do_turn.ensures;
