@@ -290,7 +290,11 @@ impl Surroundings for Machine<'_> {
 
     ghost passes = { λ machine given. ⊤ };
 
+    ghost dates = { λ machine time. ⊤ };
+
     ghost tells = { λ machine given. ⊤ };
+
+    ghost sleeps = { λ was longest outcome is. ⊤ };
 
     ghost receives = { λ was given room is. ⊤ };
 
