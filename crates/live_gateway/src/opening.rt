@@ -2,10 +2,12 @@
 //! is asked for. Each part is made by a function of its own, since a check pays for all that a value holds inline at each step of a
 //! function that has it.
 ghost use Rattle.std.specs.Prelude.{◌≡◌, [], false, is_some, IfOk};
+ghost use Rattle.bad_network.specs.Naming.{named};
 ghost use Rattle.turns.specs.Schedule.{opening};
 ghost use Rattle.live_journal.specs.Recording.{trace_head, Begins};
 ghost use Rattle.live_telephones.specs.Watching.{IsUnwatched};
-ghost use Rattle.live_gateway.specs.Opening.{CountsNothing, BeginsBoard, BeginsNetwork, IsUnused, IsUnplayed, IsUntyped};
+ghost use Rattle.live_gateway.specs.Opening.{CountsNothing, BeginsBoard, BeginsLog, BeginsCapture, BeginsRecords, SpoilsBy};
+ghost use Rattle.live_gateway.specs.Opening.{BeginsNetwork, IsUnused, IsUnplayed, IsUntyped};
 
 use crate::admission::Admission;
 use crate::desk::Desk;
@@ -47,11 +49,15 @@ fn tally_of(alloc: Global) -> Result<Box<MessageTally>, AllocError>
     boxed(alloc, MessageTally::new(alloc)?)
 }
 
-fn log_of(alloc: Global, has_log: bool, domain: &[u8]) -> Result<Box<Log>, AllocError> {
+fn log_of(alloc: Global, has_log: bool, domain: &[u8]) -> Result<Box<Log>, AllocError>
+    ensures { IfOk result (λ log. BeginsLog has_log domain.now log.value) }
+{
     boxed(alloc, Log::new(alloc, has_log, domain)?)
 }
 
-fn capture_of(alloc: Global, settings: &DeskSettings<'_>) -> Result<Box<Capture>, AllocError> {
+fn capture_of(alloc: Global, settings: &DeskSettings<'_>) -> Result<Box<Capture>, AllocError>
+    ensures { IfOk result (λ capture. BeginsCapture settings.now.capture settings.now.here capture.value) }
+{
     boxed(alloc, Capture::new(alloc, settings.capture, settings.here)?)
 }
 
@@ -72,6 +78,7 @@ fn journal_of(
 ) -> Result<Journal, AllocError>
     ensures page { IfOk result (λ journal. BeginsBoard settings.now.has_page journal.board) }
     ensures counted { IfOk result (λ journal. CountsNothing journal.tally.value) }
+    ensures recorded { IfOk result (λ journal. BeginsRecords settings.now domain.now journal) }
 {
     Ok(Journal {
         tally: tally_of(alloc)?,
@@ -84,7 +91,7 @@ fn journal_of(
 
 // A network of the gateway's own, which spoils as this says.
 fn spoilt_by(alloc: Global, spoiling: Spoiling, domain: &[u8]) -> Result<Box<SpoiltWay>, AllocError>
-    ensures { IfOk result (λ way. way.value.network.waiting.items ≡ []) }
+    ensures { IfOk result (λ way. (way.value.network.waiting.items ≡ []) × SpoilsBy (named spoiling domain.now) way.value.network) }
 {
     let network = BadNetwork::new(alloc, spoiling.with_name(domain));
     boxed(alloc, SpoiltWay::new(alloc, network))
@@ -96,7 +103,7 @@ fn network_of(
     asked: Option<Spoiling>,
     domain: &[u8],
 ) -> Result<Option<Box<SpoiltWay>>, AllocError>
-    ensures { IfOk result (λ network. BeginsNetwork asked network) }
+    ensures { IfOk result (λ network. BeginsNetwork asked domain.now network) }
 {
     match asked {
         Some(spoiling) => Ok(Some(spoilt_by(alloc, spoiling, domain)?)),
@@ -112,9 +119,10 @@ fn exchange_of<S: Surroundings + Drop>(
     around: Box<S>,
 ) -> Result<Exchange<S>, AllocError>
     ensures around { IfOk result (λ exchange. exchange.around ≡ around.value) }
-    ensures spoilt { IfOk result (λ exchange. BeginsNetwork settings.now.network exchange.network) }
+    ensures spoilt { IfOk result (λ exchange. BeginsNetwork settings.now.network domain.now exchange.network) }
     ensures page { IfOk result (λ exchange. BeginsBoard settings.now.has_page exchange.journal.board) }
     ensures counted { IfOk result (λ exchange. CountsNothing exchange.journal.tally.value) }
+    ensures recorded { IfOk result (λ exchange. BeginsRecords settings.now domain.now exchange.journal) }
     ensures unused { IfOk result (λ exchange. IsUnused exchange) }
 {
     let network = network_of(alloc, settings.network, domain)?;
@@ -153,12 +161,13 @@ pub fn open_desk<S: Surroundings + Drop>(
     ensures end { IfOk result (λ desk. desk.value.end ≡ settings.now.end) }
     ensures trace { IfOk result (λ desk. Begins settings.now.has_trace (trace_head config.now gateway.value.setup.first)
         desk.value.play.teller.record) }
-    ensures spoilt { IfOk result (λ desk. BeginsNetwork settings.now.network desk.value.exchange.network) }
+    ensures spoilt { IfOk result (λ desk. BeginsNetwork settings.now.network gateway.value.setup.names.domain desk.value.exchange.network) }
     ensures page { IfOk result (λ desk. BeginsBoard settings.now.has_page desk.value.exchange.journal.board) }
     ensures unused { IfOk result (λ desk. IsUnused desk.value.exchange) }
     ensures unplayed { IfOk result (λ desk. IsUnplayed desk.value.play) }
     ensures untyped { IfOk result (λ desk. IsUntyped desk.value.lines) }
     ensures counted { IfOk result (λ desk. CountsNothing desk.value.exchange.journal.tally.value) }
+    ensures recorded { IfOk result (λ desk. BeginsRecords settings.now gateway.value.setup.names.domain desk.value.exchange.journal) }
     ensures begins { IfOk result (λ desk. (desk.value.is_of_page ≡ false) × (desk.value.schedule ≡ opening 0)
         × IsUnwatched desk.value.watch) }
 {

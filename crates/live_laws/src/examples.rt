@@ -2,7 +2,10 @@
 #![tactic(auto, unfolding(crate::proofs::Computing::on_examples))]
 
 ghost use Rattle.std.specs.Prelude.{◌≡◌, ℕ, List, Option, None, Some, Ok, Err, codes, map, replicate, true, false, [], ◌∷◌};
+ghost use Rattle.std.specs.Borrow.{Bor};
 ghost use Rattle.std.specs.Global.{Box};
+ghost use Rattle.bad_network.specs.Drawing.{seeded};
+ghost use Rattle.bad_network.specs.Naming.{named, mixed};
 ghost use Rattle.bad_network.specs.declared.packet.Packet.{Packet};
 ghost use Rattle.bad_network.specs.declared.packet.Way.TheVariants.{In, Out};
 ghost use Rattle.endpoint_names.specs.declared.route.Route.TheVariants.{One, Two};
@@ -10,7 +13,14 @@ ghost use Rattle.mg_line.specs.declared.phone.Act.TheVariants.{OffHook};
 ghost use Rattle.small_rules.specs.Counting.{counted};
 ghost use Rattle.told_messages.specs.Recording.{Records, unsent_text};
 ghost use Rattle.told_messages.specs.Strangers.{stranger_text};
+ghost use Rattle.told_messages.specs.declared.log.Log.{Log};
+ghost use Rattle.exchange_log.specs.File.{file_head};
+ghost use Rattle.live_outlets.specs.Recording.{state_when};
+ghost use Rattle.live_outlets.specs.Written.{faults_in};
+ghost use Rattle.live_outlets.specs.declared.record.RecordState.TheVariants.{Off, On};
+ghost use Rattle.live_journal.specs.declared.capture.Capture.{Capture};
 ghost use Rattle.live_journal.specs.declared.journal.Journal.{Journal};
+ghost use Rattle.live_gateway.specs.declared.opening.DeskSettings.{DeskSettings};
 ghost use Rattle.std.specs.declared.net.socket_addr.SocketAddrV4.{SocketAddrV4};
 ghost use Rattle.message_counts.specs.Tallying.{with_received, with_stranger};
 ghost use Rattle.message_counts.specs.declared.message_tally.MessageTally.{MessageTally};
@@ -46,7 +56,8 @@ ghost use Rattle.page_board.specs.Showing.{BoardState};
 ghost use Rattle.surroundings.specs.Typing.{left_of};
 ghost use Rattle.surroundings.specs.declared.lines.Lines.{Lines};
 ghost use Rattle.live_play.specs.declared.play.LivePlay.{LivePlay};
-ghost use Rattle.live_gateway.specs.Opening.{CountsNothing, BeginsBoard, BeginsNetwork, IsUnused, IsUnplayed, IsUntyped};
+ghost use Rattle.live_gateway.specs.Opening.{CountsNothing, BeginsBoard, BeginsNetwork, BeginsLog, BeginsCapture, BeginsRecords};
+ghost use Rattle.live_gateway.specs.Opening.{IsUnused, IsUnplayed, IsUntyped};
 ghost use Rattle.live_gateway.specs.Noting.{TurnsAway, NotesArrival, NotesLate, with_strangers, with_found, CountsFound};
 
 /// Each sentence at an example.
@@ -138,12 +149,35 @@ pub fn a_gateway_begins_with_nothing()
     ensures no_page { (board : Box BoardState) → BeginsBoard false (Some board) → ⊥ }
     ensures page { BeginsBoard true None → ⊥ }
     ensures unasked { (board : Box BoardState) → BeginsBoard true (Some board) → board.value.acts ≡ [] }
-    ensures unspoilt { (way : Box SpoiltWay) → BeginsNetwork None (Some way) → ⊥ }
-    ensures unsent { (spoiling : Spoiling) (way : Box SpoiltWay) → BeginsNetwork (Some spoiling) (Some way)
+    ensures unspoilt { (domain : List ℕ) (way : Box SpoiltWay) → BeginsNetwork None domain (Some way) → ⊥ }
+    ensures unsent { (spoiling : Spoiling) (domain : List ℕ) (way : Box SpoiltWay) → BeginsNetwork (Some spoiling) domain (Some way)
         → way.value.network.waiting.items ≡ [] }
+    ensures spoilt { (spoiling : Spoiling) (domain : List ℕ) (way : Box SpoiltWay) → BeginsNetwork (Some spoiling) domain (Some way)
+        → way.value.network.spoiling ≡ named spoiling domain }
+    ensures drawn { (spoiling : Spoiling) (domain : List ℕ) (way : Box SpoiltWay) → BeginsNetwork (Some spoiling) domain (Some way)
+        → way.value.network.generator ≡ seeded (mixed spoiling.seed domain) }
     ensures unused { (exchange : Exchange ℕ) → IsUnused exchange → (exchange.faults.send ≡ 0) × (exchange.read ≡ 0) }
     ensures unplayed { (play : LivePlay ℕ) → IsUnplayed play → play.printed.items ≡ [] }
     ensures untyped { (lines : Lines) → IsUntyped lines → (left_of lines ≡ []) × (lines.sender ≡ None) }
+{}
+
+/// What a gateway says is told in a log, and captured into a file, where that is asked for; what of it was dropped is counted from 0.
+pub fn a_gateway_records_what_is_asked_for()
+    ensures unlogged { (domain : List ℕ) (log : Log) → BeginsLog false domain log → log.record.state ≡ Off }
+    ensures logged { (log : Log) → BeginsLog true (codes "gw1") log → (log.record.state ≡ On) × (log.record.out.items ≡ []) }
+    ensures left_out { (log : Log) → BeginsLog true (codes "gw1") log → log.domain ≡ codes "gw1" }
+    ensures unowed { (log : Log) → BeginsLog true (codes "gw1") log → (log.own.entries ≡ []) × (log.arrival ≡ None) }
+    ensures silent { (log : Log) → BeginsLog true (codes "gw1") log → (log.sent ≡ 0) × (log.quiet.untold ≡ 0) }
+    ensures uncaptured { (here : SocketAddrV4) (capture : Capture) → BeginsCapture None here capture
+        → (capture.record.state ≡ Off) × (capture.name ≡ []) }
+    ensures captured { (name : Bor (List ℕ)) (here : SocketAddrV4) (capture : Capture) → BeginsCapture (Some name) here capture
+        → (capture.here ≡ here) × (capture.name ≡ name.now) }
+    ensures head { (name : Bor (List ℕ)) (here : SocketAddrV4) (capture : Capture) → BeginsCapture (Some name) here capture
+        → capture.record.state ≡ On → capture.record.out.items ≡ file_head }
+    ensures written { (settings : DeskSettings) (domain : List ℕ) (journal : Journal) → BeginsRecords settings domain journal
+        → (journal.written.dropped ≡ 0) × (faults_in journal.written ≡ 0) }
+    ensures asked { (settings : DeskSettings) (domain : List ℕ) (journal : Journal) → BeginsRecords settings domain journal
+        → (journal.log.value.record.state ≡ state_when settings.has_log) × (journal.capture.value.here ≡ settings.here) }
 {}
 
 /// Each sentence at an example.

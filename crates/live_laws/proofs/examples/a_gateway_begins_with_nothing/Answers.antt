@@ -13,10 +13,16 @@ pub returns-clause-unasked : goal.returns-clause-unasked
 returns-clause-unasked c = λ board begins. begins.1.1
 
 pub returns-clause-unspoilt : goal.returns-clause-unspoilt
-returns-clause-unspoilt c = λ way begins. true≢false begins.0
+returns-clause-unspoilt c = λ domain way begins. true≢false begins.0
 
 pub returns-clause-unsent : goal.returns-clause-unsent
-returns-clause-unsent c = λ spoiling way begins. begins.1
+returns-clause-unsent c = λ spoiling domain way begins. begins.1.0
+
+pub returns-clause-spoilt : goal.returns-clause-spoilt
+returns-clause-spoilt c = λ spoiling domain way begins. begins.1.1.0
+
+pub returns-clause-drawn : goal.returns-clause-drawn
+returns-clause-drawn c = λ spoiling domain way begins. begins.1.1.1
 
 pub returns-clause-unused : goal.returns-clause-unused
 returns-clause-unused c = λ exchange unused. (ap (λ (faults : Faults). faults.send) unused.1, unused.0)
