@@ -9,7 +9,6 @@ use Rattle.surroundings.specs.declared.surroundings.Fault.{Fault}
 use Rattle.told_messages.specs.Logging.{LeavesOut}
 use Rattle.live_gateway.specs.declared.admission.Admission.{Admission}
 use Rattle.live_gateway.specs.declared.exchange.Exchange.{Exchange}
-use Rattle.live_gateway.specs.declared.exchange.TheConstants.{MOST_AT_ONCE}
 use Rattle.live_gateway.specs.Admitting.{is_heard}
 use Rattle.live_gateway.specs.Exchanging.{LosesOver, LooksOnce}
 use Rattle.live_gateway.specs.Noting.{NotesReceived, TurnsAway, NotesLate}
@@ -61,10 +60,14 @@ pub record GivesNext {S : Type 0} (admission : Admission) (given : SocketAddrV4 
   pub noted : NotesReceived handed.now (packet.due - packet.offered) given.0 (take given.1 room) handed.journal is.journal
   pub rest : is ≡ record handed { journal = is.journal }
 
+-- so many are looked for at a turn at most
+abbrev pub most_at_once : ℕ
+most_at_once = 65535
+
 -- Behind so many that weren't given on the next one is; or none is due any more. After too many none is looked for any more at this turn.
 abbrev pub HandsLast : {S : Type 0} → ℕ → Admission → Option (SocketAddrV4 × ℕ) → List ℕ → Exchange S → Exchange S → Type 0
 HandsLast count admission (Some given) room was is = GivesNext admission given room was is
-HandsLast count admission None room was is = HandsNext None was is ⊎ ((count ≡ MOST_AT_ONCE) × (is ≡ was))
+HandsLast count admission None room was is = HandsNext None was is ⊎ ((count ≡ most_at_once) × (is ≡ was))
 
 -- The network hands out what is due by now, in its order, up to the first packet that comes in from who is heard, which is given on: those
 -- before it that go out are sent, and those of strangers are turned away, each once.
