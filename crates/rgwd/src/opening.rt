@@ -4,6 +4,8 @@ ghost use Rattle.std.specs.Net.Addr.{IsUnspecifiedV4};
 ghost use Rattle.std.specs.Net.Socket.{v4_ip, v4_port};
 ghost use Rattle.surroundings.specs.Speaking.{admitted_by, admitted_in};
 ghost use Rattle.live_gateway.specs.Admitting.{known_to};
+ghost use Rattle.page_access.specs.Naming.{names_of};
+ghost use Rattle.rgwd.specs.Opening.{names_asked};
 
 use crate::reception::PageReception;
 use gateway_core::Gateway;
@@ -33,6 +35,16 @@ pub fn open_sockets<'a, R: Net + Clock>(
     Live::open(rt, alloc, datagrams, lines)
 }
 
+// The further names under which the page may be asked.
+fn page_names(alloc: Global, settings: &Settings<'_>) -> Result<HostNames, ListFault>
+    ensures { IfOk result (λ names. names_asked settings.now.sockets.http_hosts ≡ Some (names_of names)) }
+{
+    match settings.sockets.http_hosts {
+        Some(text) => hosts_in(alloc, text),
+        None => Ok(HostNames::none(alloc)),
+    }
+}
+
 /// The site, if one is asked for.
 pub fn open_site<R: Net, P: Reception>(
     rt: &R,
@@ -40,17 +52,16 @@ pub fn open_site<R: Net, P: Reception>(
     settings: &Settings<'_>,
     ready: &Readiness,
 ) -> Result<Option<Box<PageReception<P>>>, Ending>
-    ensures { IfOk result (λ site. is_some site ≡ is_some settings.now.sockets.http) }
+    ensures asked { IfOk result (λ site. is_some site ≡ is_some settings.now.sockets.http) }
+    ensures named { IfOk result (λ site. IfSome site (λ there.
+        IfSome (names_asked settings.now.sockets.http_hosts) (λ names. P.opens names there.value.site))) }
 {
     let Some(address) = settings.sockets.http else {
         return Ok(None);
     };
-    let names = match settings.sockets.http_hosts {
-        Some(text) => match hosts_in(alloc, text) {
-            Ok(names) => names,
-            Err(fault) => return Err(fault.ending()),
-        },
-        None => HostNames::none(alloc),
+    let names = match page_names(alloc, settings) {
+        Ok(names) => names,
+        Err(fault) => return Err(fault.ending()),
     };
     let site = match P::at(rt, alloc, address, names, ready) {
         Ok(site) => site,
@@ -124,6 +135,8 @@ pub fn desk_settings<'w>(
         × (v4_port own ≡ 0 → v4_port result.here ≡ v4_port settings.now.sockets.listen) }
     ensures here { 0 < v4_port own → (IsUnspecifiedV4 (v4_ip own) → v4_ip result.here ≡ media)
         × (¬ (IsUnspecifiedV4 (v4_ip own)) → v4_ip result.here ≡ v4_ip own) }
+    ensures untold { v4_port own ≡ 0 → (IsUnspecifiedV4 (v4_ip settings.now.sockets.listen) → v4_ip result.here ≡ media)
+        × (¬ (IsUnspecifiedV4 (v4_ip settings.now.sockets.listen)) → v4_ip result.here ≡ v4_ip settings.now.sockets.listen) }
 {
     let socket = place_of(own, settings.sockets.listen);
     DeskSettings {

@@ -1,6 +1,7 @@
 //! Replays a trace, and says whether each line that went out is what the gateway sends for the lines before it.
 ghost use Rattle.std.specs.Prelude.{◌≡◌, [], ◌∷◌, ◌++◌, codes, IfOk, string_bytes};
 ghost use Rattle.rgwd_words.specs.Names.{Says};
+ghost use Rattle.rgwd.specs.Endings.{replayed_by};
 
 use crate::recording::Recording;
 use live_ends::{CommonEnding, FileNames};
@@ -64,7 +65,9 @@ fn tell_verdict<R: Files>(
 }
 
 // How the program ends that found this, and said so.
-fn ending_by(verdict: &Verdict) -> Ending {
+fn ending_by(verdict: &Verdict) -> Ending
+    ensures { result ≡ replayed_by verdict.now }
+{
     match verdict {
         Verdict::AsTold { .. } => Ending::Replayed,
         Verdict::Differs { .. } => Ending::Differs,

@@ -1,4 +1,6 @@
 //! Sends a line to a gateway's telephones, and prints what they answer.
+ghost use Rattle.rgwd.specs.Endings.{Unanswered};
+
 use crate::recording::Recording;
 use live_ends::{AddressWord, AskFault, CommonEnding, address_in, ask};
 use rgwd_words::{Ending, unless_help};
@@ -48,7 +50,9 @@ fn telling_of(alloc: Global, words: &[String]) -> Result<Telling, Ending> {
 }
 
 // How the program ends where the line isn't answered.
-fn unanswered(address: SocketAddrV4, fault: AskFault) -> Ending {
+fn unanswered(address: SocketAddrV4, fault: AskFault) -> Ending
+    ensures { Unanswered address fault result }
+{
     match fault {
         AskFault::NoAnswer => Ending::NoAnswer { address },
         AskFault::Clock => Ending::Common(CommonEnding::Clock),
