@@ -1,11 +1,30 @@
 -- Lines to which something has happened, and that wait until they are settled.
-use Rattle.std.specs.Prelude.{◌≡◌, ℕ, ◌+◌, ◌-◌, ◌^◌, Bool, false, ◌||◌, ◌==◌, min, if◌then◌else◌, List, [], length, Option, Some, slice_get, IsPermutation}
+use Rattle.std.specs.Prelude.{◌≡◌, ℕ, ◌+◌, ◌-◌, ◌^◌, Bool, true, false, ◌||◌, ◌==◌, min, if◌then◌else◌, List, [], length, Option, Some, IfSome, slice_get, IsPermutation}
 use Rattle.std.specs.List.{list_any}
+use Rattle.call_routing.specs.Exchange.{phase_of}
+use Rattle.call_routing.specs.Phases.{named_by}
+use Rattle.call_office.specs.declared.office.Office.{Office}
 use Rattle.call_office.specs.declared.worklist.Worklist.{Worklist}
 
 -- the line waits: it was put there, or all lines do
 abbrev pub waits : List ℕ → Bool → ℕ → Bool
 waits places is_all place = is_all || list_any (λ other. other == place) places
+
+-- so it is of a worklist
+abbrev pub IsWaiting : Worklist → ℕ → Type 0
+IsWaiting list place = waits list.waiting.items list.is_all place ≡ true
+
+-- whoever waited waits still
+abbrev pub WaitStill : Worklist → Worklist → Type 0
+WaitStill was is = (other : ℕ) → IsWaiting was other → IsWaiting is other
+
+-- Something has happened to a line of the exchange: it waits, and so do the other ends of the call that it was in and of the one that it is
+-- in now. Whoever waited waits still.
+pub record Touches (line : ℕ) (was is : Office) : Type 0 where
+  pub itself : IsWaiting is.worklist line
+  pub left : IfSome (named_by (phase_of was.exchange line)) (λ other. IsWaiting is.worklist other)
+  pub joined : IfSome (named_by (phase_of is.exchange line)) (λ other. IsWaiting is.worklist other)
+  pub others : WaitStill was.worklist is.worklist
 
 -- so many are settled now, of so many lines: those that waited, or all
 abbrev pub settling : List ℕ → Bool → ℕ → ℕ

@@ -16,7 +16,7 @@ ghost use Rattle.call_office.specs.Orders.{shown, duty_of, flight_of, was_found_
 ghost use Rattle.call_office.specs.Showing.{shown_in, Shows, ShowsLine};
 ghost use Rattle.call_office.specs.Turns.{forsaken, heard_by, announced_by, outcome_with, told_by_audit, kept_behind, cleared_by, Routes, TakesAudit, AnswersAudit, TakesResponse, TakesAnswer};
 ghost use Rattle.call_office.specs.Steps.{landed_if, Begins, Hears};
-ghost use Rattle.call_office.specs.Waiting.{waits, settling, settled_at, Settles};
+ghost use Rattle.call_office.specs.Waiting.{waits, settling, settled_at, IsWaiting, Settles, Touches, WaitStill};
 
 use crate::care::{Care, Change, Duty, NEW_CARE, Shown, fixed_order};
 use crate::hooks::{audited_hook, is_off_hook, notified, told_by_hook};
@@ -74,11 +74,9 @@ fn new_cares(alloc: Global, count: usize) -> Result<Vec<Care>, OutOfMemory>
 
 // Something happens to a line: it waits, and so does the other end of its call. To be said before and behind it.
 fn touch(worklist: &mut Worklist, exchange: &Exchange, line: usize)
-    ensures line { waits worklist.new.waiting.items worklist.new.is_all line ≡ true }
-    ensures end { IfSome (named_by (phase_of exchange.now line)) (λ other.
-        waits worklist.new.waiting.items worklist.new.is_all other ≡ true) }
-    ensures others { (other : ℕ) → waits worklist.old.waiting.items worklist.old.is_all other ≡ true
-        → waits worklist.new.waiting.items worklist.new.is_all other ≡ true }
+    ensures line { IsWaiting worklist.new line }
+    ensures end { IfSome (named_by (phase_of exchange.now line)) (λ other. IsWaiting worklist.new other) }
+    ensures others { WaitStill worklist.old worklist.new }
 {
     worklist.put(line);
     if let Some(other) = named_by(exchange.phase(line)) {
@@ -575,6 +573,7 @@ impl Office {
         ensures answer { TakesAnswer (is_outlived (slice_get self.old.cares.items line)) line moment code text.now
             self.old.exchange self.old.cares.items self.new.exchange self.new.cares.items }
         ensures waits { waits self.new.worklist.waiting.items self.new.worklist.is_all line ≡ true }
+        ensures touches { Touches line self.old self.new }
         ensures rest { self.new ≡ record self.old { exchange = self.new.exchange; cares = self.new.cares; worklist = self.new.worklist } }
     {
         if is_outlived(care_at(self.cares.as_slice(), line)) {
@@ -614,6 +613,7 @@ impl Office {
         ensures answer { TakesAnswer (is_outlived (slice_get self.old.cares.items line)) line moment code text.now
             self.old.exchange self.old.cares.items self.new.exchange self.new.cares.items }
         ensures waits { waits self.new.worklist.waiting.items self.new.worklist.is_all line ≡ true }
+        ensures touches { Touches line self.old self.new }
         ensures again { result ≡ again_of (slice_get self.new.cares.items line) }
         ensures rest { self.new ≡ record self.old { exchange = self.new.exchange; cares = self.new.cares; worklist = self.new.worklist } }
     {
@@ -626,6 +626,7 @@ impl Office {
         ensures exchange { self.new.exchange ≡ self.old.exchange }
         ensures cares { self.new.cares.items ≡ cared (woken moment) self.old.cares.items line }
         ensures waits { waits self.new.worklist.waiting.items self.new.worklist.is_all line ≡ true }
+        ensures others { WaitStill self.old.worklist self.new.worklist }
         ensures rest { self.new ≡ record self.old { cares = self.new.cares; worklist = self.new.worklist } }
     {
         let _ = change_at(&mut self.cares, line, Change::Wake { moment });
@@ -638,6 +639,7 @@ impl Office {
             ≡ forsaken self.old.exchange line (flight_of (slice_get self.old.cares.items line)) }
         ensures cares { self.new.cares.items ≡ cared lost self.old.cares.items line }
         ensures waits { waits self.new.worklist.waiting.items self.new.worklist.is_all line ≡ true }
+        ensures touches { Touches line self.old self.new }
         ensures rest { self.new ≡ record self.old { exchange = self.new.exchange; cares = self.new.cares; worklist = self.new.worklist } }
     {
         touch(&mut self.worklist, &self.exchange, line);
@@ -652,6 +654,7 @@ impl Office {
         ensures hears { Hears (told_in plan.now observed.now) line self.old.exchange self.old.cares.items
             self.new.exchange self.new.cares.items }
         ensures waits { waits self.new.worklist.waiting.items self.new.worklist.is_all line ≡ true }
+        ensures touches { Touches line self.old self.new }
         ensures rest { self.new ≡ record self.old { exchange = self.new.exchange; cares = self.new.cares; worklist = self.new.worklist } }
     {
         touch(&mut self.worklist, &self.exchange, line);
@@ -673,6 +676,7 @@ impl Office {
         ensures exchange { self.new.exchange ≡ announced_by is_restart self.old.exchange line }
         ensures cares { self.new.cares.items ≡ cared (announced is_restart) self.old.cares.items line }
         ensures waits { waits self.new.worklist.waiting.items self.new.worklist.is_all line ≡ true }
+        ensures touches { Touches line self.old self.new }
         ensures rest { self.new ≡ record self.old { exchange = self.new.exchange; cares = self.new.cares; worklist = self.new.worklist } }
     {
         touch(&mut self.worklist, &self.exchange, line);
