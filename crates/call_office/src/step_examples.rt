@@ -1,7 +1,7 @@
 //! Worked examples of what a step does to a line, as theorems.
 #![tactic(auto, unfolding(crate::proofs::Computing::on_examples))]
 
-ghost use Rattle.std.specs.Prelude.{◌≡◌, [], ◌∷◌, List, Option, Some, None};
+ghost use Rattle.std.specs.Prelude.{◌≡◌, [], ◌∷◌, true, List, Option, Some, None};
 ghost use Rattle.std.specs.Global.{Box};
 ghost use Rattle.call_routing.specs.Exchange.{opening, sent_to, told, answered};
 ghost use Rattle.agent_texts.specs.declared.journal.Journal.{Journal};
@@ -13,6 +13,7 @@ ghost use Rattle.call_office.specs.declared.office.Office.{Office};
 ghost use Rattle.call_office.specs.Duties.{begun, new_care, owed, told_care, told_of};
 ghost use Rattle.call_office.specs.Showing.{Shows, ShowsIn, shown_in};
 ghost use Rattle.call_office.specs.Steps.{Begins, Forgets, Hears, ToldOf};
+ghost use Rattle.call_office.specs.Waiting.{IsWaiting, Touches};
 ghost use Rattle.call_office.specs.Example.{audited, cleared, creating, found_off};
 
 use agent_texts::Standing;
@@ -57,4 +58,12 @@ pub fn what_is_shown_has_examples()
         now.tally ≡ with_change Standing.Rest Standing.Dialling journal.tally }
     ensures log { (stations : List Station) (was is : Shown) (journal now : Journal) → Shows stations 0 was is journal now →
         now.log ≡ journal.log }
+{}
+
+/// Who waits behind what has happened to a line: that line, the other ends of its calls, and whoever waited.
+pub fn who_waits_has_examples()
+    ensures itself { (was is : Office) → Touches 1 was is → IsWaiting is.worklist 1 }
+    ensures left { (was is : Office) → was.exchange ≡ creating → Touches 1 was is → IsWaiting is.worklist 3 }
+    ensures joined { (was is : Office) → is.exchange ≡ creating → Touches 1 was is → IsWaiting is.worklist 3 }
+    ensures others { (was is : Office) → was.worklist.is_all ≡ true → Touches 1 was is → IsWaiting is.worklist 5 }
 {}

@@ -1,0 +1,21 @@
+use Rattle.std.proofs.Common.{Bool, ap, subst}
+use Rattle.std.specs.Prelude.{IfSome}
+use Rattle.call_routing.specs.Exchange.{ExchangeState, phase_of}
+use Rattle.call_routing.specs.Phases.{named_by}
+use Rattle.call_office.specs.Waiting.{waits, IsWaiting}
+use Rattle.call_office.proofs.step_examples.who_waits_has_examples.Goals as goal
+
+pub returns-clause-itself : goal.returns-clause-itself
+returns-clause-itself c = λ was is touches. touches.itself
+
+pub returns-clause-left : goal.returns-clause-left
+returns-clause-left c = λ was is so touches.
+    subst (λ (exchange : ExchangeState). IfSome (named_by (phase_of exchange 1)) (λ other. IsWaiting is.worklist other)) so touches.left
+
+pub returns-clause-joined : goal.returns-clause-joined
+returns-clause-joined c = λ was is so touches.
+    subst (λ (exchange : ExchangeState). IfSome (named_by (phase_of exchange 1)) (λ other. IsWaiting is.worklist other)) so touches.joined
+
+pub returns-clause-others : goal.returns-clause-others
+returns-clause-others c = λ was is all touches.
+    touches.others 5 (ap (λ (is_all : Bool). waits was.worklist.waiting.items is_all 5) all)
