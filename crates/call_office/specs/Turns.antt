@@ -12,7 +12,7 @@ use Rattle.call_office.specs.declared.care.Care.{Care}
 use Rattle.call_office.specs.Duties.{found, landed, lost, duty_answered, routed_by}
 use Rattle.call_office.specs.Hooks.{hook_by, was_off, told_by_hook, is_off_hook}
 use Rattle.call_office.specs.Orders.{flight_of, has_told, is_put_off_in, cared}
-use Rattle.call_office.specs.Responses.{outcome_by}
+use Rattle.call_office.specs.Responses.{is_creation, outcome_by}
 
 -- a command to the line that was for this was given up: one of the exchange's own is answered so
 abbrev pub forsaken : ExchangeState → ℕ → Option Duty → ExchangeState
@@ -69,7 +69,7 @@ cleared_by true exchange line code = exchange
 cleared_by false exchange line code = cleared_at exchange line code
 
 -- A final response with this code is taken, at this moment, to a command to the line that was for this, and has landed. Where memory is
--- refused for reading it a command of the exchange counts as given up.
+-- refused for reading what it says was created, a command of the exchange counts as given up; of any other answer the code says all.
 abbrev pub TakesResponse : Option Duty → ℕ → ℕ → ℕ → List ℕ → ExchangeState → List Care → ExchangeState → List Care → Type 0
 TakesResponse None line moment code text was cares is kept = (is ≡ was) × (kept ≡ cares)
 TakesResponse (Some Clear) line moment code text was cares is kept =
@@ -77,7 +77,8 @@ TakesResponse (Some Clear) line moment code text was cares is kept =
 TakesResponse (Some Audit) line moment code text was cares is kept =
     AnswersAudit (is_put_off_in code (slice_get cares line)) line text was (kept_behind Audit line moment code cares) is kept
 TakesResponse (Some Route) line moment code text was cares is kept =
-    Routes (outcome_with was line code text) line moment was cares is kept ⊎ Routes GivenUp line moment was cares is kept
+    Routes (outcome_with was line code text) line moment was cares is kept
+    ⊎ ((is_creation code (flight_in (line_of was line)) ≡ true) × Routes GivenUp line moment was cares is kept)
 
 -- The command in flight to the line was answered so, whose gateway has started again since, or hasn't: it counts as given up, or its answer
 -- is taken.

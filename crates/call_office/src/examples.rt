@@ -134,7 +134,9 @@ pub fn more_sentences_have_examples()
     ensures unread { (text : _) → TakesResponse (Some Audit) 1 70 200 text creating (cleared ∷ audited ∷ [])
         (told creating 1 Told.Flash) (cleared ∷ found false audited ∷ []) }
     ensures routed { (text : _) → TakesResponse (Some Route) 1 70 500 text creating [] (answered creating 1 (Outcome.Answered 500)) [] }
-    ensures a_response_is_taken_by_what_was_asked_given_up { (text : _) → TakesResponse (Some Route) 1 70 500 text creating []
+    ensures refused_still { (text is kept : _) → TakesResponse (Some Route) 1 70 500 text creating [] is kept
+        → is ≡ answered creating 1 (Outcome.Answered 500) }
+    ensures a_response_is_taken_by_what_was_asked_given_up { (text : _) → TakesResponse (Some Route) 1 70 200 text creating []
         (answered creating 1 Outcome.GivenUp) [] }
 {}
 

@@ -13,6 +13,7 @@ ghost use Rattle.call_office.specs.declared.care.Duty.TheVariants.{Clear, Audit}
 ghost use Rattle.call_office.specs.Duties.{new_care, landed, lost, announced, told_of, woken, changed_by};
 ghost use Rattle.call_office.specs.Hooks.{notified};
 ghost use Rattle.call_office.specs.Orders.{shown, duty_of, flight_of, was_found_off, is_outlived, has_told, again_of, is_put_off_in, cared, routed, ordered};
+ghost use Rattle.call_office.specs.Responses.{is_creation};
 ghost use Rattle.call_office.specs.Showing.{shown_in, Shows, ShowsLine};
 ghost use Rattle.call_office.specs.Turns.{forsaken, heard_by, announced_by, outcome_with, told_by_audit, kept_behind, cleared_by, Routes, TakesAudit, AnswersAudit, TakesResponse, TakesAnswer};
 ghost use Rattle.call_office.specs.Steps.{landed_if, Begins, Hears};
@@ -241,7 +242,7 @@ fn route_answered(
     let _ = change_at(cares, line, Change::Routed { moment, off });
 }
 
-// The exchange's command to the line was answered. Where memory is refused for reading that it counts as given up.
+// The exchange's command to the line was answered. Where memory is refused for reading what was created it counts as given up.
 fn answer(
     alloc: Global,
     exchange: &mut Exchange,
@@ -252,7 +253,8 @@ fn answer(
     text: &[u8],
 )
     ensures { Routes (outcome_with exchange.old line code text.now) line moment exchange.old cares.old.items exchange.new cares.new.items
-        ⊎ Routes GivenUp line moment exchange.old cares.old.items exchange.new cares.new.items }
+        ⊎ ((is_creation code (flight_in (line_of exchange.old line)) ≡ true)
+        × Routes GivenUp line moment exchange.old cares.old.items exchange.new cares.new.items) }
 {
     match outcome_of(alloc, code, flight_at(exchange, line), text) {
         Ok(outcome) => route_answered(exchange, cares, line, moment, outcome),

@@ -1,5 +1,5 @@
 //! What a final response to a command of the exchange says became of it.
-ghost use Rattle.std.specs.Prelude.{◌≡◌, IfOk};
+ghost use Rattle.std.specs.Prelude.{◌≡◌, true, IfOk, OnErr};
 ghost use Rattle.mgcp_text.specs.Reading.{read_text};
 ghost use Rattle.call_office.specs.Responses.{creates, connection_in, created, created_by, is_creation, outcome_by};
 
@@ -75,17 +75,18 @@ fn is_creation(code: u16, flight: Option<Command>) -> bool
     code < 300 && creates(flight)
 }
 
-/// What this final response with this code says became of the command in flight.
+/// What this final response with this code says became of the command in flight. Memory is wanted for what was created alone.
 pub(crate) fn outcome_of(
     alloc: Global,
     code: u16,
     flight: Option<Command>,
     text: &[u8],
 ) -> Result<Outcome, OutOfMemory>
-    ensures { IfOk result (λ outcome. outcome ≡ outcome_by code flight text.now) }
+    ensures outcome { IfOk result (λ outcome. outcome ≡ outcome_by code flight text.now) }
+    ensures memory { OnErr result (is_creation code flight ≡ true) }
 {
     if is_creation(code, flight) {
-        creation(alloc, code, text)
+        Ok(creation(alloc, code, text)?)
     } else {
         Ok(Outcome::Answered(code))
     }
