@@ -4,7 +4,7 @@ use Rattle.std.specs.Prelude.{◌⊎◌, slice_get}
 use Rattle.call_routing.specs.declared.command.Outcome.TheVariants.{GivenUp}
 use Rattle.call_routing.specs.declared.fate.PutOff.{PutOff}
 use Rattle.call_routing.specs.declared.told.Told.TheVariants.{Flash}
-use Rattle.call_routing.specs.Exchange.{ExchangeState, put_off_at}
+use Rattle.call_routing.specs.Exchange.{ExchangeState, flight_in, line_of, put_off_at}
 use Rattle.call_office.specs.declared.care.Duty.{Duty}
 use Rattle.call_office.specs.declared.care.Duty.TheVariants.{Clear, Audit, Route}
 use Rattle.call_office.specs.declared.care.Care.{Care}
@@ -13,6 +13,7 @@ use Rattle.switchboard.specs.Boards.{Holds}
 use Rattle.call_office.specs.Duties.{duty_answered, found, held_from, is_put_off, landed, lost, owed, woken}
 use Rattle.call_office.specs.Hooks.{is_off_hook}
 use Rattle.call_office.specs.Orders.{again_of, cared, flight_of, has_told, is_put_off_in}
+use Rattle.call_office.specs.Responses.{is_creation}
 use Rattle.call_office.specs.Turns.{AnswersAudit, Routes, TakesAnswer, TakesAudit, TakesResponse, outcome_with, told_by_audit}
 use Rattle.desk_laws.specs.Desk.{Desk, DeskTurn, Happening, after_turn, after_turns, answered_for, answers, behind, finds, happens, held_by, loses, taken_at}
 use Rattle.desk_laws.proofs.CareLemmas.{here_after, keeps_again, same_some}
@@ -156,14 +157,15 @@ module _ (now line code : ℕ) (text : List ℕ) (cares kept : List Care) (wakes
   takes_of mid Clear same takes holds =
       answers_so None mid (takes.1 ∙ ap (λ (d : Duty). taken_at desk line d code None) (sym same)) holds
   takes_of mid Route same takes holds = by_outcome takes where
-    by_outcome : Routes (outcome_with was line code text) line now was settled is mid ⊎ Routes GivenUp line now was settled is mid
+    by_outcome : Routes (outcome_with was line code text) line now was settled is mid
+        ⊎ ((is_creation code (flight_in (line_of was line)) ≡ true) × Routes GivenUp line now was settled is mid)
         → Comes desk (desk_at now kept held)
     by_outcome (inl routes) =
         answers_so (put_off_at was line (outcome_with was line code text)) mid
         (routes.1 ∙ ap (λ (d : Duty). taken_at desk line d code (put_off_at was line (outcome_with was line code text))) (sym same)) holds
-    by_outcome (inr routes) =
+    by_outcome (inr unread) =
         answers_so (put_off_at was line GivenUp) mid
-        (routes.1 ∙ ap (λ (d : Duty). taken_at desk line d code (put_off_at was line GivenUp)) (sym same)) holds
+        (unread.1.1 ∙ ap (λ (d : Duty). taken_at desk line d code (put_off_at was line GivenUp)) (sym same)) holds
   takes_of mid Audit same takes holds = by_put_off (is_put_off_in code (slice_get settled line)) refl takes where
     as_taken : mid ≡ taken_at desk line Audit code None → Comes desk (desk_at now kept held)
     as_taken taken = answers_so None mid (taken ∙ ap (λ (d : Duty). taken_at desk line d code None) (sym same)) holds

@@ -149,7 +149,7 @@ module _ (of now code : ℕ) (text : List ℕ) (was is : ExchangeState) (cares :
   response_ends (Some Audit) kept knows takes =
       audit_ends (is_put_off_in code (slice_get settled of)) kept (idle_by (is_in_flight was of) (Some Audit) refl knows) takes
   response_ends (Some Route) kept knows (inl routes) = routes_end (outcome_with was of code text) kept routes
-  response_ends (Some Route) kept knows (inr routes) = routes_end GivenUp kept routes
+  response_ends (Some Route) kept knows (inr unread) = routes_end GivenUp kept unread.1
 
   answer_ends : (b : Bool) (kept : List Care) → (is_in_flight was of ≡ true → flight_at cares of ≡ Some Route)
       → TakesAnswer b of now code text was cares is kept → EndsBoth was cares is kept of

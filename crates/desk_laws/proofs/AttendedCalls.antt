@@ -319,7 +319,7 @@ module _ (now line code : ℕ) (text : List ℕ) (cares kept : List Care) (wakes
   taken_both mid Audit same believed takes holds =
       answered_both mid (is_put_off_in code (slice_get settled line)) same believed refl takes holds
   taken_both mid Route same believed (inl routes) holds = routed_both mid (outcome_with was line code text) same believed routes holds
-  taken_both mid Route same believed (inr routes) holds = routed_both mid GivenUp same believed routes holds
+  taken_both mid Route same believed (inr unread) holds = routed_both mid GivenUp same believed unread.1 holds
 
   pub one_both : (mid : List Care) (b : Bool) → is_outlived here ≡ b → TakesAnswer b line now code text was cares is mid → Held mid → IsOneTurn
   one_both mid true outlived takes holds = lost_both mid outlived takes holds

@@ -186,7 +186,7 @@ module _ (of now code : ℕ) (text : List ℕ) (was is : ExchangeState) where
   response_led (Some Audit) cares kept takes =
       audit_led (is_put_off_in code (slice_get cares of)) (kept_behind Audit of now code cares) kept takes
   response_led (Some Route) cares kept (inl routes) = led_one was is (calls.answers of (outcome_with was of code text)) routes.0
-  response_led (Some Route) cares kept (inr routes) = led_one was is (calls.answers of GivenUp) routes.0
+  response_led (Some Route) cares kept (inr unread) = led_one was is (calls.answers of GivenUp) unread.1.0
 
   answer_led : (b : Bool) (cares kept : List Care) → TakesAnswer b of now code text was cares is kept → Led was is
   answer_led true cares kept takes = forsaken_led was is of (flight_of (slice_get cares of)) takes.0

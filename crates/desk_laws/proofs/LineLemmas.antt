@@ -351,7 +351,7 @@ module _ (When : ℕ → Type 0) (of now code : ℕ) (text : List ℕ) (was is :
       leaves_then (duty_answered now code Clear) settled kept (answered_free When Clear now code None at_last) landed_leaves takes.1
   response_leaves (Some Audit) kept takes = audit_leaves (is_put_off_in code (slice_get settled of)) kept takes
   response_leaves (Some Route) kept (inl routes) = routes_leave (outcome_with was of code text) kept routes
-  response_leaves (Some Route) kept (inr routes) = routes_leave GivenUp kept routes
+  response_leaves (Some Route) kept (inr unread) = routes_leave GivenUp kept unread.1
 
   answer_leaves : (b : Bool) (kept : List Care) → TakesAnswer b of now code text was cares is kept → Leaves When of cares kept
   answer_leaves true kept takes =
