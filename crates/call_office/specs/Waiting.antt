@@ -14,9 +14,10 @@ waits places is_all place = is_all || list_any (λ other. other == place) places
 abbrev pub IsWaiting : Worklist → ℕ → Type 0
 IsWaiting list place = waits list.waiting.items list.is_all place ≡ true
 
--- whoever waited waits still
-abbrev pub WaitStill : Worklist → Worklist → Type 0
-WaitStill was is = (other : ℕ) → IsWaiting was other → IsWaiting is other
+-- whoever waited waits still, and those that are settled now are the same
+abbrev pub WaitOn : Worklist → Worklist → Type 0
+WaitOn was is =
+    ((other : ℕ) → IsWaiting was other → IsWaiting is other) × (is ≡ record was { waiting = is.waiting; is_all = is.is_all })
 
 -- Something has happened to a line of the exchange: it waits, and so do the other ends of the call that it was in and of the one that it is
 -- in now. Whoever waited waits still.
@@ -24,7 +25,7 @@ pub record Touches (line : ℕ) (was is : Office) : Type 0 where
   pub itself : IsWaiting is.worklist line
   pub left : IfSome (named_by (phase_of was.exchange line)) (λ other. IsWaiting is.worklist other)
   pub joined : IfSome (named_by (phase_of is.exchange line)) (λ other. IsWaiting is.worklist other)
-  pub others : WaitStill was.worklist is.worklist
+  pub others : WaitOn was.worklist is.worklist
 
 -- so many are settled now, of so many lines: those that waited, or all
 abbrev pub settling : List ℕ → Bool → ℕ → ℕ

@@ -17,7 +17,7 @@ ghost use Rattle.call_office.specs.Responses.{is_creation};
 ghost use Rattle.call_office.specs.Showing.{shown_in, Shows, ShowsLine};
 ghost use Rattle.call_office.specs.Turns.{forsaken, heard_by, announced_by, outcome_with, told_by_audit, kept_behind, cleared_by, Routes, TakesAudit, AnswersAudit, TakesResponse, TakesAnswer};
 ghost use Rattle.call_office.specs.Steps.{landed_if, Begins, Hears};
-ghost use Rattle.call_office.specs.Waiting.{waits, settling, settled_at, IsWaiting, Settles, Touches, WaitStill};
+ghost use Rattle.call_office.specs.Waiting.{waits, settling, settled_at, IsWaiting, Settles, Touches, WaitOn};
 
 use crate::care::{Care, Change, Duty, NEW_CARE, Shown, fixed_order};
 use crate::hooks::{audited_hook, is_off_hook, notified, told_by_hook};
@@ -77,7 +77,8 @@ fn new_cares(alloc: Global, count: usize) -> Result<Vec<Care>, OutOfMemory>
 fn touch(worklist: &mut Worklist, exchange: &Exchange, line: usize)
     ensures line { IsWaiting worklist.new line }
     ensures end { IfSome (named_by (phase_of exchange.now line)) (λ other. IsWaiting worklist.new other) }
-    ensures others { WaitStill worklist.old worklist.new }
+    ensures others { (other : ℕ) → IsWaiting worklist.old other → IsWaiting worklist.new other }
+    ensures rest { worklist.new ≡ record worklist.old { waiting = worklist.new.waiting; is_all = worklist.new.is_all } }
 {
     worklist.put(line);
     if let Some(other) = named_by(exchange.phase(line)) {
@@ -628,7 +629,7 @@ impl Office {
         ensures exchange { self.new.exchange ≡ self.old.exchange }
         ensures cares { self.new.cares.items ≡ cared (woken moment) self.old.cares.items line }
         ensures waits { waits self.new.worklist.waiting.items self.new.worklist.is_all line ≡ true }
-        ensures others { WaitStill self.old.worklist self.new.worklist }
+        ensures others { WaitOn self.old.worklist self.new.worklist }
         ensures rest { self.new ≡ record self.old { cares = self.new.cares; worklist = self.new.worklist } }
     {
         let _ = change_at(&mut self.cares, line, Change::Wake { moment });

@@ -66,4 +66,7 @@ pub fn who_waits_has_examples()
     ensures left { (was is : Office) → was.exchange ≡ creating → Touches 1 was is → IsWaiting is.worklist 3 }
     ensures joined { (was is : Office) → is.exchange ≡ creating → Touches 1 was is → IsWaiting is.worklist 3 }
     ensures others { (was is : Office) → was.worklist.is_all ≡ true → Touches 1 was is → IsWaiting is.worklist 5 }
+    // Those that are settled now are the same.
+    ensures settled { (was is : Office) → Touches 1 was is → is.worklist.settled ≡ was.worklist.settled }
+    ensures settles_all { (was is : Office) → Touches 1 was is → is.worklist.settles_all ≡ was.worklist.settles_all }
 {}

@@ -2,6 +2,7 @@ use Rattle.std.proofs.Common.{Bool, ap, subst}
 use Rattle.std.specs.Prelude.{IfSome}
 use Rattle.call_routing.specs.Exchange.{ExchangeState, phase_of}
 use Rattle.call_routing.specs.Phases.{named_by}
+use Rattle.call_office.specs.declared.worklist.Worklist.{Worklist}
 use Rattle.call_office.specs.Waiting.{waits, IsWaiting}
 use Rattle.call_office.proofs.step_examples.who_waits_has_examples.Goals as goal
 
@@ -18,4 +19,10 @@ returns-clause-joined c = λ was is so touches.
 
 pub returns-clause-others : goal.returns-clause-others
 returns-clause-others c = λ was is all touches.
-    touches.others 5 (ap (λ (is_all : Bool). waits was.worklist.waiting.items is_all 5) all)
+    touches.others.0 5 (ap (λ (is_all : Bool). waits was.worklist.waiting.items is_all 5) all)
+
+pub returns-clause-settled : goal.returns-clause-settled
+returns-clause-settled c = λ was is touches. ap (λ (list : Worklist). list.settled) touches.others.1
+
+pub returns-clause-settles_all : goal.returns-clause-settles_all
+returns-clause-settles_all c = λ was is touches. ap (λ (list : Worklist). list.settles_all) touches.others.1
