@@ -36,7 +36,7 @@ waited_on was between is first then_on = (
 )
 
 -- the other end of a call waits still, where whoever waited does
-still_named : (other : Option ℕ) (was is : Worklist) → WaitOn was is → IfSome other (λ one. IsWaiting was one)
+pub still_named : (other : Option ℕ) (was is : Worklist) → WaitOn was is → IfSome other (λ one. IsWaiting was one)
     → IfSome other (λ one. IsWaiting is one)
 still_named None was is still waiting = waiting
 still_named (Some one) was is still waiting = still.0 one waiting
