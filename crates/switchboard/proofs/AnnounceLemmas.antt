@@ -76,7 +76,7 @@ exchange_test is_restart line first before exchange named is =
     ∙ ap (λ (meant : Bool). exchange_if meant is_restart (line_behind first before) (exchange_announced is_restart (One line) first before exchange)) is
 
 -- none of those before it is
-exchange_before : (is_restart : Bool) (line first count : ℕ) (exchange : ExchangeState) → (1 ≤ line → count < line)
+pub exchange_before : (is_restart : Bool) (line first count : ℕ) (exchange : ExchangeState) → (1 ≤ line → count < line)
     → exchange_announced is_restart (One line) first count exchange ≡ exchange
 exchange_before is_restart line first zero exchange below = sym (exchange_none is_restart (One line) first exchange)
 exchange_before is_restart line first (suc before) exchange below =

@@ -7,6 +7,7 @@ pub mod FlightLemmas
 pub mod GivingUpLemmas
 pub mod HearingLemmas
 pub mod IssueLemmas
+pub mod MeantLemmas
 pub mod StepExampleLemmas
 pub mod TakingLemmas
 pub mod TypedCommandLemmas

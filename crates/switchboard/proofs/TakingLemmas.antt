@@ -20,4 +20,4 @@ pub hears_some : (plan : List (List ℕ)) (line : ℕ) (told : List Observed) (w
     → OfOffice (HearsSome line) was is
 hears_some plan line told None is hears = hears
 hears_some plan line told (Some was) None hears = hears
-hears_some plan line told (Some was) (Some is) hears = (told_in plan told, hears)
+hears_some plan line told (Some was) (Some is) hears = (told_in plan told, hears.0)

@@ -7,7 +7,8 @@ use Rattle.call_office.specs.declared.office.Office.{Office}
 use Rattle.switchboard.specs.declared.switchboard.Switchboard.{Switchboard}
 use Rattle.switchboard.specs.Ended.{first_ended, still_flying}
 use Rattle.call_office.specs.Steps.{Forgets}
-use Rattle.switchboard.specs.Steps.{AtPlace, OfOffice, OthersStay}
+use Rattle.call_office.specs.Waiting.{Touches}
+use Rattle.switchboard.specs.Steps.{AtPlace, InOffice, OfOffice, OthersStay}
 
 -- the first one from a gateway, in the order in which they were issued, that this response answers; without one, that is given up by now
 abbrev pub ended_in : Option (ℕ × ℕ) → Option Gateway → Option Flight
@@ -25,10 +26,11 @@ EndsAt place response was is =
     AtPlace place (Ends response) was.gateways.items is.gateways.items × OthersStay place was.gateways.items is.gateways.items
     × (is ≡ record was { gateways = is.gateways })
 
--- It was given up. Where the exchange sent it to a line, the exchange is told; where it was typed nobody is.
+-- It was given up. Where the exchange sent it to a line, the exchange is told, and the line waits to be settled; where it was typed nobody
+-- is.
 abbrev pub ForgetsFor : Option ℕ → Option (Box Office) → Option (Box Office) → Type 0
 ForgetsFor None was is = is ≡ was
-ForgetsFor (Some line) was is = OfOffice (Forgets line) was is
+ForgetsFor (Some line) was is = OfOffice (Forgets line) was is × InOffice (Touches line) was is
 
 abbrev pub ForgetsFlight : Option Flight → Option (Box Office) → Option (Box Office) → Type 0
 ForgetsFlight None was is = is ≡ was

@@ -26,16 +26,16 @@ use Rattle.switchboard.specs.Boards.{Answers}
 use Rattle.switchboard.specs.GivingUp.{ended_in, EndsAt}
 use Rattle.switchboard.specs.Steps.{AnnouncesTo, AtPlace, OthersStay, line_behind}
 use Rattle.switchboard.specs.Tallying.{counted_if}
-use Rattle.call_office.specs.Waiting.{waits}
+use Rattle.call_office.specs.Waiting.{waits, Touches}
 
 -- A response came
 
--- It answers a command of the exchange to a line. Nobody is told where there is no such gateway, or no exchange.
+-- It answers a command of the exchange to a line, which waits to be settled. Nobody is told where there is no such gateway, or no exchange.
 abbrev pub AnswersIn : ℕ → ℕ → List ℕ → Option Gateway → Option (Box Office) → Option Gateway → Option (Box Office) → Type 0
 AnswersIn line code text None office after is = is ≡ office
 AnswersIn line code text (Some gateway) None after is = is ≡ None
 AnswersIn line code text (Some gateway) (Some office) after is =
-    IsSomeAnd after (λ g. IsSomeAnd is (λ o. Answers line code text gateway office.value g o.value))
+    IsSomeAnd after (λ g. IsSomeAnd is (λ o. Answers line code text gateway office.value g o.value × Touches line office.value o.value))
 
 -- what was put off by it is kept of the gateway; nothing else of that has changed
 abbrev pub PutsOff : Gateway → Gateway → Type 0

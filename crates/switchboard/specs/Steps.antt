@@ -1,5 +1,5 @@
 -- What a step of a board does to the exchange, and to what is kept of its lines beside that; and to what its gateways send again.
-use Rattle.std.specs.Prelude.{◌≡◌, ⊤, ℕ, zero, suc, ◌+◌, ◌-◌, ◌^◌, ◌==◌, ◌&&◌, min, nat_le, Bool, true, false, if◌then◌else◌, List, Option, Some, None, IfSome, IsSomeAnd, Result, Ok, Err, slice_get, slice_set}
+use Rattle.std.specs.Prelude.{◌≡◌, ⊤, ℕ, zero, suc, ◌+◌, ◌-◌, ◌^◌, ◌<◌, ◌==◌, ◌&&◌, min, nat_le, Bool, true, false, if◌then◌else◌, List, Option, Some, None, IfSome, IsSomeAnd, Result, Ok, Err, slice_get, slice_set}
 use Rattle.std.specs.Global.{Box}
 use Rattle.endpoint_names.specs.declared.name.Pattern.{Pattern}
 use Rattle.endpoint_names.specs.declared.name.Pattern.TheVariants.{One, All, Any}
@@ -9,7 +9,8 @@ use Rattle.gateway_rules.specs.declared.refusal.Refusal.{Refusal}
 use Rattle.plain_machine.specs.Event.{GatewayEvent}
 use Rattle.call_agent.specs.AgentStands.{AgentStands}
 use Rattle.call_agent.specs.Hearing.{AgentEnds, AgentEvent, plain_agent}
-use Rattle.call_routing.specs.Exchange.{ExchangeState}
+use Rattle.call_routing.specs.Exchange.{ExchangeState, phase_of}
+use Rattle.call_routing.specs.Phases.{named_by}
 use Rattle.call_office.specs.declared.care.Care.{Care}
 use Rattle.switchboard.specs.declared.gateway.Gateway.{Gateway}
 use Rattle.call_office.specs.declared.office.Office.{Office}
@@ -18,7 +19,7 @@ use Rattle.call_office.specs.Duties.{announced}
 use Rattle.call_office.specs.Orders.{cared}
 use Rattle.call_office.specs.Steps.{Begins, Forgets, ToldOf}
 use Rattle.call_office.specs.Turns.{announced_by}
-use Rattle.call_office.specs.Waiting.{settled_at, waits}
+use Rattle.call_office.specs.Waiting.{settled_at, waits, IsWaiting, Touches, WaitOn}
 use Rattle.switchboard.specs.Wakes.{behind_woken}
 
 -- What a step makes of the exchange, and of what is kept of its lines. It is one of a board's exchange; where there is none, there is
@@ -27,6 +28,19 @@ abbrev pub OfOffice : (ExchangeState → List Care → ExchangeState → List Ca
 OfOffice Does None is = is ≡ None
 OfOffice Does (Some was) is =
     IsSomeAnd is (λ office. Does was.value.exchange was.value.cares.items office.value.exchange office.value.cares.items)
+
+-- So it is of all of a board's exchange.
+abbrev pub InOffice : (Office → Office → Type 0) → Option (Box Office) → Option (Box Office) → Type 0
+InOffice Does None is = is ≡ None
+InOffice Does (Some was) is = IsSomeAnd is (λ office. Does was.value office.value)
+
+-- the same lines wait to be settled, and the same are settled now
+abbrev pub SameLines : Office → Office → Type 0
+SameLines was is = is.worklist ≡ was.worklist
+
+-- whoever waited waits still, and the same are settled now
+abbrev pub LinesWaitOn : Office → Office → Type 0
+LinesWaitOn was is = WaitOn was.worklist is.worklist
 
 -- the line waits to be settled, where there is an exchange
 abbrev pub WaitsIn : ℕ → Option (Box Office) → Type 0
@@ -72,9 +86,24 @@ abbrev pub Announces : Bool → Pattern → ℕ → ℕ → ExchangeState → Li
 Announces is_restart pattern first lines was cares is kept =
     (is ≡ exchange_announced is_restart pattern first lines was) × (kept ≡ cares_announced is_restart pattern first lines cares)
 
+-- something has happened to the line, if it is meant; else nothing has
+abbrev pub TouchesIf : Bool → ℕ → Office → Office → Type 0
+TouchesIf true line was is = Touches line was is
+TouchesIf false line was is = is ≡ was
+
+-- Something has happened to each line that is meant, of so many: it waits, and so does the other end of the call that it was in then.
+-- Whoever waited waits still.
+pub record TouchesMeant (is_restart : Bool) (pattern : Pattern) (first lines : ℕ) (was is : Office) : Type 0 where
+  pub meant : (before : ℕ) → before < lines → is_meant pattern before ≡ true → IsWaiting is.worklist (line_behind first before)
+  pub left : (before : ℕ) → before < lines → is_meant pattern before ≡ true
+      → IfSome (named_by (phase_of (exchange_announced is_restart pattern first before was.exchange) (line_behind first before)))
+      (λ other. IsWaiting is.worklist other)
+  pub others : WaitOn was.worklist is.worklist
+
 -- those of this gateway that this name means; none where there is no such gateway, or the name means none of its lines
 abbrev pub AnnouncesBy : Bool → Result Pattern NameFault → ℕ → ℕ → Option (Box Office) → Option (Box Office) → Type 0
-AnnouncesBy is_restart (Ok pattern) first lines was is = OfOffice (Announces is_restart pattern first lines) was is
+AnnouncesBy is_restart (Ok pattern) first lines was is =
+    OfOffice (Announces is_restart pattern first lines) was is × InOffice (TouchesMeant is_restart pattern first lines) was is
 AnnouncesBy is_restart (Err fault) first lines was is = is ≡ was
 
 abbrev pub AnnouncesTo : Bool → List ℕ → Option Gateway → Option (Box Office) → Option (Box Office) → Type 0
@@ -94,14 +123,20 @@ abbrev pub Issues : Bool → ℕ → Option (Box Office) → Option (Box Office)
 Issues false line was is = OfOffice (Begins line) was is
 Issues true line was is = (begun : Option (Box Office)) × OfOffice (Begins line) was begun × OfOffice (Forgets line) begun is
 
+-- Who waits behind that: those who did. Where it couldn't be issued something has happened to the line.
+abbrev pub WaitsBehind : Bool → ℕ → Option (Box Office) → Option (Box Office) → Type 0
+WaitsBehind false line was is = InOffice SameLines was is
+WaitsBehind true line was is =
+    (begun : Option (Box Office)) × OfOffice (Begins line) was begun × InOffice SameLines was begun × InOffice (Touches line) begun is
+
 -- of the line that is settled, if one is
 abbrev pub IssuesAt : Option ℕ → Bool → Option (Box Office) → Option (Box Office) → Type 0
 IssuesAt None fails was is = is ≡ was
-IssuesAt (Some line) fails was is = Issues fails line was is
+IssuesAt (Some line) fails was is = Issues fails line was is × WaitsBehind fails line was is
 
 abbrev pub ToldAt : Option ℕ → Option (Box Office) → Option (Box Office) → Type 0
 ToldAt None was is = is ≡ was
-ToldAt (Some line) was is = OfOffice (ToldOf line) was is
+ToldAt (Some line) was is = OfOffice (ToldOf line) was is × InOffice SameLines was is
 
 -- What becomes of a gateway
 

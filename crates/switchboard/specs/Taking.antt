@@ -12,7 +12,7 @@ use Rattle.call_office.specs.declared.office.Office.{Office}
 use Rattle.switchboard.specs.declared.switchboard.Switchboard.{Switchboard}
 use Rattle.call_office.specs.declared.worklist.Worklist.{Worklist}
 use Rattle.call_office.specs.Steps.{Hears}
-use Rattle.call_office.specs.Waiting.{settled_at}
+use Rattle.call_office.specs.Waiting.{settled_at, Touches}
 
 -- the agent of its gateway was told so much of it by notifications, by each list of events that it stands for
 abbrev pub IsObserved : ℕ → Gateway → List Observed → Type 0
@@ -20,12 +20,12 @@ IsObserved line gateway observed =
     (events : List AgentEvent) → AgentStands gateway.agent.value events
     → observed ≡ observed_on line (plain_agent gateway.agent.value.setup events)
 
--- the exchange, if there is one, is told this of a line, by the numbers of its lines
+-- the exchange, if there is one, is told this of a line, by the numbers of its lines; the line waits to be settled
 abbrev pub HearsTold : List (List ℕ) → ℕ → List Observed → Option (Box Office) → Option (Box Office) → Type 0
 HearsTold plan line told None is = is ≡ None
 HearsTold plan line told (Some was) is =
     IsSomeAnd is (λ office. Hears (told_in plan told) line was.value.exchange was.value.cares.items
-    office.value.exchange office.value.cares.items)
+    office.value.exchange office.value.cares.items × Touches line was.value office.value)
 
 abbrev pub HearsIf : Bool → List (List ℕ) → ℕ → List Observed → Option (Box Office) → Option (Box Office) → Type 0
 HearsIf false plan line told was is = is ≡ was

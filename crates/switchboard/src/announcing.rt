@@ -1,7 +1,7 @@
 //! The lines of a gateway that a name means are announced: they have started again, or lost their agent.
 ghost use Rattle.std.specs.Prelude.{◌≡◌};
 ghost use Rattle.endpoint_names.specs.declared.name.Pattern.TheVariants.{One};
-ghost use Rattle.switchboard.specs.Steps.{cares_if, exchange_if, has_line, Announces};
+ghost use Rattle.switchboard.specs.Steps.{cares_if, exchange_if, has_line, Announces, TouchesIf, TouchesMeant};
 
 use crate::naming::{is_meant, line_behind};
 use call_office::Office;
@@ -18,6 +18,7 @@ fn has_line(line: u16, lines: u16) -> bool
 fn announce_if(office: &mut Office, is_named: bool, line: usize, is_restart: bool)
     ensures exchange { office.new.exchange ≡ exchange_if is_named is_restart line office.old.exchange }
     ensures cares { office.new.cares.items ≡ cares_if is_named is_restart line office.old.cares.items }
+    ensures touches { TouchesIf is_named line office.old office.new }
 {
     if is_named {
         office.announced(line, is_restart);
@@ -26,8 +27,9 @@ fn announce_if(office: &mut Office, is_named: bool, line: usize, is_restart: boo
 
 // This line of a gateway is there again, or lost its agent, if the gateway has it. The others aren't looked at.
 fn announce_one(office: &mut Office, line: u16, first: usize, lines: u16, is_restart: bool)
-    ensures { Announces is_restart (One line) first lines office.old.exchange office.old.cares.items
+    ensures announces { Announces is_restart (One line) first lines office.old.exchange office.old.cares.items
         office.new.exchange office.new.cares.items }
+    ensures touches { TouchesMeant is_restart (One line) first lines office.old office.new }
 {
     let place = line_behind(first, line.saturating_sub(1));
     announce_if(office, has_line(line, lines), place, is_restart);
@@ -35,8 +37,9 @@ fn announce_one(office: &mut Office, line: u16, first: usize, lines: u16, is_res
 
 // The same of each line that a name means.
 fn announce_each(office: &mut Office, pattern: Pattern, first: usize, lines: u16, is_restart: bool)
-    ensures { Announces is_restart pattern first lines office.old.exchange office.old.cares.items
+    ensures announces { Announces is_restart pattern first lines office.old.exchange office.old.cares.items
         office.new.exchange office.new.cares.items }
+    ensures touches { TouchesMeant is_restart pattern first lines office.old office.new }
 {
     for before in 0..lines {
         announce_if(
@@ -57,8 +60,9 @@ pub(crate) fn announce_all(
     lines: u16,
     is_restart: bool,
 )
-    ensures { Announces is_restart pattern first lines office.old.exchange office.old.cares.items
+    ensures announces { Announces is_restart pattern first lines office.old.exchange office.old.cares.items
         office.new.exchange office.new.cares.items }
+    ensures touches { TouchesMeant is_restart pattern first lines office.old office.new }
 {
     match pattern {
         Pattern::One(line) => announce_one(office, line, first, lines, is_restart),

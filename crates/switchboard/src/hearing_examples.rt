@@ -18,7 +18,8 @@ ghost use Rattle.switchboard.specs.GivingUp.{ended_in, Ends, ForgetsFlight, Forg
 ghost use Rattle.switchboard.specs.Hearing.{announcement_counted, is_new_to, is_strange_at, line_meant, method_of, response_counted};
 ghost use Rattle.switchboard.specs.Hearing.{AnnouncesNew, AnnouncesWith, AnswersFor, AnswersIn, HearsText, HearsUnread, Notes, Waits};
 ghost use Rattle.call_office.specs.Steps.{Forgets};
-ghost use Rattle.switchboard.specs.Steps.{AnnouncesTo, OfOffice};
+ghost use Rattle.call_office.specs.Waiting.{Touches};
+ghost use Rattle.switchboard.specs.Steps.{AnnouncesTo, InOffice, OfOffice};
 ghost use Rattle.switchboard.specs.Taking.{first_of, with_taken, HearsIf, TakesTold};
 ghost use Rattle.call_office.specs.Example.{param};
 ghost use Rattle.switchboard.specs.Example.{flying};
@@ -44,7 +45,9 @@ pub fn what_ends_has_examples()
     // The exchange is told of what it sent to a line, and of nothing else.
     ensures nothing_forgotten { (office : Option (Box Office)) → ForgetsFlight None office office }
     ensures typed { (office : Option (Box Office)) → ForgetsFor None office office }
-    ensures sent { (was is : Option (Box Office)) → OfOffice (Forgets 1) was is → ForgetsFlight (Some (flying 8 1)) was is }
+    ensures sent { (was is : Option (Box Office)) → OfOffice (Forgets 1) was is → InOffice (Touches 1) was is →
+        ForgetsFlight (Some (flying 8 1)) was is }
+    ensures sent_waits { (was is : Box Office) → ForgetsFlight (Some (flying 8 1)) (Some was) (Some is) → Touches 1 was.value is.value }
 {}
 
 /// What a response, an announcement, a notification and a strange name mean, and what counts.

@@ -3,6 +3,7 @@ ghost use Rattle.std.specs.Prelude.{◌≡◌};
 ghost use Rattle.switchboard.specs.Boards.{Answers};
 ghost use Rattle.switchboard.specs.Issuing.{IssuesUnder};
 ghost use Rattle.call_office.specs.Orders.{shown};
+ghost use Rattle.call_office.specs.Waiting.{Touches};
 ghost use Rattle.switchboard.specs.Steps.{Sends};
 ghost use Rattle.switchboard.specs.TypedCommands.{typed_fault, IssuesNamed};
 
@@ -72,6 +73,7 @@ pub(crate) fn answer_at(
     text: &[u8],
 )
     ensures answers { Answers line code text.now gateway.old office.old gateway.new office.new }
+    ensures touches { Touches line office.old office.new }
     ensures rest { gateway.new ≡ record gateway.old { wakes = gateway.new.wakes } }
 {
     let moment = gateway.ticked();

@@ -16,11 +16,12 @@ ghost use Rattle.switchboard.specs.Meaning.{has_domain, meant};
 ghost use Rattle.call_office.specs.Orders.{shown};
 ghost use Rattle.call_office.specs.Showing.{ShowsIn};
 ghost use Rattle.call_office.specs.Steps.{Begins, Forgets, HearsSome};
-ghost use Rattle.switchboard.specs.Steps.{settled_in, AnnouncesTo, AtPlace, Issues, IssuesAt, OfOffice, OthersStay, Refuses, Ticks, ToldAt, WaitsIn, Wakens};
+ghost use Rattle.switchboard.specs.Steps.{settled_in, AnnouncesTo, AtPlace, InOffice, Issues, IssuesAt, LinesWaitOn, OfOffice};
+ghost use Rattle.switchboard.specs.Steps.{OthersStay, Refuses, SameLines, Ticks, ToldAt, WaitsBehind, WaitsIn, Wakens};
 ghost use Rattle.switchboard.specs.Taking.{first_of, taken_place, TakesOf, TakesTold};
 ghost use Rattle.switchboard.specs.Tallying.{counted_if};
 ghost use Rattle.switchboard.specs.TypedCommands.{IssuesThere, IssuesTyped};
-ghost use Rattle.call_office.specs.Waiting.{Settles};
+ghost use Rattle.call_office.specs.Waiting.{Settles, Touches};
 
 use crate::announcing::announce_all;
 use crate::dialling::Dialling;
@@ -371,6 +372,7 @@ impl Switchboard {
     // The command in flight to a line was given up, or couldn't be issued.
     fn forget(&mut self, line: usize)
         ensures office { OfOffice (Forgets line) self.old.office self.new.office }
+        ensures touches { InOffice (Touches line) self.old.office self.new.office }
         ensures rest { self.new ≡ record self.old { office = self.new.office } }
     {
         if let Some(office) = &mut self.office {
@@ -393,6 +395,7 @@ impl Switchboard {
     fn order(&mut self, line: usize) -> Result<Option<Order>, OutOfMemory>
         ensures order { IfOk result (λ order. option_map shown order ≡ ordered_in line self.old.dialling.value.map self.old.office) }
         ensures office { OfOffice (Begins line) self.old.office self.new.office }
+        ensures lines { InOffice SameLines self.old.office self.new.office }
         ensures rest { self.new ≡ record self.old { office = self.new.office } }
     {
         match &mut self.office {
@@ -404,6 +407,7 @@ impl Switchboard {
     // Issues what a line is to be sent now: what is to be sent, if anything is. Where it can't be issued it counts as given up.
     fn issue_to(&mut self, line: usize) -> Result<Option<Issued>, IssueFault>
         ensures office { Issues (is_err result) line self.old.office self.new.office }
+        ensures lines { WaitsBehind (is_err result) line self.old.office self.new.office }
         ensures issued { IssuesOrder line (ordered_in line self.old.dialling.value.map self.old.office) result
             (slice_get self.old.stations.items line) self.old.gateways.items self.new.gateways.items }
         ensures alone { SendsAlone (slice_get self.old.stations.items line) self.old.gateways.items self.new.gateways.items }
@@ -513,6 +517,7 @@ impl Switchboard {
     pub fn wake(&mut self, place: usize) -> bool
         ensures found { result ≡ is_some (woken_at (slice_get self.old.gateways.items place)) }
         ensures line { WakesIn (woken_at (slice_get self.old.gateways.items place)) self.old.office self.new.office }
+        ensures lines { InOffice LinesWaitOn self.old.office self.new.office }
         ensures gateway { AtPlace place Wakens self.old.gateways.items self.new.gateways.items }
         ensures own { AtPlace place (λ was is. is ≡ record was { wakes = is.wakes }) self.old.gateways.items self.new.gateways.items }
         ensures others { OthersStay place self.old.gateways.items self.new.gateways.items }

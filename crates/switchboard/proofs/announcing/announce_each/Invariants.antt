@@ -1,5 +1,5 @@
 use Rattle.std.proofs.Common.{◌≡◌}
-use Rattle.switchboard.specs.Steps.{cares_announced, exchange_announced}
+use Rattle.switchboard.specs.Steps.{cares_announced, exchange_announced, TouchesMeant}
 use Rattle.switchboard.proofs.announcing.announce_each.Given as goal
 
 -- the lines before this one are announced
@@ -7,4 +7,5 @@ abbrev pub invariant-loop-before : goal.invariant-loop-before
 invariant-loop-before l = record {
   exchange : l.office.exchange ≡ exchange_announced l.is_restart l.pattern l.first l.before l.fn.office.exchange;
   cares : l.office.cares.items ≡ cares_announced l.is_restart l.pattern l.first l.before l.fn.office.cares.items;
+  touches : TouchesMeant l.is_restart l.pattern l.first l.before l.fn.office l.office;
 }

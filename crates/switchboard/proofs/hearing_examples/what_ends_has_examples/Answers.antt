@@ -20,3 +20,6 @@ returns-clause-nothing_else c = λ was is clock flights left rest. (
       ∙ ap (λ (list : List Flight). still_flying (Some (8, 200)) 100 list) flights),
   rest,
 )
+
+pub returns-clause-sent_waits : goal.returns-clause-sent_waits
+returns-clause-sent_waits c = λ was is forgets. forgets.1

@@ -14,7 +14,7 @@ returns-clause-gives_up c =
     gave_up c.args.place c.args.self.now c.ended.new.self c.forget.new.self (Some c.in-Some.flight) c.in-Some.ensures.ended
     c.in-Some.ensures.gateway
     (subst (λ (line : Option ℕ). ForgetsFor line c.ended.new.self.office c.forget.new.self.office) (sym c.in-Some-line.is)
-    c.forget.ensures.office)
+    (c.forget.ensures.office, c.forget.ensures.touches))
     c.forget.ensures.rest
 
 pub returns-in_default-line-clause-gives_up : goal.returns-in_default-line-clause-gives_up
