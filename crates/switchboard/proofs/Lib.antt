@@ -8,6 +8,7 @@ pub mod GivingUpLemmas
 pub mod HearingLemmas
 pub mod IssueLemmas
 pub mod MeantLemmas
+pub mod OpeningLemmas
 pub mod StepExampleLemmas
 pub mod TakingLemmas
 pub mod TypedCommandLemmas

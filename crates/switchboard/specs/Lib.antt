@@ -9,6 +9,7 @@ pub mod GivingUp
 pub mod Hearing
 pub mod Issuing
 pub mod Meaning
+pub mod Opening
 pub mod Steps
 pub mod Taking
 pub mod Tallying

@@ -1,5 +1,5 @@
 //! The gateways that a call agent works with, and their lines.
-ghost use Rattle.std.specs.Prelude.{◌≡◌, [], ◌∷◌, ◌++◌, true, false, IfNone, IfOk, IfSome, Ok, OnErr, is_err, is_ok, is_some, length, option_map, position, slice_get};
+ghost use Rattle.std.specs.Prelude.{◌≡◌, ◌&&◌, [], ◌∷◌, ◌++◌, true, false, IfNone, IfOk, IfSome, None, Ok, OnErr, OnOk, is_err, is_ok, is_some, length, map, option_map, position, slice_get};
 ghost use Rattle.std.specs.Result.{result_err};
 ghost use Rattle.plain_machine.specs.Event.{datagram, tick};
 ghost use Rattle.call_agent.specs.Hearing.{hears};
@@ -13,6 +13,7 @@ ghost use Rattle.switchboard.specs.Hearing.{is_new_to, is_strange, announcement_
 ghost use Rattle.switchboard.specs.Hearing.{AnnouncesWith, AnswersAt, HearsAnnouncement, HearsCommand, HearsMessage, HearsNotification, HearsResponse, HearsText, NotesAt};
 ghost use Rattle.switchboard.specs.Issuing.{ordered_in, IssuesOrder, IssuesSettled, IssuesTo, SendsAlone, SendsAtMost};
 ghost use Rattle.switchboard.specs.Meaning.{has_domain, meant};
+ghost use Rattle.switchboard.specs.Opening.{configured_as, known_as, BoardOf};
 ghost use Rattle.call_office.specs.Orders.{shown};
 ghost use Rattle.call_office.specs.Showing.{ShowsIn};
 ghost use Rattle.call_office.specs.Steps.{Begins, Forgets, HearsSome};
@@ -95,6 +96,23 @@ fn put_station(
     Ok(())
 }
 
+// Puts the lines of a gateway behind the others, one for each number.
+fn put_stations(
+    alloc: Global,
+    stations: &mut Vec<Station>,
+    gateway: usize,
+    domain: &[u8],
+    numbers: &[Text],
+) -> Result<(), OutOfMemory> {
+    let mut line: u16 = 0;
+    for number in numbers {
+        line = line.saturating_add(1);
+        let number = number.as_bytes();
+        put_station(alloc, stations, gateway, line, domain, number)?;
+    }
+    Ok(())
+}
+
 // The numbers of the lines, in their order.
 fn plan_of(alloc: Global, stations: &[Station]) -> Result<NumberPlan, OutOfMemory> {
     let mut numbers = Vec::new(alloc);
@@ -112,7 +130,10 @@ fn is_at(gateway: &Gateway, address: SocketAddrV4) -> bool
 
 impl Switchboard {
     // No gateways, and no exchange.
-    fn new(alloc: Global) -> Result<Switchboard, OutOfMemory> {
+    fn new(alloc: Global) -> Result<Switchboard, OutOfMemory>
+        ensures gateways { IfOk result (λ board. board.gateways.items ≡ []) }
+        ensures office { IfOk result (λ board. board.office ≡ None) }
+    {
         let plan = NumberPlan::of(Vec::new(alloc));
         let dialling = Dialling::of(alloc, plan, Text::of(Vec::new(alloc)))?;
         Ok(Switchboard {
@@ -134,28 +155,44 @@ impl Switchboard {
         domain: &[u8],
         numbers: &[Text],
         time: u64,
-    ) -> Result<(), OutOfMemory> {
+    ) -> Result<(), OutOfMemory>
+        ensures gateway { OnOk result (map known_as self.new.gateways.items
+            ≡ map known_as self.old.gateways.items ++ (address, domain.now) ∷ []) }
+        ensures office { self.new.office ≡ self.old.office }
+    {
         let place = self.gateways.len();
         let first = self.stations.len();
         let lines = u16::try_from(numbers.len()).unwrap_or(u16::MAX);
         let gateway = Gateway::new(self.alloc, own, address, domain, first, lines, time)?;
         self.gateways.push(gateway)?;
-        let mut line: u16 = 0;
-        for number in numbers {
-            line = line.saturating_add(1);
-            let number = number.as_bytes();
-            put_station(self.alloc, &mut self.stations, place, line, domain, number)?;
-        }
+        put_stations(self.alloc, &mut self.stations, place, domain, numbers)?;
         Ok(())
     }
 
     // Opens an exchange for the lines that there are, which are dialled by this map.
-    fn open(&mut self, map: &[u8]) -> Result<(), OutOfMemory> {
+    fn open(&mut self, map: &[u8]) -> Result<(), OutOfMemory>
+        ensures gateways { self.new.gateways ≡ self.old.gateways }
+        ensures office { OnOk result (is_some self.new.office ≡ true) }
+    {
         let plan = plan_of(self.alloc, &self.stations)?;
         let map = copied(self.alloc, map)?;
         let office = Office::new(self.alloc, self.stations.len())?;
         self.dialling = Dialling::of(self.alloc, plan, map)?;
         self.office = Some(office);
+        Ok(())
+    }
+
+    // Adds the gateways of a configuration.
+    fn add_all(&mut self, config: &AgentConfig, time: u64) -> Result<(), OutOfMemory>
+        ensures gateways { OnOk result (map known_as self.new.gateways.items
+            ≡ map known_as self.old.gateways.items ++ map configured_as config.now.gateways.items) }
+        ensures office { self.new.office ≡ self.old.office }
+    {
+        for gateway in config.gateways.iter() {
+            let domain = gateway.domain.as_bytes();
+            let numbers = gateway.numbers.as_slice();
+            self.add(config.own, gateway.address, domain, numbers, time)?;
+        }
         Ok(())
     }
 
@@ -165,15 +202,19 @@ impl Switchboard {
         config: &AgentConfig,
         is_routed: bool,
         time: u64,
-    ) -> Result<(), OutOfMemory> {
-        for gateway in config.gateways.iter() {
-            let domain = gateway.domain.as_bytes();
-            let numbers = gateway.numbers.as_slice();
-            self.add(config.own, gateway.address, domain, numbers, time)?;
+    ) -> Result<(), OutOfMemory>
+        ensures gateways { OnOk result (map known_as self.new.gateways.items
+            ≡ map known_as self.old.gateways.items ++ map configured_as config.now.gateways.items) }
+        ensures office { OnOk result (self.old.office ≡ None → is_some self.new.office ≡ (is_routed && is_some config.now.map)) }
+    {
+        self.add_all(config, time)?;
+        if !is_routed {
+            return Ok(());
         }
-        if let (true, Some(map)) = (is_routed, &config.map) {
-            return self.open(map.as_bytes());
-        }
+        let Some(map) = &config.map else {
+            return Ok(());
+        };
+        self.open(map.as_bytes())?;
         Ok(())
     }
 
@@ -184,7 +225,9 @@ impl Switchboard {
         config: &AgentConfig,
         is_routed: bool,
         time: u64,
-    ) -> Result<Switchboard, OutOfMemory> {
+    ) -> Result<Switchboard, OutOfMemory>
+        ensures { IfOk result (λ board. BoardOf config.now is_routed board) }
+    {
         let mut board = Switchboard::new(alloc)?;
         match board.fill(config, is_routed, time) {
             Ok(()) => Ok(board),

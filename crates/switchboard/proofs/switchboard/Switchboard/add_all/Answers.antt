@@ -1,0 +1,19 @@
+use Rattle.std.proofs.Common.{refl, ◌∙◌}
+use Rattle.switchboard.proofs.OpeningLemmas.{added_all, added_one}
+use Rattle.switchboard.proofs.switchboard.Switchboard.add_all.Goals as goal
+
+pub loop-gateway-init : goal.loop-gateway-init
+loop-gateway-init c = record { gateways = refl; office = refl; }
+
+pub loop-gateway-preserved : goal.loop-gateway-preserved
+loop-gateway-preserved c = record {
+  gateways = added_one c.deref-gateway-items.result.now c.args.config.now.gateways.items c.loop-gateway.gateway-index _
+      c.as_bytes-domain.result.now _ _ _ c.deref-gateway-items.ensures.value c.loop-gateway-test.true c.gateway-item.is
+      c.as_bytes-domain.ensures c.in_ok-add.ensures.gateway c.loop-gateway.invariant.gateways;
+  office = c.add.ensures.office ∙ c.loop-gateway.invariant.office;
+}
+
+pub returns-clause-gateways : goal.returns-clause-gateways
+returns-clause-gateways c =
+    added_all c.deref-gateway-items.result.now c.args.config.now.gateways.items c.loop-gateway.gateway-index _ _
+    c.deref-gateway-items.ensures.value c.loop-gateway-test.false c.loop-gateway.invariant.gateways
