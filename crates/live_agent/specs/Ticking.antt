@@ -13,7 +13,7 @@ use Rattle.switchboard.specs.declared.switchboard.Switchboard.{Switchboard}
 use Rattle.switchboard.specs.AgentClock.{tick_to}
 use Rattle.switchboard.specs.Boards.{woken_at, WakesIn}
 use Rattle.switchboard.specs.GivingUp.{ended_in, GivesUp}
-use Rattle.switchboard.specs.Steps.{AtPlace, OthersStay, Refuses, Ticks, Wakens}
+use Rattle.switchboard.specs.Steps.{AtPlace, InOffice, LinesWaitOn, OthersStay, Refuses, Ticks, Wakens}
 use Rattle.switchboard.specs.Tallying.{counted_if}
 use Rattle.live_agent.specs.declared.wire.TheConstants.{MOST_AT_ONCE}
 use Rattle.live_agent.specs.declared.wire.Wire.{Wire}
@@ -96,10 +96,12 @@ GivesUpEach {S} sends (suc place) board was now is =
 
 -- What was put off
 
--- the next line of the gateway at this place to which a command is sent again by now waits to be settled, if there is one
+-- the next line of the gateway at this place to which a command is sent again by now waits to be settled, if there is one, and whoever waited
+-- waits still
 pub record WakesNext (found : Bool) (place : ℕ) (board now : Switchboard) : Type 0 where
   pub is_found : found ≡ is_some (woken_at (slice_get board.gateways.items place))
   pub line : WakesIn (woken_at (slice_get board.gateways.items place)) board.office now.office
+  pub lines : InOffice LinesWaitOn board.office now.office
   pub gateway : AtPlace place Wakens board.gateways.items now.gateways.items
   pub own : AtPlace place (λ before behind. behind ≡ record before { wakes = behind.wakes }) board.gateways.items now.gateways.items
   pub others : OthersStay place board.gateways.items now.gateways.items

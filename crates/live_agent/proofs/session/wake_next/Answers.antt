@@ -4,6 +4,7 @@ pub returns : goal.returns
 returns c = record {
   is_found = c.wake.ensures.found;
   line = c.wake.ensures.line;
+  lines = c.wake.ensures.lines;
   gateway = c.wake.ensures.gateway;
   own = c.wake.ensures.own;
   others = c.wake.ensures.others;
