@@ -11,7 +11,7 @@ use Rattle.load_bench.specs.declared.said.Said.{Said}
 use Rattle.load_bench.specs.declared.settings.LoadFault.TheVariants.{OutOfMemory}
 use Rattle.live_agent.specs.declared.loading.Load.{Load}
 use Rattle.live_agent.specs.declared.wire.Wire.{Wire}
-use Rattle.live_agent.specs.Telephones.{course_behind, end_of, load_over, CountsFor, HearsIn, HearsOnce, OfLoad, Passes, PassesLoad, SaysAll, SaysEach, SaysOne}
+use Rattle.live_agent.specs.Telephones.{course_behind, end_of, load_over, CountsFor, HearsIn, HearsOnce, KeepsRoom, OfLoad, Passes, PassesLoad, SaysAll, SaysEach, SaysOne}
 
 both_true : (all : Bool) → (all && true) ≡ all
 both_true true = refl
@@ -23,13 +23,13 @@ both_both false told rest = refl
 
 -- the load that is made becomes so
 pub of_load : (Does : Bench → Bench → Type 0) (load : Option (Box Load)) (was is : Box Load) → load ≡ Some was → Does was.value.bench.value is.value.bench.value
-    → OfLoad Does load (Some is)
-of_load Does load was is made does = subst (λ (one : Option (Box Load)). OfLoad Does one (Some is)) (sym made) does
+    → KeepsRoom was.value is.value → OfLoad Does load (Some is)
+of_load Does load was is made does room = subst (λ (one : Option (Box Load)). OfLoad Does one (Some is)) (sym made) (does, room)
 
 -- something counts for it, where one is made
 pub counts_for : (Counts : Bench → Bench → Type 0) (load : Option (Box Load)) (was is : Box Load) → load ≡ Some was
-    → Counts was.value.bench.value is.value.bench.value → CountsFor Counts load (Some is)
-counts_for Counts load was is made counts = subst (λ (one : Option (Box Load)). CountsFor Counts one (Some is)) (sym made) counts
+    → Counts was.value.bench.value is.value.bench.value → KeepsRoom was.value is.value → CountsFor Counts load (Some is)
+counts_for Counts load was is made counts room = subst (λ (one : Option (Box Load)). CountsFor Counts one (Some is)) (sym made) (counts, room)
 
 pub counts_none : (Counts : Bench → Bench → Type 0) (load : Option (Box Load)) → load ≡ None → CountsFor Counts load load
 counts_none Counts load none = subst (λ (one : Option (Box Load)). CountsFor Counts one one) (sym none) refl
@@ -101,6 +101,6 @@ module _ {S : Type 0} (hears : S → Option (SocketAddr × ℕ) → List ℕ →
   -- what its telephones say is heard in its room
   pub hears_in : (moment : ℕ) (taken : Bool) (before after : S) (load : Option (Box Load)) (was is : Box Load) → load ≡ Some was
       → HearsOnce hears answers moment (vec_len was.value.room) taken before after was.value.bench.value is.value.bench.value
-      → HearsIn hears answers moment taken before after load (Some is)
-  hears_in moment taken before after load was is made once =
-      subst (λ (one : Option (Box Load)). HearsIn hears answers moment taken before after one (Some is)) (sym made) once
+      → KeepsRoom was.value is.value → HearsIn hears answers moment taken before after load (Some is)
+  hears_in moment taken before after load was is made once room =
+      subst (λ (one : Option (Box Load)). HearsIn hears answers moment taken before after one (Some is)) (sym made) (once, room)

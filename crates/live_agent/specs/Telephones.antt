@@ -23,11 +23,15 @@ use Rattle.live_agent.specs.Wiring.{with_read}
 
 -- What counts
 
--- where a load is made this counts for it; what it has to say, and how far it is, stays
+-- the load has as much room for what telephones say
+abbrev pub KeepsRoom : Load → Load → Type 0
+KeepsRoom was is = vec_len is.room ≡ vec_len was.room
+
+-- where a load is made this counts for it; what it has to say, and how far it is, stays, and so does its room
 abbrev pub CountsFor : (Bench → Bench → Type 0) → Option (Box Load) → Option (Box Load) → Type 0
 CountsFor Counts None is = is ≡ None
 CountsFor Counts (Some was) None = ⊥
-CountsFor Counts (Some was) (Some is) = Counts was.value.bench.value is.value.bench.value
+CountsFor Counts (Some was) (Some is) = Counts was.value.bench.value is.value.bench.value × KeepsRoom was.value is.value
 
 -- What is said
 
@@ -69,11 +73,11 @@ load_over moment (Some load) = bench_over moment load.value.bench.value
 
 -- What time does
 
--- the bench of a load becomes so; the load that was made is still made
+-- the bench of a load becomes so; the load that was made is still made, and keeps its room
 abbrev pub OfLoad : (Bench → Bench → Type 0) → Option (Box Load) → Option (Box Load) → Type 0
 OfLoad Does None is = ⊥
 OfLoad Does (Some was) None = ⊥
-OfLoad Does (Some was) (Some is) = Does was.value.bench.value is.value.bench.value
+OfLoad Does (Some was) (Some is) = Does was.value.bench.value is.value.bench.value × KeepsRoom was.value is.value
 
 -- at this moment what is due of a bench is done, and how far it is is told; then what it has to say is said
 pub record SaysPassed {S : Type 0} (answers : S → SocketAddr → List ℕ → S → Type 0) (moment : ℕ) (before after : S) (was is : Bench) : Type 0 where
@@ -116,13 +120,14 @@ pub record HearsOnce {S : Type 0} (hears : S → Option (SocketAddr × ℕ) → 
   pub is_taken : taken ≡ is_some found
   pub says : SaysHeard answers moment found room looked after was is
 
--- into the room of a load that is made, which is still made
+-- into the room of a load that is made, which is still made, and keeps its room
 abbrev pub HearsIn : {S : Type 0} → (S → Option (SocketAddr × ℕ) → List ℕ → S → Type 0) → (S → SocketAddr → List ℕ → S → Type 0) → ℕ → Bool → S → S
     → Option (Box Load) → Option (Box Load) → Type 0
 HearsIn hears answers moment taken before after None is = ⊥
 HearsIn hears answers moment taken before after (Some was) None = ⊥
 HearsIn hears answers moment taken before after (Some was) (Some is) =
     HearsOnce hears answers moment (vec_len was.value.room) taken before after was.value.bench.value is.value.bench.value
+    × KeepsRoom was.value is.value
 
 -- So it is at this moment, and a datagram that has come counts as read. Where the load is over then the end has come.
 pub record HearsTelephones {S : Type 0} (hears : S → Option (SocketAddr × ℕ) → List ℕ → S → Type 0) (answers : S → SocketAddr → List ℕ → S → Type 0)

@@ -6,7 +6,7 @@ ghost use Rattle.load_bench.specs.Telephones.{CountsCame, CountsSent, Hears};
 ghost use Rattle.live_agent.specs.Clock.{milliseconds};
 ghost use Rattle.live_agent.specs.declared.loading.LoadEnding.TheVariants.{Unmade};
 ghost use Rattle.live_agent.specs.declared.loading.TheConstants.{ROOM};
-ghost use Rattle.live_agent.specs.Telephones.{end_of, load_ending, BeginsLoad, CountsFor, EndsLoad, HearsOnce, HearsTelephones, PassesLoad, Reports};
+ghost use Rattle.live_agent.specs.Telephones.{end_of, load_ending, BeginsLoad, CountsFor, EndsLoad, HearsOnce, HearsTelephones, KeepsRoom, PassesLoad, Reports};
 ghost use Rattle.live_agent.specs.Telephones.{SaysAll, SaysAndReports, SaysEach, SaysEnded, SaysOne, SaysPassed};
 ghost use Rattle.live_agent.specs.Wiring.{due_of, with_read, FallsDueOver};
 
@@ -56,14 +56,16 @@ fn milliseconds(time: u64) -> u64
 
 // That a datagram is sent, for the first time or again, at this moment, in ms, counts for a load.
 fn count_sent_in(load: &mut Load, to: SocketAddrV4, bytes: &[u8], is_repeat: bool, now: u64)
-    ensures { CountsSent to bytes.now is_repeat now load.old.bench.value load.new.bench.value }
+    ensures counts { CountsSent to bytes.now is_repeat now load.old.bench.value load.new.bench.value }
+    ensures room { KeepsRoom load.old load.new }
 {
     load.bench.sent(to, bytes, is_repeat, now);
 }
 
 // So does that one came.
 fn count_came_in(load: &mut Load, source: SocketAddrV4, bytes: &[u8], now: u64)
-    ensures { CountsCame source bytes.now now load.old.bench.value load.new.bench.value }
+    ensures counts { CountsCame source bytes.now now load.old.bench.value load.new.bench.value }
+    ensures room { KeepsRoom load.old load.new }
 {
     load.bench.came(source, bytes, now);
 }
@@ -174,6 +176,7 @@ fn pass_in<S: Surroundings>(
 ) -> bool
     ensures over { result ≡ bench_over moment load.new.bench.value }
     ensures says { SaysPassed S.answers moment around.old around.new load.old.bench.value load.new.bench.value }
+    ensures room { KeepsRoom load.old load.new }
 {
     pass(alloc, around, &mut *load.bench, out, moment)
 }
@@ -223,6 +226,7 @@ fn hear_in<S: Surroundings>(alloc: Global, around: &mut S, load: &mut Load, mome
     ensures over { result.is_over ≡ bench_over moment load.new.bench.value }
     ensures heard { HearsOnce S.hears S.answers moment (vec_len load.old.room) result.taken around.old around.new
         load.old.bench.value load.new.bench.value }
+    ensures room { KeepsRoom load.old load.new }
 {
     hear(
         alloc,
@@ -298,6 +302,7 @@ fn end_in<S: Surroundings>(
 ) -> LoadEnding
     ensures ending { result ≡ load_ending load.new.bench.value }
     ensures says { SaysAndReports S.answers now around.old around.new load.old.bench.value load.new.bench.value }
+    ensures room { KeepsRoom load.old load.new }
 {
     end_and_report(alloc, around, &mut *load.bench, now, out, file, agent)
 }

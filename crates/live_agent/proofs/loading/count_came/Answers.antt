@@ -9,4 +9,4 @@ returns-in_default-clause-counts c = counts_none (CountsCame c.args.source c.arg
 pub returns-clause-counts : goal.returns-clause-counts
 returns-clause-counts c =
     counts_for (CountsCame c.args.source c.args.bytes.now (milliseconds c.args.time)) c.args.load.now c.in-Some.load _ c.in-Some.is
-    (rw (c.deref_mut.ensures.value, c.milliseconds-now.ensures) at c.count_came_in.ensures)
+    (rw (c.deref_mut.ensures.value, c.milliseconds-now.ensures) at c.count_came_in.ensures.counts) (rw (c.deref_mut.ensures.value) at c.count_came_in.ensures.room)

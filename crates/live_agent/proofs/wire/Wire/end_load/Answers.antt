@@ -9,7 +9,8 @@ pub returns-clause-ends : goal.returns-clause-ends
 returns-clause-ends g c = λ made. record {
   says = of_load (SaysAndReports g.S.Surroundings.answers (milliseconds c.args.self.now.now.time) c.args.self.now.around c.end_in.new.around)
       c.args.self.now.load c.in-Some.load (with_value c.in-Some.load c.end_in.new.load) c.in-Some.is
-      (rw (c.deref_mut-2.ensures.value, c.milliseconds-now.ensures) at c.end_in.ensures.says);
+      (rw (c.deref_mut-2.ensures.value, c.milliseconds-now.ensures) at c.end_in.ensures.says)
+      (rw (c.deref_mut-2.ensures.value) at c.end_in.ensures.room);
   ends = c.end_in.ensures.ending;
   rest = refl;
 }

@@ -9,7 +9,8 @@ returns-clause-heard g c = λ holds.
     record {
       taken = c.hear_in-look.result.taken;
       hears_them = hears_in g.S.Surroundings.hears g.S.Surroundings.answers c.args.moment c.hear_in-look.result.taken c.args.self.now.around
-          c.hear_in-look.new.around c.args.self.now.load c.in-Some.load made c.in-Some.is (rw (c.deref_mut.ensures.value) at c.hear_in-look.ensures.heard);
+          c.hear_in-look.new.around c.args.self.now.load c.in-Some.load made c.in-Some.is (rw (c.deref_mut.ensures.value) at c.hear_in-look.ensures.heard)
+          (rw (c.deref_mut.ensures.value) at c.hear_in-look.ensures.room);
       reads = c.with_read-self.ensures;
       ends = ended_so c.args.moment made c.hear_in-look.result.is_over c.args.self.now.end _ c.hear_in-look.ensures.over c.end_of-self.ensures;
       rest = refl;

@@ -12,7 +12,8 @@ returns-clause-passes g c =
     let made = with_value c.in-Some.load c.pass_in-is_over.new.load in
     passes_some g.S.Surroundings.answers c.args.moment c.args.self.now.load c.in-Some.load c.args.self.now _ c.in-Some.is (record {
       says = of_load (SaysPassed g.S.Surroundings.answers c.args.moment c.args.self.now.around c.pass_in-is_over.new.around) c.args.self.now.load c.in-Some.load
-          made c.in-Some.is (rw (c.deref_mut-2.ensures.value) at c.pass_in-is_over.ensures.says);
+          made c.in-Some.is (rw (c.deref_mut-2.ensures.value) at c.pass_in-is_over.ensures.says)
+          (rw (c.deref_mut-2.ensures.value) at c.pass_in-is_over.ensures.room);
       ends = ended_so c.args.moment made c.pass_in-is_over.result c.args.self.now.end _ c.pass_in-is_over.ensures.over c.end_of-self.ensures;
       rest = refl;
     })
