@@ -47,8 +47,7 @@ ghost use Rattle.switchboard.specs.Dues.{FallsDueAt};
 ghost use Rattle.switchboard.specs.Example.{HasAgent};
 ghost use Rattle.switchboard.specs.Steps.{settled_in, WaitsIn};
 ghost use Rattle.switchboard.specs.Taking.{taken_place};
-ghost use Rattle.live_agent.specs.declared.loading.TheConstants.{ROOM as LOAD_ROOM};
-ghost use Rattle.live_agent.specs.declared.session.TheConstants.{ROOM};
+ghost use Rattle.live_agent.specs.declared.wire.TheConstants.{MOST_AT_ONCE};
 ghost use Rattle.live_agent.specs.Ending.{counted_in, EndsWith};
 ghost use Rattle.live_agent.specs.Handing.{comes_in, HandsFirst, HandsLast, Leaves, Offers, OffersTo, SendsEachOn, SendsOn, TakesOffer};
 ghost use Rattle.live_agent.specs.Sending.{GoesOut, SendsAll, SendsCommand, SendsOne, SendsOutputs, SendsOver, SettlesLines};
@@ -196,7 +195,7 @@ pub fn what_a_datagram_does_has_examples()
     ensures waits_then { (line : ℕ) (board now : Switchboard) (was is : Wire ℕ) (takes : TakesNext sends_any 0 0 board was now is) → takes.found ≡ true →
         taken_place 0 (slice_get board.gateways.items 0) board.notifying ≡ Some line → WaitsIn line takes.taken.office }
     ensures room { (board now : Switchboard) (was is : Wire ℕ) (looks : TakesLooked sends_any receives_any board was now is) →
-        length looks.room ≡ ROOM }
+        length looks.room ≡ 4001 }
     ensures logs_nothing { (board now : Switchboard) (was is : Wire ℕ) (takes : TakesNext sends_any 0 0 board was now is) →
         (takes.told.journal.value.log ≡ was.journal.value.log) × (takes.told.journal.value.capture ≡ was.journal.value.capture) }
     ensures no_line { (board now : Switchboard) (was is : Wire ℕ) → TakesEach sends_any 0 0 board was now is → now ≡ board }
@@ -300,7 +299,7 @@ pub fn what_telephones_are_told_has_examples()
     ensures unmade_for { (bench : Bench) → bench.course.value.fault ≡ Some faults.NoLines → load_ending bench ≡ loads.Unmade faults.NoLines }
     ensures unmade_at_all { ending_in None ≡ loads.Unmade faults.OutOfMemory }
     ensures begins_with_room { (before after : ℕ) (asked : Bench) (load : Box Load) → SaysTo answers_any before asked after (Some load) →
-        vec_len load.value.room ≡ LOAD_ROOM }
+        vec_len load.value.room ≡ 65536 }
     ensures hears_in_room { (before after : ℕ) (was is : Bench) (hears : HearsOnce hears_any answers_any 700 4001 true before after was is) →
         length hears.room ≡ 4001 }
     // Where they said nothing, nothing is said to them; what they say counts as read.
@@ -351,6 +350,8 @@ pub fn what_a_tick_does_has_examples()
     ensures goes_on { (gateway after : Gateway) (events : List AgentEvent) (board now : Switchboard) (was is : Wire ℕ)
         (ticks : TicksOne sends_any 700 0 board was now is) → board.gateways.items ≡ gateway ∷ [] → now.gateways.items ≡ after ∷ [] →
         gateway.ticked ≡ 500 → AgentStands gateway.agent.value events → HasAgent 500 [] gateway → result_err ticks.outputs ≡ None }
+    // So many are given up, woken, or handed over at most at a turn.
+    ensures most { MOST_AT_ONCE ≡ 65535 }
     // What is given up counts.
     ensures none_given_up { (board now : Switchboard) (was is : Wire ℕ) → GivesUpMany sends_any 0 0 board was now is → (now ≡ board) × (is ≡ was) }
     ensures counts { (board now : Switchboard) (was is : Wire ℕ) → GivesUpNext true 0 board was now is →
