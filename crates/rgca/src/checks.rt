@@ -1,6 +1,6 @@
 //! Checks a gateway as words ask, or tells which checks there are.
-ghost use Rattle.std.specs.Prelude.{[], IfOk};
-ghost use Rattle.rgca.specs.Endings.{Unchecked};
+ghost use Rattle.std.specs.Prelude.{◌≡◌, [], true, false, IfOk};
+ghost use Rattle.rgca.specs.Endings.{asks_for_list, AskedEnds, CheckEnds, ListEnds, ReportEnds, Unchecked};
 ghost use Rattle.rgca_words.specs.Names.{name_of, Says};
 
 use live_checks::{CheckFault, Checked, check_gateway, check_list, fault_text};
@@ -36,7 +36,9 @@ fn failed<F: Write + Drop>(
     words: &CheckWords<'_>,
     out: &mut Outlet<F>,
     ending: Ending,
-) -> Ending {
+) -> Ending
+    ensures { result ≡ ending }
+{
     if words.settings.is_json
         && let Ok(line) = fault_line(alloc, &ending, words.named())
     {
@@ -70,7 +72,9 @@ fn reported<R: AllocGlobal + Files, F: Write + Drop>(
     words: &CheckWords<'_>,
     checked: &Checked,
     out: &mut Outlet<F>,
-) -> Ending {
+) -> Ending
+    ensures { ReportEnds checked.now.status words.now.junit result }
+{
     let status = checked.status;
     let Some(file) = words.junit else {
         return Ending::Checked { status };
@@ -85,11 +89,14 @@ fn reported<R: AllocGlobal + Files, F: Write + Drop>(
 }
 
 // Checks a gateway as these words ask.
+#[tactic(auto, unfolding(crate::specs::Endings::CheckEnds))]
 fn check_by<R: AllocGlobal + Files + Net + Clock, F: Write + Drop>(
     rt: &R,
     words: &CheckWords<'_>,
     out: &mut Outlet<F>,
-) -> Ending {
+) -> Ending
+    ensures { CheckEnds words.now result }
+{
     let checked = match check_gateway(rt, &words.settings, out) {
         Ok(checked) => checked,
         Err(fault) => {
@@ -106,13 +113,16 @@ fn check_said<R: AllocGlobal + Files + Net + Clock, F: Write + Drop>(
     words: &CheckWords<'_>,
     out: &mut Outlet<F>,
 ) -> Said
-    ensures { IfOk result.text (λ text. Says [] (name_of words.now.junit) [] result.ending text.items) }
+    ensures ends { CheckEnds words.now result.ending }
+    ensures says { IfOk result.text (λ text. Says [] (name_of words.now.junit) [] result.ending text.items) }
 {
     check_by(rt, words, out).said(rt.alloc(), words.named())
 }
 
 // Tells which checks there are.
-fn listed<F: Write + Drop>(alloc: Global, out: &mut Outlet<F>) -> Ending {
+fn listed<F: Write + Drop>(alloc: Global, out: &mut Outlet<F>) -> Ending
+    ensures { ListEnds result }
+{
     let Ok(list) = check_list(alloc) else {
         return Ending::Common(CommonEnding::OutOfMemory);
     };
@@ -126,7 +136,9 @@ fn listed<F: Write + Drop>(alloc: Global, out: &mut Outlet<F>) -> Ending {
 }
 
 // Whether these words, of which the first is `check`, ask which checks there are.
-fn asks_for_list(words: &[String]) -> bool {
+fn asks_for_list(words: &[String]) -> bool
+    ensures { result ≡ asks_for_list words.now }
+{
     match words {
         [_, word] => word.as_str() == "--list",
         _ => false,
@@ -134,11 +146,15 @@ fn asks_for_list(words: &[String]) -> bool {
 }
 
 /// How the program ends by a check with these words, of which the first is `check`, and what it says then.
+#[tactic(auto, unfolding(crate::specs::Endings::AskedEnds))]
 pub fn checked<R: AllocGlobal + Files + Net + Clock, F: Write + Drop>(
     rt: &R,
     words: &[String],
     outlets: &mut Outlets<F>,
-) -> Said {
+) -> Said
+    ensures list { asks_for_list words.now ≡ true → ListEnds result.ending }
+    ensures checks { asks_for_list words.now ≡ false → AskedEnds result.ending }
+{
     if asks_for_list(words) {
         return listed(rt.alloc(), &mut outlets.output).said(rt.alloc(), Named::nothing());
     }
