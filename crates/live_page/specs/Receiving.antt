@@ -1,6 +1,7 @@
 -- What a turn of the site's does: who is late goes, what was told of its sockets is noted, somebody may be let in, and requests of one of
 -- its visitors are answered, by a board.
-use Rattle.std.specs.Prelude.{◌≡◌, ℕ, true, false, ◌||◌, List, [], ◌∷◌, map, replicate, slice_get, slice_set, Option, None, Some, option_map, IfSome, IsSomeAnd}
+use Rattle.std.specs.Prelude.{◌≡◌, ℕ, true, false, ◌||◌, List, [], ◌∷◌, map, replicate, slice_get, slice_set}
+use Rattle.std.specs.Prelude.{Option, None, Some, option_map, IfSome, IsSomeAnd}
 use Rattle.std.specs.Global.{Box}
 use Rattle.std.specs.declared.net.ipv4_addr.Ipv4Addr.{Ipv4Addr}
 use Rattle.std.specs.declared.net.socket_addr.SocketAddr.{SocketAddr}
@@ -85,7 +86,8 @@ LetsIn now LetIn was is =
 LetsIn now TurnedAway was is = (was.may_accept ≡ true) × (is.may_accept ≡ true) × (is.places.items ≡ was.places.items)
 
 -- whoever has this place has a turn at this moment, and nobody else
-pub record ServesAt (site : SocketAddrV4) (place : ℕ) (now : ℕ) (was : Site) (board : BoardState) (is : Site) (shown : BoardState) : Type 0 where
+pub record ServesAt (site : SocketAddrV4) (place : ℕ) (now : ℕ) (was : Site) (board : BoardState) (is : Site) (shown : BoardState)
+    : Type 0 where
   pub served : IfSome (slice_get was.places.items place) (λ held.
       IsSomeAnd (slice_get is.places.items place) (λ left. ServesPlace site (names_of was.names) now held board left shown))
   pub others : is.places.items ≡ with_place place (slice_get is.places.items place) was.places.items
@@ -100,7 +102,8 @@ ServesNext (Some site) (Some place) now was board is shown = ServesAt site place
 -- A turn of the site's, at this moment. Those whose time is over go, and nobody else does. What was told of its sockets is noted of each
 -- visitor, and told no more. Somebody may be let in. Of the visitors who are there then the next has a turn, by this board, at the address
 -- and under the names that the site has.
-pub record ServesOne (was : Site) (told : Readiness) (board : BoardState) (now : ℕ) (is : Site) (after : Readiness) (shown : BoardState) : Type 0 where
+pub record ServesOne (was : Site) (told : Readiness) (board : BoardState) (now : ℕ) (is : Site) (after : Readiness) (shown : BoardState)
+    : Type 0 where
   pub closed : Site
   pub late : closed.places.items ≡ map (stays_at now) was.places.items
   pub waiting : closed.may_accept ≡ was.may_accept

@@ -9,6 +9,7 @@ use Rattle.std.specs.declared.net.socket_addr.SocketAddrV4.{SocketAddrV4}
 use Rattle.http.specs.declared.request.Request.{Request}
 use Rattle.http.specs.Request.{head_of, body_of}
 use Rattle.http_server.specs.declared.response.Response.{Response}
+use Rattle.http_server.specs.declared.state.Config.{Config}
 use Rattle.http_server.specs.Connection.{config_of, history}
 use Rattle.http_server.specs.Exchange.{Call, Chain}
 use Rattle.http_server.specs.History.{IsDone, IsQuiet, Rests, WantsRead, new_history, after_read, after_sent}
@@ -17,15 +18,30 @@ use Rattle.live_ends.specs.declared.readiness.Visit.{Visit}
 use Rattle.live_ends.specs.Looking.{is_visit}
 use Rattle.page_access.specs.Asking.{asked_of}
 use Rattle.page_board.specs.Showing.{BoardState}
-use Rattle.live_page.specs.declared.visitor.TheConstants.{LIMITS, PATIENCE}
 use Rattle.live_page.specs.declared.visitor.Visitor.{Visitor}
 use Rattle.live_page.specs.Serving.{Answered}
+
+-- Limits
+
+-- how long a visitor may take for a request and its answer, in ms, and be silent between them
+abbrev pub patience : ℕ
+patience = 15000
+
+-- How many bytes are held of a visitor at most: of the head of a request, of what comes with a body in parts, and of a body. No request is
+-- read while so many wait to be sent.
+abbrev pub most_held : Config
+most_held = record {
+  limits = record { max_head_len = 8192; max_extensions_len = 1024; max_trailers_len = 1024 };
+  max_body_len = 1024;
+  max_pending = 65536;
+  read_size = 2048;
+}
 
 -- Who comes
 
 -- until when a visitor is waited for from this moment on
 abbrev pub patience_from : ℕ → ℕ
-patience_from now = sum_within now PATIENCE
+patience_from now = sum_within now patience
 
 -- Somebody has come from this address, at this moment, and is waited for from then on. They have asked for nothing yet; their socket may
 -- have something already, and room, so they have a turn. So much is held of them at most.
@@ -36,7 +52,7 @@ pub record IsNew (host : Ipv4Addr) (now : ℕ) (visitor : Visitor) : Type 0 wher
   pub writes : visitor.may_write ≡ true
   pub turn : visitor.has_turn ≡ true
   pub asked : history visitor.connection ≡ new_history
-  pub limits : config_of visitor.connection ≡ LIMITS
+  pub limits : config_of visitor.connection ≡ most_held
 
 -- what was told of a visitor's socket: where something was, they have a turn
 abbrev pub noted : Visit → Visitor → Visitor
@@ -72,7 +88,8 @@ abbrev pub IsAnswered : Visitor → Type 0
 IsAnswered visitor = Rests (config_of visitor.connection) (history visitor.connection)
 
 -- what has come of a visitor is answered; nothing is read meanwhile, and nothing goes
-pub record AnswersAll (site : SocketAddrV4) (names : List (List ℕ)) (was : Visitor) (board : BoardState) (is : Visitor) (shown : BoardState) : Type 0 where
+pub record AnswersAll (site : SocketAddrV4) (names : List (List ℕ)) (was : Visitor) (board : BoardState) (is : Visitor) (shown : BoardState)
+    : Type 0 where
   pub answers : AnswersVisitor site names was board is shown
   pub all : IsAnswered is
   pub quiet : IsQuiet (history was.connection) (history is.connection)
@@ -101,7 +118,8 @@ ReadsSo now was (Ok count) stays is =
     × (config_of is.connection ≡ config_of was.connection)
     × (is ≡ record was { stream = is.stream; connection = is.connection; seat = record was.seat { active = now } })
 ReadsSo now was (Err fault) stays is =
-    (IsTrue stays ↔ IsWaiting fault) × (history is.connection ≡ history was.connection) × (config_of is.connection ≡ config_of was.connection)
+    (IsTrue stays ↔ IsWaiting fault) × (history is.connection ≡ history was.connection)
+    × (config_of is.connection ≡ config_of was.connection)
     × (is ≡ record was { stream = is.stream; connection = is.connection; may_read = false })
 
 -- a visitor's socket is read once at this moment, where that may give something

@@ -1,7 +1,8 @@
 //! Worked examples of the definitions, as theorems: each sentence of a definition has one that a slip in it breaks.
 #![tactic(auto, unfolding(crate::proofs::Computing::on_examples))]
 
-ghost use Rattle.std.specs.Prelude.{◌≡◌, ◌≢◌, ◌-◌, ◌^◌, ℕ, codes, length, map, true, false, Bool, List, [], ◌∷◌, Option, Some, None, Ok, Err};
+ghost use Rattle.std.specs.Prelude.{◌≡◌, ◌≢◌, ◌-◌, ◌^◌, ℕ, codes, length, map, true, false, Bool, List, [], ◌∷◌};
+ghost use Rattle.std.specs.Prelude.{Option, Some, None, Ok, Err};
 ghost use Rattle.std.specs.Global.{Box};
 ghost use Rattle.std.specs.IoError.{error_kind};
 ghost use Rattle.std.specs.declared.io.Error.{Error};
@@ -14,8 +15,12 @@ ghost use Rattle.http_server.specs.History.{IsDone};
 ghost use Rattle.live_ends.specs.declared.readiness.TheConstants.{MOST_VISITORS};
 ghost use Rattle.live_ends.specs.Looking.{no_visit};
 ghost use Rattle.page_board.specs.Showing.{BoardState};
+ghost use Rattle.page_files.specs.declared.page.TheConstants.{PAGE};
+ghost use Rattle.page_files.specs.declared.script.TheConstants.{SCRIPT};
+ghost use Rattle.page_files.specs.declared.style.TheConstants.{STYLE};
 ghost use Rattle.page_access.specs.declared.asked.Asked.TheVariants.{Strange, Reading, Acting, Forbidden, Unsuited, Missing};
-ghost use Rattle.page_access.specs.declared.route.Route.TheVariants.{Page, Style, Script, State, Metrics, Health, Ready, Events, Phone, Nothing};
+ghost use Rattle.page_access.specs.declared.route.Route.TheVariants.{Page, Style, Script, State, Metrics, Health, Ready};
+ghost use Rattle.page_access.specs.declared.route.Route.TheVariants.{Events, Phone, Nothing};
 ghost use Rattle.page_answers.specs.declared.answers.ActOutcome.TheVariants.{Queued, NoRoom, Unreadable};
 ghost use Rattle.live_page.specs.declared.fields.Content.TheVariants as contents;
 ghost use Rattle.live_page.specs.declared.site.Came.{Came};
@@ -25,8 +30,11 @@ ghost use Rattle.live_page.specs.declared.visitor.Visitor.{Visitor};
 ghost use Rattle.live_page.specs.Fields.{kind_of, policy, kind_fields, fields_at};
 ghost use Rattle.live_page.specs.Health.{alive_text, ready_text};
 ghost use Rattle.live_page.specs.Statuses.{is_refused, reading_status, refusal_status, refusal_fields, outcome_status};
-ghost use Rattle.live_page.specs.Visiting.{calls_of, noted, patience_from, AnswersAll, EndsTurn, IsNew, ReadsOnce, ReadsSo, TakesTurn, WritesOnce, WritesSo, WritesTurn};
-ghost use Rattle.live_page.specs.Receiving.{host_of, noted_each, seat_in, visitor_in, IsOpened, LetsIn, SeatsAt};
+ghost use Rattle.live_page.specs.Serving.{file_at};
+ghost use Rattle.live_page.specs.Visiting.{calls_of, noted, patience_from, AnswersAll, EndsTurn, IsAnswered, IsNew};
+ghost use Rattle.live_page.specs.Visiting.{ReadsOnce, ReadsSo, TakesTurn, WritesOnce, WritesSo, WritesTurn};
+ghost use Rattle.live_page.specs.Receiving.{host_of, noted_each, seat_in, visitor_in, with_place, IsOpened, LetsIn, SeatsAt};
+ghost use Rattle.live_page.specs.Receiving.{ServesNext, ServesPlace};
 ghost use Rattle.live_page.specs.Example.{readable, writable};
 ghost use Rattle.live_page.specs.Waiting.{sooner, soonest_from, is_late, stays_at, next_turn};
 
@@ -93,6 +101,8 @@ pub fn who_comes_has_examples()
         → (visitor.may_read ≡ true) × (visitor.may_write ≡ true) × (visitor.has_turn ≡ true) }
     ensures asks_for_nothing { (host : Ipv4Addr) (visitor : Visitor) → IsNew host 5 visitor
         → (calls_of visitor ≡ []) × ((config_of visitor.connection).max_body_len ≡ 1024) }
+    ensures held { (host : Ipv4Addr) (visitor : Visitor) → IsNew host 5 visitor → ((config_of visitor.connection).limits.max_head_len ≡ 8192)
+        × ((config_of visitor.connection).max_pending ≡ 65536) }
     ensures told_readable { (was : Visitor) → was.may_read ≡ false → ((noted readable was).may_read ≡ true)
         × ((noted readable was).has_turn ≡ true) }
     ensures told_writable { (was : Visitor) → was.may_write ≡ false → ((noted writable was).may_write ≡ true)
@@ -134,8 +144,8 @@ pub fn who_is_written_to_has_examples()
         EndsTurn site names true was board false is shown → IsDone (history is.connection) }
 {}
 
-/// Who is answered stays who they are, and nothing is read or goes meanwhile. Whose socket failed is answered nothing. Who can't be read nor
-/// written has no turn. Who has had one comes from where they came.
+/// Who is answered stays who they are, and nothing is read or goes meanwhile. Whose socket failed is answered nothing. Who can't be read
+/// nor written has no turn. Who has had one comes from where they came.
 pub fn who_has_a_turn_has_examples()
     ensures answered { (site : SocketAddrV4) (names : List (List ℕ)) (was is : Visitor) (board shown : BoardState) →
         AnswersAll site names was board is shown → (is.seat ≡ was.seat) × (is.deadline ≡ was.deadline) × (is.may_read ≡ was.may_read) }
@@ -162,12 +172,41 @@ pub fn who_has_places_has_examples()
     ensures visitor { (one : Box Visitor) → map visitor_in (Some one ∷ None ∷ []) ≡ Some one.value ∷ None ∷ [] }
     ensures host { (host : Ipv4Addr) → host_of (V4 (record { ip = host; port = 80 })) ≡ host }
     ensures seated { (host : Ipv4Addr) (one : Box Visitor) (are : List (Option (Box Visitor)))
-        → SeatsAt (Some 1) host 5 (Some one ∷ None ∷ []) are → (visitor : Box Visitor) × (visitor.value.seat.active ≡ 5) × (are ≡ Some one ∷ Some visitor ∷ []) }
+        → SeatsAt (Some 1) host 5 (Some one ∷ None ∷ []) are
+        → (visitor : Box Visitor) × (visitor.value.seat.active ≡ 5) × (are ≡ Some one ∷ Some visitor ∷ []) }
     ensures unseated { (host : Ipv4Addr) (were are : List (Option (Box Visitor))) → SeatsAt None host 5 were are → are ≡ were }
     ensures nobody { (came : Came) (was is : Site) → was.may_accept ≡ false → LetsIn 5 came was is
         → (is.places.items ≡ was.places.items) × (is.may_accept ≡ false) }
     ensures let_in { (was is : Site) → LetsIn 5 LetIn was is → is.may_accept ≡ true }
     ensures turned_away { (was is : Site) → LetsIn 5 TurnedAway was is → (is.places.items ≡ was.places.items) × (is.may_accept ≡ true) }
+{}
+
+/// Whoever has the place whose turn it is has one, and nobody else's place changes; where there is nobody, or it is nobody's turn, or the
+/// page's address isn't known, all stays.
+pub fn whose_turn_it_is_has_examples()
+    ensures free { (site : SocketAddrV4) (names : List (List ℕ)) (is : Option (Box Visitor)) (board shown : BoardState) →
+        ServesPlace site names 70 None board is shown → (is ≡ None) × (shown ≡ board) }
+    ensures stays { (site : SocketAddrV4) (names : List (List ℕ)) (was is : Box Visitor) (board shown : BoardState) →
+        ServesPlace site names 70 (Some was) board (Some is) shown
+        → IsAnswered is.value × TakesTurn site names 70 was.value board true is.value shown }
+    ensures goes { (site : SocketAddrV4) (names : List (List ℕ)) (was : Box Visitor) (board shown : BoardState) →
+        ServesPlace site names 70 (Some was) board None shown
+        → (gone : Visitor) × TakesTurn site names 70 was.value board false gone shown }
+    ensures let_go { (one two : Box Visitor) → with_place 1 (Some None) (Some one ∷ Some two ∷ []) ≡ Some one ∷ None ∷ [] }
+    ensures no_place { (one : Box Visitor) → with_place 5 None (Some one ∷ []) ≡ Some one ∷ [] }
+    ensures unknown { (was is : Site) (board shown : BoardState) → ServesNext None (Some 3) 70 was board is shown
+        → (is ≡ was) × (shown ≡ board) }
+    ensures nobody { (site : SocketAddrV4) (was is : Site) (board shown : BoardState) → ServesNext (Some site) None 70 was board is shown
+        → (is ≡ was) × (shown ≡ board) }
+    ensures next { (site : SocketAddrV4) (was is : Site) (board shown : BoardState) →
+        ServesNext (Some site) (Some 3) 70 was board is shown → (is.last ≡ 3) × (is.may_accept ≡ was.may_accept) }
+{}
+
+/// A file stands at its own route, and none where something else is told.
+pub fn which_file_stands_where_has_examples()
+    ensures files { map file_at (Page ∷ Style ∷ Script ∷ []) ≡ Some PAGE.now ∷ Some STYLE.now ∷ Some SCRIPT.now ∷ [] }
+    ensures none { map file_at (State ∷ Metrics ∷ Health ∷ Ready ∷ Events 5 ∷ Phone ∷ Nothing ∷ [])
+        ≡ None ∷ None ∷ None ∷ None ∷ None ∷ None ∷ None ∷ [] }
 {}
 
 /// What is read says of what kind it is, and what a browser may make of it; what isn't there says nothing.

@@ -3,7 +3,8 @@ ghost use Rattle.std.specs.Prelude.{◌≡◌, ◌||◌, None, IfOk, IfSome, IsS
 ghost use Rattle.live_ends.specs.Looking.{no_visit};
 ghost use Rattle.page_access.specs.Naming.{names_of};
 ghost use Rattle.page_access.specs.Places.{place_for};
-ghost use Rattle.live_page.specs.Receiving.{host_of, seat_in, visitor_in, noted_in, noted_each, IsOpened, SeatsAt, LetsIn, ServesPlace, with_place, ServesNext};
+ghost use Rattle.live_page.specs.Receiving.{host_of, seat_in, visitor_in, noted_in, noted_each, with_place};
+ghost use Rattle.live_page.specs.Receiving.{IsOpened, SeatsAt, LetsIn, ServesPlace, ServesNext};
 ghost use Rattle.live_page.specs.Waiting.{deadline_of, sooner, soonest_from, is_late, stays_at, has_more, is_behind, turn_from, next_turn};
 
 use crate::desk::Desk;

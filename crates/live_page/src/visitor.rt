@@ -1,7 +1,8 @@
 //! A visitor: a browser's connection, with the moment until which it is waited for.
 ghost use Rattle.std.specs.Prelude.{◌≡◌, ◌⊎◌, ◌↔◌, IsTrue, IfOk};
 ghost use Rattle.page_access.specs.Naming.{names_of};
-ghost use Rattle.live_page.specs.Visiting.{calls_of, noted, AnswersAll, AnswersVisitor, CanRead, CanWrite, IsAnswered, IsNew, IsWaiting, ReadsOnce, TakesTurn, WritesOnce};
+ghost use Rattle.live_page.specs.Visiting.{calls_of, noted, AnswersAll, AnswersVisitor, CanRead, CanWrite, IsAnswered};
+ghost use Rattle.live_page.specs.Visiting.{IsNew, IsWaiting, ReadsOnce, TakesTurn, WritesOnce};
 
 use crate::desk::Desk;
 use http_server::{Config, Connection};

@@ -14,6 +14,10 @@ returns-clause-ready c = λ host visitor new. (new.reads, new.writes, new.turn)
 pub returns-clause-asks_for_nothing : goal.returns-clause-asks_for_nothing
 returns-clause-asks_for_nothing c = λ host visitor new. (ap (λ (h : History). h.calls) new.asked, ap (λ (l : Config). l.max_body_len) new.limits)
 
+pub returns-clause-held : goal.returns-clause-held
+returns-clause-held c = λ host visitor new.
+    (ap (λ (l : Config). l.limits.max_head_len) new.limits, ap (λ (l : Config). l.max_pending) new.limits)
+
 pub returns-clause-told_readable : goal.returns-clause-told_readable
 returns-clause-told_readable c = λ was none. (ap (λ (b : Bool). b || true) none, refl)
 
