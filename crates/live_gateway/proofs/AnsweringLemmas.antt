@@ -12,6 +12,7 @@ use Rattle.plain_machine.specs.Lists.{plain}
 use Rattle.plain_machine.specs.Refusing.{Ends, refusal_of}
 use Rattle.gateway_rules.specs.declared.refusal.Refusal.{Refusal}
 use Rattle.traces.specs.Writing.{Input, typed}
+use Rattle.surroundings.specs.Speaking.{Admitted}
 use Rattle.surroundings.specs.declared.surroundings.Fault.{Fault}
 use Rattle.live_play.specs.Running.{Live, RanOf, TakesBy, Refuses, Asked}
 use Rattle.live_telephones.specs.Asking.{usage}
@@ -19,34 +20,35 @@ use Rattle.live_telephones.specs.Watching.{AnswersWatch, BeginsToSee, IsUnasked}
 use Rattle.live_telephones.specs.declared.watch.Watch.{Watch}
 use Rattle.live_gateway.specs.declared.exchange.Exchange.{Exchange}
 use Rattle.live_gateway.specs.Desk.{Standing, with_input}
-use Rattle.live_gateway.specs.Exchanging.{IsTold, HandsOver, Notes, TakesOver}
+use Rattle.live_gateway.specs.Exchanging.{IsTold, HandsOver, NotesTaken, NotesRefused, TakesOver}
 use Rattle.live_gateway.proofs.OverLemmas.{takes_over}
 use Rattle.live_gateway.specs.Answering.{no_memory, IsActAnswer, TriesAct, Asks, IsPut, AsksToWatch}
 
 -- an act was taken over an exchange, or refused, and that is answered
-pub tries_act : {S A : Type 0} (sends : S → SocketAddrV4 → List ℕ → Result ⊤ Fault → S → Type 0) (text : List ℕ) (line : ℕ) (act : Act)
-    (done : Result A Refusal) (printed answer : List ℕ) (was mid is : Standing) (from sent to : Exchange S)
+pub tries_act : {S A : Type 0} (sends : S → SocketAddrV4 → List ℕ → Result ⊤ Fault → S → Type 0) (admitted : Admitted) (text : List ℕ)
+    (line : ℕ) (act : Act) (done : Result A Refusal) (printed answer : List ℕ) (was mid is : Standing) (from sent to : Exchange S)
     → OnOk done (TakesBy (λ a gateway b. IsTold a gateway b) (λ a at bytes own mark b. HandsOver sends a at bytes own mark b)
     was.live from (typed text) (phone line act) mid.live sent)
     → OnErr done (sent ≡ from) → IfErr done (λ refusal. Refuses was.live text (phone line act) refusal printed mid.live)
-    → Notes (not (is_ok done)) sent to → mid.came.refused ≡ was.came.refused → is ≡ with_input (not (is_ok done)) mid
+    → OnOk done (NotesTaken admitted (phone line act) mid.live.gateway sent to) → OnErr done (NotesRefused (phone line act) sent to)
+    → mid.came.refused ≡ was.came.refused → is ≡ with_input (not (is_ok done)) mid
     → IsActAnswer done printed answer
     → ((events : List GatewayEvent) → Stands was.live.gateway events → refusal_of (plain was.live.gateway.setup events) (phone line act) ≡ None
     → Ends (plain was.live.gateway.setup events) (phone line act) (result_err done))
-    → TriesAct sends text line act answer was from is to
-tries_act sends text line act (Ok done) printed answer was mid is from sent to takes stays misses notes counts same says ends =
+    → TriesAct sends admitted text line act answer was from is to
+tries_act sends admitted text line act (Ok done) printed answer was mid is from sent to takes stays misses notes lacks counts same says ends =
     inl (
-      subst (λ (s : Standing). TakesOver sends was.live from (typed text) (phone line act) s.live to) (sym same)
-          (takes_over sends was.live from sent to (typed text) (phone line act) mid.live takes notes),
+      subst (λ (s : Standing). TakesOver sends admitted was.live from (typed text) (phone line act) s.live to) (sym same)
+          (takes_over sends admitted was.live from sent to (typed text) (phone line act) mid.live takes notes),
       ap (λ (s : Standing). s.came.refused) same ∙ counts,
       says.done_so,
     )
-tries_act {S} sends text line act (Err refusal) printed answer was mid is from sent to takes stays misses notes counts same says ends =
+tries_act {S} sends admitted text line act (Err refusal) printed answer was mid is from sent to takes stays misses notes lacks counts same says ends =
     inr (
       refusal,
       printed,
       subst (λ (s : Standing). Refuses was.live text (phone line act) refusal printed s.live) (sym same) misses,
-      subst (λ (x : Exchange S). Notes true x to) stays notes,
+      subst (λ (x : Exchange S). NotesRefused (phone line act) x to) stays lacks,
       ap (λ (s : Standing). s.came.refused) same ∙ ap (λ (n : ℕ). counted n 1) counts,
       λ e. says.memory (rw e refl),
       says.refused,

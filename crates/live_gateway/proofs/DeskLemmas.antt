@@ -4,12 +4,15 @@ use Rattle.std.specs.List.{AllByRecursion}
 use Rattle.std.specs.Prelude.{not, is_ok, Result, Ok, Err, OnOk, OnErr}
 use Rattle.std.specs.declared.net.socket_addr.SocketAddrV4.{SocketAddrV4}
 use Rattle.surroundings.specs.Sending.{Received, Traffic, Grows}
+use Rattle.surroundings.specs.Speaking.{Admitted}
 use Rattle.surroundings.proofs.TrafficLemmas.{grows_nothing, nothing_more, grows_on}
 use Rattle.gateway_core.specs.Wire.{counted}
 use Rattle.gateway_core.proofs.ServeLemmas.{counted_on}
+use Rattle.gateway_texts.specs.declared.outcome.TextOutcome.{TextOutcome}
 use Rattle.gateway_core.specs.Stands.{Stands}
 use Rattle.plain_machine.specs.declared.setup.Setup.{Setup}
 use Rattle.plain_machine.specs.Event.{GatewayEvent, datagram, tick}
+use Rattle.plain_machine.specs.declared.label.SentMessage.{SentMessage}
 use Rattle.plain_machine.specs.Lists.{plain}
 use Rattle.rgw_scripts.specs.Moves.{give, sends}
 use Rattle.mg_bytes.specs.Lines.{is_line_feed}
@@ -25,7 +28,8 @@ use Rattle.live_gateway.specs.declared.exchange.Exchange.{Exchange}
 use Rattle.live_play.specs.declared.play.LivePlay.{LivePlay}
 use Rattle.live_gateway.specs.Admitting.{heard_of, HeardSince}
 use Rattle.live_gateway.specs.Desk.{Standing, at_desk, with_input, GoesOnBy, GoesOn}
-use Rattle.live_gateway.specs.Exchanging.{handed_by, came_by, refusals}
+use Rattle.live_gateway.specs.Exchanging.{handed_by, received_by, came_by, refusals, Explains, Notes}
+use Rattle.live_gateway.specs.Leaving.{OnlyTells}
 use Rattle.live_gateway.proofs.HearingLemmas.{heard_both}
 
 -- ---- what is counted
@@ -50,10 +54,44 @@ standing_of told traffic play exchange = record {
 }
 
 -- that an input was taken or refused is noted
-pub counted_so : {S T : Type 0} (told : T → Option (List ℕ)) (traffic : S → Traffic) (play : LivePlay T) (mid new : Exchange S) (is_refused : Bool)
-    → new.network ≡ mid.network → traffic new.around ≡ traffic mid.around → new.faults.refused ≡ refusals is_refused mid.faults.refused
-    → standing_of told traffic play new ≡ with_input is_refused (standing_of told traffic play mid)
-counted_so told traffic play mid new is_refused network around refused = rw (network, around, refused) refl
+pub counted_by : {S T : Type 0} (told : T → Option (List ℕ)) (traffic : S → Traffic) (play : LivePlay T) (mid new : Exchange S) (is_taken : Bool)
+    (admitted : Admitted) (sent : List SentMessage) → Notes is_taken admitted sent mid new
+    → standing_of told traffic play new ≡ with_input (not is_taken) (standing_of told traffic play mid)
+counted_by {S} told traffic play mid new true admitted sent notes = ap (λ (x : Exchange S). standing_of told traffic play x) notes.1
+counted_by {S} told traffic play mid new false admitted sent notes = ap (λ (x : Exchange S). standing_of told traffic play x) notes
+
+-- so it is where something was said of a datagram before that
+explained_still : {S T : Type 0} (told : T → Option (List ℕ)) (traffic : S → Traffic) (play : LivePlay T) (was is : Exchange S) (is_taken : Bool)
+    (outcomes : List TextOutcome) (source : SocketAddrV4) (bytes : List ℕ) → Explains is_taken outcomes source bytes was is
+    → standing_of told traffic play is ≡ standing_of told traffic play was
+explained_still {S} told traffic play was is true outcomes source bytes says = ap (λ (x : Exchange S). standing_of told traffic play x) says.1
+explained_still {S} told traffic play was is false outcomes source bytes says = ap (λ (x : Exchange S). standing_of told traffic play x) says.1
+
+pub counted_in : {S T : Type 0} (told : T → Option (List ℕ)) (traffic : S → Traffic) (play : LivePlay T) (was mid new : Exchange S) (is_taken : Bool)
+    (outcomes : List TextOutcome) (source : SocketAddrV4) (bytes : List ℕ) (admitted : Admitted) (sent : List SentMessage)
+    → Explains is_taken outcomes source bytes was mid → Notes is_taken admitted sent mid new
+    → standing_of told traffic play new ≡ with_input (not is_taken) (standing_of told traffic play was)
+counted_in told traffic play was mid new is_taken outcomes source bytes admitted sent says notes =
+    counted_by told traffic play mid new is_taken admitted sent notes
+    ∙ ap (λ (s : Standing). with_input (not is_taken) s) (explained_still told traffic play was mid is_taken outcomes source bytes says)
+
+-- and where somebody was answered behind it
+told_still : {S T : Type 0} (told : T → Option (List ℕ)) (traffic : S → Traffic) (play : LivePlay T) (was is : Exchange S) → OnlyTells was is
+    → traffic is.around ≡ traffic was.around → standing_of told traffic play is ≡ standing_of told traffic play was
+told_still {S} told traffic play was is tells kept =
+    ap (λ (x : Exchange S). standing_of told traffic play x) tells
+    ∙ ap (λ (t : Traffic).
+    let s : Standing = record {
+      live = live play.gateway.value play.script (told play.teller) (handed_by was.network t.sent);
+      came = record { received = received_by was.network t.received; refused = was.faults.refused };
+    } in s) kept
+
+pub counted_behind : {S T : Type 0} (told : T → Option (List ℕ)) (traffic : S → Traffic) (play : LivePlay T) (was mid new : Exchange S) (is_taken : Bool)
+    (admitted : Admitted) (sent : List SentMessage) → Notes is_taken admitted sent was mid → OnlyTells mid new
+    → traffic new.around ≡ traffic mid.around
+    → standing_of told traffic play new ≡ with_input (not is_taken) (standing_of told traffic play was)
+counted_behind told traffic play was mid new is_taken admitted sent notes tells kept =
+    told_still told traffic play mid new tells kept ∙ counted_by told traffic play was mid is_taken admitted sent notes
 
 -- ---- one after the other
 

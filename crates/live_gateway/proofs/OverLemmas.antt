@@ -1,21 +1,28 @@
 -- What a gateway's sending leaves of an exchange.
 use Rattle.std.proofs.Common.{◌≡◌, ℕ, ◌+◌, Bool, true, false, List, [], ◌∷◌, Option, None, Some, refl, sym, ◌∙◌, ap, subst, arith}
-use Rattle.std.specs.Prelude.{⊤, Result, Ok, Err, OnOk, OnErr}
+use Rattle.std.specs.Prelude.{⊤, not, is_ok, Result, Ok, Err, OnOk, OnErr}
 use Rattle.std.specs.declared.net.socket_addr.SocketAddrV4.{SocketAddrV4}
+use Rattle.gateway_core.specs.GatewayState.{GatewayState}
 use Rattle.gateway_core.specs.Wire.{counted}
 use Rattle.gateway_core.proofs.ServeLemmas.{counted_on}
+use Rattle.gateway_texts.specs.declared.outcome.TextOutcome.{TextOutcome}
+use Rattle.live_outlets.specs.declared.now.Now.{Now}
 use Rattle.live_journal.specs.declared.journal.Journal.{Journal}
 use Rattle.message_counts.specs.declared.reporting.Faults.{Faults}
-use Rattle.plain_machine.specs.Event.{GatewayEvent}
+use Rattle.plain_machine.specs.Event.{GatewayEvent, datagram}
 use Rattle.plain_machine.specs.declared.label.SentMessage.{SentMessage}
+use Rattle.surroundings.specs.Speaking.{Admitted}
 use Rattle.surroundings.specs.declared.surroundings.Fault.{Fault}
+use Rattle.told_messages.specs.declared.log.Log.{Log}
 use Rattle.traces.specs.Writing.{Input}
 use Rattle.traces.specs.declared.telling.Mark.{Mark}
 use Rattle.traces.specs.declared.telling.Mark.TheVariants.{Unsent, Lost}
 use Rattle.transmission.specs.declared.output.OutDatagram.{OutDatagram}
 use Rattle.live_play.specs.Running.{Live, own_messages, other_messages, HandsEach, TakesBy}
 use Rattle.live_gateway.specs.declared.exchange.Exchange.{Exchange}
-use Rattle.live_gateway.specs.Exchanging.{with_mark, with_refused, unsent_in, IsTold, HandsOver, OnlySends, Explains, Notes, TakesOver}
+use Rattle.live_gateway.specs.Exchanging.{with_mark, with_refused, unsent_in, IsTold, HandsOver, OnlySends, OnlyNotes, Explains, Notes}
+use Rattle.live_gateway.specs.Exchanging.{NotesTaken, NotesRefused, TakesOver}
+use Rattle.live_gateway.specs.Noting.{SaysWhy, SaysUntaken, SaysUnheard}
 use Rattle.live_gateway.specs.Leaving.{OnlyShows, OnlyTells}
 
 -- ---- datagrams, one after the other
@@ -90,11 +97,11 @@ only_sends sends was from input event is sent t =
     sends_after t.said from t.turned sent t.told.rest t.told.records.1 (sends_each sends t.takes.outputs is.gateway.account.sent t.turned t.said sent t.each)
 
 -- it is taken over an exchange
-pub takes_over : {S : Type 0} (sends : S → SocketAddrV4 → List ℕ → Result ⊤ Fault → S → Type 0) (was : Live) (from sent to : Exchange S) (input : Input)
-    (event : GatewayEvent) (is : Live)
+pub takes_over : {S : Type 0} (sends : S → SocketAddrV4 → List ℕ → Result ⊤ Fault → S → Type 0) (admitted : Admitted) (was : Live)
+    (from sent to : Exchange S) (input : Input) (event : GatewayEvent) (is : Live)
     → TakesBy (λ a gateway b. IsTold a gateway b) (λ a at bytes own mark b. HandsOver sends a at bytes own mark b) was from input event is sent
-    → Notes false sent to → TakesOver sends was from input event is to
-takes_over sends was from sent to input event is t noted =
+    → NotesTaken admitted event is.gateway sent to → TakesOver sends admitted was from input event is to
+takes_over sends admitted was from sent to input event is t noted =
     record { sent = sent; by = t; only = only_sends sends was from input event is sent t; noted = noted }
 
 -- or refused: in its turn in any case
@@ -107,32 +114,86 @@ same_now {S} sends (Err why) was from sent input event is t same = ap (λ (x : E
 
 -- ---- what is noted
 
--- that an input was refused, or taken
-pub noted_so : {S : Type 0} (is_refused : Bool) (was is : Exchange S) → is ≡ record was { faults = with_refused is_refused was.faults }
-    → Notes is_refused was is
-noted_so {S} is_refused was is same = record {
-  rest = subst (λ (x : Exchange S). x ≡ record was { journal = record was.journal { log = x.journal.log }; faults = with_refused is_refused was.faults })
-      (sym same) refl;
+-- an input was taken: nothing was counted, and then the log was told
+pub notes_taken : {S : Type 0} (is_taken : Bool) (admitted : Admitted) (sent : List SentMessage) (was mid is : Exchange S) → is_taken ≡ true
+    → mid ≡ record was { faults = with_refused (not is_taken) was.faults }
+    → SaysUnheard admitted mid.now.time sent mid.journal.log.value is.journal.log.value → OnlyNotes mid is → Notes is_taken admitted sent was is
+notes_taken {S} true admitted sent was mid is yes counted says rest =
+    let same : mid ≡ was = counted in
+    subst (λ (x : Exchange S). SaysUnheard admitted x.now.time sent x.journal.log.value is.journal.log.value × OnlyNotes x is) same (says, rest)
+notes_taken false admitted sent was mid is yes counted says rest = absurd cc
+
+-- or refused: the log was told nothing
+pub notes_refused : {S : Type 0} (is_taken : Bool) (admitted : Admitted) (sent : List SentMessage) (was is : Exchange S) → is_taken ≡ false
+    → is ≡ record was { faults = with_refused (not is_taken) was.faults } → Notes is_taken admitted sent was is
+notes_refused true admitted sent was is no counted = absurd cc
+notes_refused false admitted sent was is no counted = counted
+
+-- so it was with a datagram before that
+pub explains_taken : {S : Type 0} (is_taken : Bool) (outcomes : List TextOutcome) (source : SocketAddrV4) (bytes : List ℕ) (was is : Exchange S)
+    → is_taken ≡ true → SaysWhy (datagram source bytes) outcomes was.journal.log.value is.journal.log.value → OnlyNotes was is
+    → Explains is_taken outcomes source bytes was is
+explains_taken true outcomes source bytes was is yes says rest = (says, rest)
+explains_taken false outcomes source bytes was is yes says rest = absurd cc
+
+pub explains_refused : {S : Type 0} (is_taken : Bool) (outcomes : List TextOutcome) (source : SocketAddrV4) (bytes : List ℕ) (was is : Exchange S)
+    → is_taken ≡ false → SaysUntaken (datagram source bytes) was.now.time was.journal.log.value is.journal.log.value → OnlyNotes was is
+    → Explains is_taken outcomes source bytes was is
+explains_refused true outcomes source bytes was is no says rest = absurd cc
+explains_refused false outcomes source bytes was is no says rest = (says, rest)
+
+-- where only the log changes of a journal, only that changes of its exchange
+pub noted_alone : {S : Type 0} (was : Exchange S) (journal : Journal) → journal ≡ record was.journal { log = journal.log }
+    → OnlyNotes was (record was { journal = journal })
+noted_alone {S} was journal same = ap (λ (x : Journal). record was { journal = x }) same
+
+-- what is noted of a tick or an act, of which nothing more is said
+pub taken_quietly : {S A B : Type 0} (done : Result A B) (admitted : Admitted) (event : GatewayEvent) (gateway : GatewayState) (was is : Exchange S)
+    → ((log : Log) → SaysWhy event gateway.outcomes log log) → Notes (is_ok done) admitted gateway.account.sent was is
+    → OnOk done (NotesTaken admitted event gateway was is)
+taken_quietly (Ok done) admitted event gateway was is quiet notes = record {
+  explained = was.journal.log.value;
+  why = quiet was.journal.log.value;
+  unheard = notes.0;
+  rest = notes.1;
 }
+taken_quietly (Err why) admitted event gateway was is quiet notes = tt
 
-pub noted_then : {S : Type 0} (is_refused : Bool) (was mid is : Exchange S) → Notes is_refused was mid → Explains mid is → Notes is_refused was is
-noted_then {S} is_refused was mid is notes explains = record {
-  rest = explains.rest ∙ ap (λ (x : Exchange S). record x { journal = record x.journal { log = is.journal.log } }) notes.rest;
+pub refused_quietly : {S A B : Type 0} (done : Result A B) (admitted : Admitted) (event : GatewayEvent) (sent : List SentMessage) (was is : Exchange S)
+    → ((log : Log) → SaysUntaken event was.now.time log log) → Notes (is_ok done) admitted sent was is
+    → OnErr done (NotesRefused event was is)
+refused_quietly (Ok done) admitted event sent was is quiet notes = tt
+refused_quietly {S} (Err why) admitted event sent was is quiet notes =
+    subst (λ (x : Exchange S). NotesRefused event was x) (sym notes) (record { untaken = quiet was.journal.log.value; rest = refl })
+
+-- and of a datagram
+pub taken_in : {S A B : Type 0} (done : Result A B) (admitted : Admitted) (source : SocketAddrV4) (bytes : List ℕ) (gateway : GatewayState)
+    (was mid is : Exchange S) → Explains (is_ok done) gateway.outcomes source bytes was mid → Notes (is_ok done) admitted gateway.account.sent mid is
+    → OnOk done (NotesTaken admitted (datagram source bytes) gateway was is)
+taken_in {S} (Ok done) admitted source bytes gateway was mid is explains notes = record {
+  explained = mid.journal.log.value;
+  why = explains.0;
+  unheard = subst (λ (now : Now). SaysUnheard admitted now.time gateway.account.sent mid.journal.log.value is.journal.log.value)
+      (ap (λ (x : Exchange S). x.now) explains.1) notes.0;
+  rest = notes.1 ∙ ap (λ (x : Exchange S). record x { journal = record x.journal { log = is.journal.log } }) explains.1;
 }
+taken_in (Err why) admitted source bytes gateway was mid is explains notes = tt
 
-pub explained_then : {S : Type 0} (is_refused : Bool) (was mid is : Exchange S) → Explains was mid → Notes is_refused mid is → Notes is_refused was is
-explained_then {S} is_refused was mid is explains notes = record {
-  rest = notes.rest
-      ∙ ap (λ (x : Exchange S). record x { journal = record x.journal { log = is.journal.log }; faults = with_refused is_refused x.faults }) explains.rest;
-}
+pub refused_in : {S A B : Type 0} (done : Result A B) (admitted : Admitted) (source : SocketAddrV4) (bytes : List ℕ) (outcomes : List TextOutcome)
+    (sent : List SentMessage) (was mid is : Exchange S) → Explains (is_ok done) outcomes source bytes was mid → Notes (is_ok done) admitted sent mid is
+    → OnErr done (NotesRefused (datagram source bytes) was is)
+refused_in (Ok done) admitted source bytes outcomes sent was mid is explains notes = tt
+refused_in {S} (Err why) admitted source bytes outcomes sent was mid is explains notes =
+    subst (λ (x : Exchange S). NotesRefused (datagram source bytes) was x) (sym notes) (record {
+      untaken = explains.0;
+      rest = ap (λ (x : Exchange S). record x { faults = with_refused true x.faults }) explains.1;
+    })
 
--- a journal of which only the log changes
-pub explained_so : {S : Type 0} (was : Exchange S) (journal : Journal) → journal ≡ record was.journal { log = journal.log }
-    → Explains was (record was { journal = journal })
-explained_so {S} was journal same = record { rest = ap (λ (x : Journal). record was { journal = x }) same }
-
-pub noted_now : {S : Type 0} (is_refused : Bool) (was is : Exchange S) → Notes is_refused was is → is.now ≡ was.now
-noted_now {S} is_refused was is notes = ap (λ (x : Exchange S). x.now) notes.rest
+-- neither changes the turn
+pub noted_now : {S : Type 0} (is_taken : Bool) (admitted : Admitted) (sent : List SentMessage) (was is : Exchange S)
+    → Notes is_taken admitted sent was is → is.now ≡ was.now
+noted_now {S} true admitted sent was is notes = ap (λ (x : Exchange S). x.now) notes.1
+noted_now {S} false admitted sent was is notes = ap (λ (x : Exchange S). x.now) notes
 
 -- one of which only what the page is shown does, beside an answer or not
 pub shown_so : {S : Type 0} (was : Exchange S) (journal : Journal) → journal ≡ record was.journal { board = journal.board }

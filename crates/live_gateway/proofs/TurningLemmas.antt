@@ -20,33 +20,35 @@ use Rattle.live_outlets.specs.declared.now.Now.{Now}
 use Rattle.live_play.specs.Running.{Live, Ran, TakesBy}
 use Rattle.live_gateway.specs.Desk.{Standing, with_input}
 use Rattle.live_play.specs.Readable.{first_unread}
+use Rattle.surroundings.specs.Speaking.{Admitted}
 use Rattle.surroundings.specs.declared.surroundings.Fault.{Fault}
 use Rattle.live_gateway.specs.declared.desk.Desk.{Desk}
 use Rattle.live_gateway.specs.declared.exchange.Exchange.{Exchange}
-use Rattle.live_gateway.specs.Exchanging.{OnlyWrites, IsTold, HandsOver, Notes, TakesOver}
+use Rattle.live_gateway.specs.Exchanging.{OnlyWrites, IsTold, HandsOver, NotesTaken, NotesRefused, TakesOver}
 use Rattle.live_gateway.specs.Turning.{Tries, TurnsAndWrites, RunsTurns}
 use Rattle.live_gateway.proofs.EndingLemmas.{wrote_once_more}
 use Rattle.live_gateway.proofs.OverLemmas.{takes_over}
 
 -- it was taken over an exchange, or refused, and that is counted
-pub tries : {S A : Type 0} (sends : S → SocketAddrV4 → List ℕ → Result ⊤ Fault → S → Type 0) (input : Input) (event : GatewayEvent) (done : Result A Refusal)
-    (was mid is : Standing) (from sent to : Exchange S)
+pub tries : {S A : Type 0} (sends : S → SocketAddrV4 → List ℕ → Result ⊤ Fault → S → Type 0) (admitted : Admitted) (input : Input)
+    (event : GatewayEvent) (done : Result A Refusal) (was mid is : Standing) (from sent to : Exchange S)
     → OnOk done (TakesBy (λ a gateway b. IsTold a gateway b) (λ a at bytes own mark b. HandsOver sends a at bytes own mark b)
     was.live from input event mid.live sent)
-    → OnErr done (sent ≡ from) → OnErr done (Ran was.live [] mid.live) → Notes (not (is_ok done)) sent to
+    → OnErr done (sent ≡ from) → OnErr done (Ran was.live [] mid.live)
+    → OnOk done (NotesTaken admitted event mid.live.gateway sent to) → OnErr done (NotesRefused event sent to)
     → mid.came.refused ≡ was.came.refused → is ≡ with_input (not (is_ok done)) mid
     → ((events : List GatewayEvent) → Stands was.live.gateway events → Ends (plain was.live.gateway.setup events) event (result_err done))
-    → Tries sends input event was from is to
-tries sends input event (Ok done) was mid is from sent to takes stays misses notes counts same ends =
+    → Tries sends admitted input event was from is to
+tries sends admitted input event (Ok done) was mid is from sent to takes stays misses notes lacks counts same ends =
     inl (
-      subst (λ (s : Standing). TakesOver sends was.live from input event s.live to) (sym same)
-          (takes_over sends was.live from sent to input event mid.live takes notes),
+      subst (λ (s : Standing). TakesOver sends admitted was.live from input event s.live to) (sym same)
+          (takes_over sends admitted was.live from sent to input event mid.live takes notes),
       ap (λ (s : Standing). s.came.refused) same ∙ counts,
     )
-tries {S} sends input event (Err why) was mid is from sent to takes stays misses notes counts same ends =
+tries {S} sends admitted input event (Err why) was mid is from sent to takes stays misses notes lacks counts same ends =
     inr (
       subst (λ (s : Standing). Ran was.live [] s.live) (sym same) misses,
-      subst (λ (x : Exchange S). Notes true x to) stays notes,
+      subst (λ (x : Exchange S). NotesRefused event x to) stays lacks,
       ap (λ (s : Standing). s.came.refused) same ∙ ap (λ (n : ℕ). counted n 1) counts,
       why,
       ends,
@@ -62,11 +64,11 @@ takes_from {S} sends input event done was there is from sent same takes =
     (λ a at bytes own mark b. HandsOver sends a at bytes own mark b) x from input event is sent)) same takes
 
 -- so it was from where a turn began
-pub tries_begun : {S : Type 0} (sends : S → SocketAddrV4 → List ℕ → Result ⊤ Fault → S → Type 0) (input : Input) (event : GatewayEvent) (was is : Standing)
-    (desk begun to : Exchange S) → begun ≡ record desk { now = begun.now } → to.now ≡ begun.now → Tries sends input event was begun is to
-    → Tries sends input event was (record desk { now = to.now }) is to
-tries_begun {S} sends input event was is desk begun to begins same tried =
-    subst (λ (x : Exchange S). Tries sends input event was x is to) (begins ∙ ap (λ (n : Now). record desk { now = n }) (sym same)) tried
+pub tries_begun : {S : Type 0} (sends : S → SocketAddrV4 → List ℕ → Result ⊤ Fault → S → Type 0) (admitted : Admitted) (input : Input)
+    (event : GatewayEvent) (was is : Standing) (desk begun to : Exchange S) → begun ≡ record desk { now = begun.now } → to.now ≡ begun.now
+    → Tries sends admitted input event was begun is to → Tries sends admitted input event was (record desk { now = to.now }) is to
+tries_begun {S} sends admitted input event was is desk begun to begins same tried =
+    subst (λ (x : Exchange S). Tries sends admitted input event was x is to) (begins ∙ ap (λ (n : Now). record desk { now = n }) (sym same)) tried
 
 -- a tick that comes next goes on
 pub tick_is_later : (s : Schedule) (at : Situation) (turn : Turn) (next : Schedule) (to now : ℕ) → at.moment < 2 ^ 64 → (turn, next) ≡ next_of s at

@@ -10,6 +10,7 @@ use Rattle.mg_line.specs.declared.phone.Act.{Act}
 use Rattle.surroundings.specs.Hearing.{AnswersTo}
 use Rattle.surroundings.specs.Requests.{requests_from}
 use Rattle.surroundings.specs.Sending.{Traffic}
+use Rattle.surroundings.specs.Speaking.{Admitted, admitted_by}
 use Rattle.surroundings.specs.Typing.{left_of, behind, v4_of}
 use Rattle.surroundings.specs.declared.lines.Lines.{Lines}
 use Rattle.surroundings.specs.declared.surroundings.Fault.{Fault}
@@ -35,7 +36,7 @@ use Rattle.live_telephones.specs.declared.telephones.TelephoneRequest.TheVariant
 use Rattle.live_telephones.specs.declared.watch.Watch.{Watch}
 use Rattle.live_gateway.specs.declared.desk.Desk.{Desk}
 use Rattle.live_gateway.specs.declared.exchange.Exchange.{Exchange}
-use Rattle.live_gateway.specs.Exchanging.{TakesOver, Notes}
+use Rattle.live_gateway.specs.Exchanging.{TakesOver, NotesRefused}
 use Rattle.live_gateway.specs.Desk.{Standing, at_desk, MayRefuseIfDone}
 use Rattle.live_gateway.specs.Leaving.{OnlyShows, OnlyTells, OnlyReplies}
 
@@ -94,13 +95,13 @@ pub record IsActAnswer {A : Type 0} (done : Result A Refusal) (printed answer : 
 -- an act that a line says was done, over an exchange, and that is answered; or it was refused, as it may, and as is told, answered and
 -- counted
 abbrev pub TriesAct :
-    {S : Type 0} → (S → SocketAddrV4 → List ℕ → Result ⊤ Fault → S → Type 0) → List ℕ → ℕ → Act → List ℕ
+    {S : Type 0} → (S → SocketAddrV4 → List ℕ → Result ⊤ Fault → S → Type 0) → Admitted → List ℕ → ℕ → Act → List ℕ
     → Standing → Exchange S → Standing → Exchange S → Type 0
-TriesAct sends text line act answer was from is to =
-    (TakesOver sends was.live from (typed text) (phone line act) is.live to × (is.came.refused ≡ was.came.refused)
+TriesAct sends admitted text line act answer was from is to =
+    (TakesOver sends admitted was.live from (typed text) (phone line act) is.live to × (is.came.refused ≡ was.came.refused)
     × (answer ≡ codes "done\n"))
     ⊎ ((refusal : Refusal) × (printed : List ℕ) × Refuses was.live text (phone line act) refusal printed is.live
-    × Notes true from to × (is.came.refused ≡ counted was.came.refused 1)
+    × NotesRefused (phone line act) from to × (is.came.refused ≡ counted was.came.refused 1)
     × (refusal ≡ refusals.OutOfMemory → answer ≡ no_memory) × (refusal ≢ refusals.OutOfMemory → answer ≡ printed)
     × MayRefuseIfDone was.live.gateway (phone line act) refusal)
 
@@ -162,7 +163,8 @@ pub record DoesAct {S T : Type 0}
   pub answer : List ℕ
   pub before : OnlyShows was.exchange asked
   pub shown : GoesOn (Happened was.exchange.now.clock OfAct nobody text) was.exchange.journal.board asked.journal.board
-  pub tries : TriesAct sends text line act answer (at_desk told traffic was) asked (at_desk told traffic is) done
+  pub tries : TriesAct sends (admitted_by was.admission.speakers) text line act answer
+      (at_desk told traffic was) asked (at_desk told traffic is) done
   pub says : AnswersLine answers done.around answer was is
   pub kept : traffic is.exchange.around ≡ traffic done.around
   pub told_so : GoesOn (Happened done.now.clock OfTold nobody answer) done.journal.board is.exchange.journal.board

@@ -14,7 +14,8 @@ use Rattle.message_counts.specs.Tallying.{with_handed_out, CountsNoDatagram}
 use Rattle.message_counts.specs.Waiting.{unanswered_after}
 use Rattle.message_counts.specs.declared.reporting.Faults.{Faults}
 use Rattle.page_board.specs.declared.ring.Kind.TheVariants.{Sent as OfSent}
-use Rattle.plain_machine.specs.Event.{GatewayEvent}
+use Rattle.gateway_texts.specs.declared.outcome.TextOutcome.{TextOutcome}
+use Rattle.plain_machine.specs.Event.{GatewayEvent, datagram}
 use Rattle.plain_machine.specs.declared.label.SentMessage.{SentMessage}
 use Rattle.told_messages.specs.Labelling.{sent_label}
 use Rattle.told_messages.specs.Logging.{Sends, Turns}
@@ -29,6 +30,7 @@ use Rattle.live_play.specs.Readable.{first_unread}
 use Rattle.live_play.specs.Running.{Live, TakesBy}
 use Rattle.std.specs.declared.net.socket_addr.SocketAddrV4.{SocketAddrV4}
 use Rattle.surroundings.specs.Sending.{Sent, Received, Traffic, found_by}
+use Rattle.surroundings.specs.Speaking.{Admitted}
 use Rattle.surroundings.specs.declared.surroundings.Fault.{Fault}
 use Rattle.traces.specs.Writing.{Input}
 use Rattle.traces.specs.declared.telling.Mark.{Mark}
@@ -37,7 +39,7 @@ use Rattle.live_gateway.specs.declared.admission.Admission.{Admission}
 use Rattle.live_gateway.specs.declared.exchange.Exchange.{Exchange}
 use Rattle.live_gateway.specs.declared.spoilt_way.SpoiltWay.{SpoiltWay}
 use Rattle.live_gateway.specs.Admitting.{is_heard, HeardSince}
-use Rattle.live_gateway.specs.Noting.{with_looked}
+use Rattle.live_gateway.specs.Noting.{with_looked, SaysWhy, SaysUntaken, SaysUnheard}
 use Rattle.live_gateway.specs.Offering.{offered_by, came_over, Offers}
 
 -- where who takes it tells that: sockets in memory do, and a network that keeps what it is offered
@@ -286,20 +288,43 @@ pub record OnlySends {S : Type 0} (said : List (Option Mark)) (was is : Exchange
   pub send : is.faults.send ≡ counted was.faults.send (unsent_in said)
 
 -- of an exchange, only its log changes
-pub record Explains {S : Type 0} (was is : Exchange S) : Type 0 where
-  pub rest : is ≡ record was { journal = record was.journal { log = is.journal.log } }
+abbrev pub OnlyNotes : {S : Type 0} → Exchange S → Exchange S → Type 0
+OnlyNotes was is = is ≡ record was { journal = record was.journal { log = is.journal.log } }
 
--- that an input was refused is counted, or nothing is; and else only the log changes
-pub record Notes {S : Type 0} (is_refused : Bool) (was is : Exchange S) : Type 0 where
-  pub rest : is ≡ record was { journal = record was.journal { log = is.journal.log }; faults = with_refused is_refused was.faults }
+-- of a datagram from there the log says why commands of it were refused, where it was taken; else that it wasn't
+abbrev pub Explains : {S : Type 0} → Bool → List TextOutcome → SocketAddrV4 → List ℕ → Exchange S → Exchange S → Type 0
+Explains true outcomes source bytes was is =
+    SaysWhy (datagram source bytes) outcomes was.journal.log.value is.journal.log.value × OnlyNotes was is
+Explains false outcomes source bytes was is =
+    SaysUntaken (datagram source bytes) was.now.time was.journal.log.value is.journal.log.value × OnlyNotes was is
+
+-- of what was sent at an input that was taken the log says to which commands no answer is heard; that one was refused is counted
+abbrev pub Notes : {S : Type 0} → Bool → Admitted → List SentMessage → Exchange S → Exchange S → Type 0
+Notes true admitted sent was is =
+    SaysUnheard admitted was.now.time sent was.journal.log.value is.journal.log.value × OnlyNotes was is
+Notes false admitted sent was is = is ≡ record was { faults = with_refused true was.faults }
+
+-- The gateway took an event, and what it sent at it was handed out. Then the log says why commands of it were refused, and behind that to
+-- which commands that were sent no answer is heard; and nothing else changes.
+pub record NotesTaken {S : Type 0} (admitted : Admitted) (event : GatewayEvent) (gateway : GatewayState) (was is : Exchange S) : Type 0 where
+  pub explained : Log
+  pub why : SaysWhy event gateway.outcomes was.journal.log.value explained
+  pub unheard : SaysUnheard admitted was.now.time gateway.account.sent explained is.journal.log.value
+  pub rest : OnlyNotes was is
+
+-- It refused one: of a datagram the log says so, it is counted, and nothing else changes.
+pub record NotesRefused {S : Type 0} (event : GatewayEvent) (was is : Exchange S) : Type 0 where
+  pub untaken : SaysUntaken event was.now.time was.journal.log.value is.journal.log.value
+  pub rest : is ≡ record was { journal = record was.journal { log = is.journal.log }; faults = with_refused true was.faults }
 
 -- The gateway took an event that came in so, over an exchange: this was told of it, and handed what was sent at it, each datagram with the
 -- messages that stand in it; what stands in the trace behind the event is what the exchange said of each; and so many as weren't sent count.
--- Then that is noted, and nothing else is done.
+-- Then that is noted, where these may speak to it, and nothing else is done.
 pub record TakesOver {S : Type 0} (sends : S → SocketAddrV4 → List ℕ → Result ⊤ Fault → S → Type 0)
-    (was : Live) (from : Exchange S) (input : Input) (event : GatewayEvent) (is : Live) (to : Exchange S) : Type 0 where
+    (admitted : Admitted) (was : Live) (from : Exchange S) (input : Input) (event : GatewayEvent) (is : Live) (to : Exchange S)
+    : Type 0 where
   pub sent : Exchange S
   pub by : TakesBy (λ a gateway b. IsTold a gateway b) (λ a at bytes messages mark b. HandsOver sends a at bytes messages mark b)
       was from input event is sent
   pub only : OnlySends by.said from sent
-  pub noted : Notes false sent to
+  pub noted : NotesTaken admitted event is.gateway sent to

@@ -1,13 +1,22 @@
--- What a journal gets of a datagram that comes, of one that isn't heard, and of one that couldn't be sent.
+-- What a journal gets of a datagram that comes, of one that isn't heard, and of one that couldn't be sent; and what a log says of an input
+-- once it is done.
 use Rattle.std.specs.Prelude.{◌≡◌, ⊤, ℕ, true, false, nat_lt, if◌then◌else◌, List, Option, Some, None, Result, Ok, Err}
+use Rattle.std.specs.List.{flat_map}
 use Rattle.std.specs.declared.net.socket_addr.SocketAddrV4.{SocketAddrV4}
+use Rattle.exchange_log.specs.declared.note.Note.TheVariants as notes
+use Rattle.gateway_texts.specs.declared.outcome.TextOutcome.{TextOutcome}
 use Rattle.gateway_core.specs.Wire.{counted}
 use Rattle.page_board.specs.declared.ring.Kind.TheVariants.{Received as OfReceived}
+use Rattle.plain_machine.specs.Event.{GatewayEvent, datagram, phone, tick}
+use Rattle.plain_machine.specs.declared.label.SentMessage.{SentMessage}
+use Rattle.surroundings.specs.Speaking.{Admitted}
 use Rattle.surroundings.specs.declared.surroundings.Fault.{Fault}
+use Rattle.told_messages.specs.declared.log.Log.{Log}
+use Rattle.told_messages.specs.Explaining.{reason_text}
 use Rattle.told_messages.specs.Recording.{Records, unsent_text}
-use Rattle.told_messages.specs.Logging.{Receives}
+use Rattle.told_messages.specs.Logging.{Receives, LeavesOut, explained_at}
 use Rattle.told_messages.specs.Showing.{GoesOn, Happened}
-use Rattle.told_messages.specs.Strangers.{quiet_after, stranger_text}
+use Rattle.told_messages.specs.Strangers.{quiet_after, stranger_text, unheard_text}
 use Rattle.live_outlets.specs.declared.now.Now.{Now}
 use Rattle.live_journal.specs.declared.journal.Journal.{Journal}
 use Rattle.live_journal.specs.Capturing.{Captures}
@@ -76,3 +85,24 @@ pub record NotesUnsent (was : Journal) (time : ℕ) (to : SocketAddrV4) (is : Jo
 abbrev pub NotesLate : Journal → ℕ → SocketAddrV4 → Result ⊤ Fault → Journal → Type 0
 NotesLate was time to (Ok sent) is = is ≡ was
 NotesLate was time to (Err fault) is = NotesUnsent was time to is
+
+-- An input that is done
+
+-- of a datagram that was taken the log says why commands of it were refused, or which weren't answered; of an act or a tick nothing
+abbrev pub SaysWhy : GatewayEvent → List TextOutcome → Log → Log → Type 0
+SaysWhy (datagram source bytes) outcomes was is =
+    Records was.record (flat_map (reason_text (explained_at was)) outcomes) is.record × (is ≡ record was { «record» = is.record })
+SaysWhy (phone line act) outcomes was is = is ≡ was
+SaysWhy (tick moment) outcomes was is = is ≡ was
+
+-- of one that wasn't taken at this time it says its texts, and that memory was refused for it; of an act or a tick nothing
+abbrev pub SaysUntaken : GatewayEvent → ℕ → Log → Log → Type 0
+SaysUntaken (datagram source bytes) time was is =
+    LeavesOut was (record { moment = time; peer = source }) bytes notes.OutOfMemory is
+SaysUntaken (phone line act) time was is = is ≡ was
+SaysUntaken (tick moment) time was is = is ≡ was
+
+-- of each command of the gateway's own that was sent to who may not speak it says that no answer is heard
+abbrev pub SaysUnheard : Admitted → ℕ → List SentMessage → Log → Log → Type 0
+SaysUnheard admitted time sent was is =
+    Records was.record (flat_map (unheard_text admitted time) sent) is.record × (is ≡ record was { «record» = is.record })

@@ -13,6 +13,7 @@ use Rattle.plain_machine.specs.Lists.{plain}
 use Rattle.page_board.specs.Showing.{BoardState}
 use Rattle.surroundings.specs.Hearing.{Hears}
 use Rattle.surroundings.specs.Sending.{Traffic}
+use Rattle.surroundings.specs.Speaking.{Admitted, admitted_by}
 use Rattle.surroundings.specs.Typing.{left_of}
 use Rattle.surroundings.specs.declared.surroundings.Fault.{Fault}
 use Rattle.surroundings.specs.declared.surroundings.Told.{Told}
@@ -34,16 +35,16 @@ use Rattle.live_gateway.specs.Passing.{Looks}
 use Rattle.live_gateway.specs.Visiting.{AreReady, ClosesAt}
 use Rattle.live_gateway.specs.Ending.{WroteTimes}
 use Rattle.live_gateway.specs.Desk.{Standing, at_desk, MayRefuse, IsHeard}
-use Rattle.live_gateway.specs.Exchanging.{CountsReceived, FoundSince, OnlyWrites, TakesOver, Notes, came_by, next_due, moment_at, faults_by}
+use Rattle.live_gateway.specs.Exchanging.{CountsReceived, FoundSince, OnlyWrites, TakesOver, NotesRefused, came_by, next_due, moment_at, faults_by}
 
--- The gateway took an event that came in so, over an exchange, as a play tells it; or refused it, as it may, which is counted, and nothing
--- was told nor handed over.
+-- The gateway took an event that came in so, over an exchange, as a play tells it, where these may speak to it; or refused it, as it may,
+-- which is noted and counted, and nothing was told nor handed over.
 abbrev pub Tries :
-    {S : Type 0} → (S → SocketAddrV4 → List ℕ → Result ⊤ Fault → S → Type 0) → Input → GatewayEvent
+    {S : Type 0} → (S → SocketAddrV4 → List ℕ → Result ⊤ Fault → S → Type 0) → Admitted → Input → GatewayEvent
     → Standing → Exchange S → Standing → Exchange S → Type 0
-Tries sends input event was from is to =
-    (TakesOver sends was.live from input event is.live to × (is.came.refused ≡ was.came.refused))
-    ⊎ (Ran was.live [] is.live × Notes true from to × (is.came.refused ≡ counted was.came.refused 1)
+Tries sends admitted input event was from is to =
+    (TakesOver sends admitted was.live from input event is.live to × (is.came.refused ≡ was.came.refused))
+    ⊎ (Ran was.live [] is.live × NotesRefused event from to × (is.came.refused ≡ counted was.came.refused 1)
     × (refusal : Refusal) × MayRefuse was.live.gateway event refusal)
 
 -- None came that is heard, and nothing changed but at the exchange that looked. Or this one did, at the front of this room, and the
@@ -56,7 +57,7 @@ TriesFound told traffic sends looked None room was is =
     × (looked.faults.refused ≡ was.exchange.faults.refused)
 TriesFound told traffic sends looked (Some found) room was is =
     IsHeard was.admission found.0 × ((came_by traffic is.exchange).received ≡ (came_by traffic looked).received)
-    × Tries sends (arrived found.0 (take found.1 room)) (datagram found.0 (take found.1 room))
+    × Tries sends (admitted_by was.admission.speakers) (arrived found.0 (take found.1 room)) (datagram found.0 (take found.1 room))
     (at_desk told traffic was) looked (at_desk told traffic is) is.exchange
 
 -- room for the largest datagram, and for one byte more, which tells one that is too long from it
@@ -105,8 +106,8 @@ Does told traffic sockets tells receives sends hears answers End was is = at_des
 Does told traffic sockets tells receives sends hears answers Look was is = at_desk told traffic is ≡ at_desk told traffic was
 Does told traffic sockets tells receives sends hears answers (Wait until) was is = at_desk told traffic is ≡ at_desk told traffic was
 Does told traffic sockets tells receives sends hears answers (Tick moment) was is =
-    Tries sends (passed moment) (tick moment) (at_desk told traffic was) (record was.exchange { now = is.exchange.now })
-    (at_desk told traffic is) is.exchange
+    Tries sends (admitted_by was.admission.speakers) (passed moment) (tick moment)
+    (at_desk told traffic was) (record was.exchange { now = is.exchange.now }) (at_desk told traffic is) is.exchange
 Does told traffic sockets tells receives sends hears answers Command was is = DoesLines told traffic sockets tells sends hears answers was is
 Does told traffic sockets tells receives sends hears answers Datagram was is = LooksForOne told traffic receives sends was is
 Does told traffic sockets tells receives sends hears answers Visit was is = at_desk told traffic is ≡ at_desk told traffic was

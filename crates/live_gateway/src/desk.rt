@@ -12,6 +12,7 @@ ghost use Rattle.live_telephones.specs.Asking.{AsksFor};
 ghost use Rattle.live_telephones.specs.Watching.{IsUnwatched};
 ghost use Rattle.rgw_scripts.specs.declared.step.ScriptLine.{ScriptLine};
 ghost use Rattle.surroundings.specs.Hearing.{AnswersTo};
+ghost use Rattle.surroundings.specs.Speaking.{admitted_by};
 ghost use Rattle.live_gateway.specs.Desk.{at_desk, GoesOn};
 ghost use Rattle.live_gateway.specs.Ending.{EndsAt, AsksForEnd};
 ghost use Rattle.live_gateway.specs.Exchanging.{OnlyWrites};
@@ -138,7 +139,7 @@ impl<S: Surroundings + Drop, T: Teller + Drop> Desk<S, T> {
         requires { (moment < first_unread) × ((events : List GatewayEvent) → Stands self.old.play.gateway.value events
             → (plain self.old.play.gateway.value.setup events).now < moment) }
         ensures play { GoesOn T.told S.traffic self.old self.new }
-        ensures tried { Tries S.sends (passed moment) (tick moment)
+        ensures tried { Tries S.sends (admitted_by self.old.admission.speakers) (passed moment) (tick moment)
             (at_desk T.told S.traffic self.old) (record self.old.exchange { now = self.new.exchange.now })
             (at_desk T.told S.traffic self.new) self.new.exchange }
         ensures rest { OnlyTicks S.dates moment self.old self.new }

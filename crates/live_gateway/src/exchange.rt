@@ -6,7 +6,7 @@ ghost use Rattle.surroundings.specs.Hearing.{Hears};
 ghost use Rattle.surroundings.specs.Sending.{Sent, Grows, found_by};
 ghost use Rattle.live_gateway.specs.Admitting.{is_heard};
 ghost use Rattle.live_gateway.specs.Offering.{brought, TakesDue};
-ghost use Rattle.live_gateway.specs.Exchanging.{handed_by, received_by, came_by, next_due, moment_at, faultless, refusals, with_refused, with_read, faults_by, Waits, Becomes, HandsOver, LosesOver, IsSameTurn, LooksOnce, CountsReceived, FoundSince};
+ghost use Rattle.live_gateway.specs.Exchanging.{handed_by, received_by, came_by, next_due, moment_at, faultless, with_refused, with_read, faults_by, Waits, Becomes, HandsOver, LosesOver, IsSameTurn, LooksOnce, CountsReceived, FoundSince};
 ghost use Rattle.live_gateway.specs.Visiting.{ServesOnce};
 ghost use Rattle.live_gateway.specs.Noting.{NotesReceived, TurnsAway, NotesArrival, NotesLate, CountsFound};
 ghost use Rattle.live_gateway.specs.Passing.{HandsOut, GoesOver, LooksOver, LooksDirectly, Looks};
@@ -125,14 +125,7 @@ impl<S: Surroundings + Drop> Exchange<S> {
 
     /// The gateway took an input, or refused it.
     pub fn count_refused(&mut self, is_refused: bool)
-        ensures network { self.new.network ≡ self.old.network }
-        ensures around { self.new.around ≡ self.old.around }
-        ensures faults { self.new.faults ≡ with_refused is_refused self.old.faults }
-        ensures refused { self.new.faults.refused ≡ refusals is_refused self.old.faults.refused }
-        ensures journal { self.new.journal ≡ self.old.journal }
-        ensures read { self.new.read ≡ self.old.read }
-        ensures turn { IsSameTurn self.old self.new }
-        ensures rest { self.new ≡ record self.old { faults = with_refused is_refused self.old.faults } }
+        ensures { self.new ≡ record self.old { faults = with_refused is_refused self.old.faults } }
     {
         if is_refused {
             count(&mut self.faults.refused);

@@ -1,8 +1,9 @@
 //! What a turn does that needs no gateway, but what that tells: who has one pays for the layout of all that it holds.
-ghost use Rattle.std.specs.Prelude.{◌≡◌, ◌<◌, ◌⊎◌, ◌&&◌, ℕ, Bool, List, Option, Result, not};
+ghost use Rattle.std.specs.Prelude.{◌≡◌, ◌<◌, ◌⊎◌, ◌&&◌, ℕ, Bool, List, Option, Result};
 ghost use Rattle.mg_bytes.specs.Lists.{is_empty};
 ghost use Rattle.surroundings.specs.Hearing.{AnswersTo};
 ghost use Rattle.surroundings.specs.Requests.{requests_from};
+ghost use Rattle.surroundings.specs.Speaking.{admitted_by};
 ghost use Rattle.surroundings.specs.Typing.{left_of, behind};
 ghost use Rattle.surroundings.specs.declared.surroundings.Fault.{Fault};
 ghost use Rattle.surroundings.specs.declared.surroundings.Told.{Told};
@@ -10,7 +11,7 @@ ghost use Rattle.told_messages.specs.Showing.{nobody, GoesOn, Happened};
 ghost use Rattle.page_board.specs.declared.ring.Kind.TheVariants.{Told as OfTold};
 ghost use Rattle.turns.specs.Clock.{earlier, has_come};
 ghost use Rattle.live_gateway.specs.Answering.{IsTypist, IsActAnswer};
-ghost use Rattle.live_gateway.specs.Exchanging.{Explains, Notes, refusals, next_due, moment_at, faults_by};
+ghost use Rattle.live_gateway.specs.Exchanging.{Explains, Notes, next_due, moment_at, faults_by};
 ghost use Rattle.live_gateway.specs.Leaving.{OnlyShows, OnlyTells, IsAsked, TakesIf};
 ghost use Rattle.live_gateway.specs.Turning.{ready_at};
 ghost use Rattle.live_gateway.specs.Visiting.{AreReady, ClosesAt};
@@ -81,10 +82,7 @@ pub(crate) fn note_taken<S: Surroundings + Drop>(
     sent: &[SentMessage],
     speakers: &Speakers,
 )
-    ensures network { exchange.new.network ≡ exchange.old.network }
-    ensures around { exchange.new.around ≡ exchange.old.around }
-    ensures refused { exchange.new.faults.refused ≡ refusals (not is_taken) exchange.old.faults.refused }
-    ensures notes { Notes (not is_taken) exchange.old exchange.new }
+    ensures { Notes is_taken (admitted_by speakers.now) sent.now exchange.old exchange.new }
 {
     exchange.count_refused(!is_taken);
     if is_taken {
@@ -102,10 +100,7 @@ pub(crate) fn note_datagram<S: Surroundings + Drop>(
     source: SocketAddrV4,
     bytes: &[u8],
 )
-    ensures network { exchange.new.network ≡ exchange.old.network }
-    ensures around { exchange.new.around ≡ exchange.old.around }
-    ensures faults { exchange.new.faults ≡ exchange.old.faults }
-    ensures notes { Explains exchange.old exchange.new }
+    ensures { Explains is_taken outcomes.now source bytes.now exchange.old exchange.new }
 {
     let now = exchange.now;
     let journal = &mut exchange.journal;
@@ -132,9 +127,7 @@ pub(crate) fn answer_act<S: Surroundings + Drop>(
     done: Result<(), Refusal>,
     printed: &[u8],
 )
-    ensures network { exchange.new.network ≡ exchange.old.network }
     ensures traffic { S.traffic exchange.new.around ≡ S.traffic exchange.old.around }
-    ensures faults { exchange.new.faults ≡ exchange.old.faults }
     ensures answered { (answer : List ℕ) × IsActAnswer done printed.now answer
         × AnswersTo S.answers lines.old.sender exchange.old.around answer exchange.new.around
         × GoesOn (Happened exchange.old.now.clock OfTold nobody answer) exchange.old.journal.board exchange.new.journal.board }

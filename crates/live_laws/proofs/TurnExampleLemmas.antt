@@ -11,6 +11,7 @@ use Rattle.told_messages.specs.Labelling.{sent_label}
 use Rattle.told_messages.specs.Showing.{GoesOn, HappenedWith}
 use Rattle.traces.specs.declared.telling.Mark.{Mark}
 use Rattle.traces.specs.declared.telling.Mark.TheVariants.{Unsent}
+use Rattle.surroundings.specs.Speaking.{anybody}
 use Rattle.surroundings.specs.declared.surroundings.Fault.{Fault}
 use Rattle.live_ends.specs.declared.ending.CommonEnding.{CommonEnding}
 use Rattle.live_ends.specs.declared.ending.CommonEnding.TheVariants.{OutOfMemory as LacksMemory}
@@ -131,7 +132,7 @@ page_has_label message was is board shown before after hands =
 
 -- an event was taken, or refused
 pub taken_keeps : (was is : Live) (input : Input) (event : GatewayEvent) (from to : Exchange ℕ)
-    → TakesOver (λ (before : ℕ) (at : SocketAddrV4) (bytes : List ℕ) (sent : Result ⊤ Fault) (after : ℕ). ⊤) was from input event is to
+    → TakesOver (λ (before : ℕ) (at : SocketAddrV4) (bytes : List ℕ) (sent : Result ⊤ Fault) (after : ℕ). ⊤) anybody was from input event is to
     → (to.faults.refused ≡ from.faults.refused) × (to.read ≡ from.read) × (to.now ≡ from.now)
 taken_keeps was is input event from to takes = (
   ap (λ (x : Exchange ℕ). x.faults.refused) takes.noted.rest ∙ takes.only.refused,
@@ -188,6 +189,24 @@ noted_on On were text next are on still (inr refused) =
     let other : next ≡ OutOfMemory = refused.0 in
     absurd cc
 noted_on OutOfMemory were text next are on still puts = absurd cc
+
+-- one for which memory was refused is told nothing more
+still_refused : (state : RecordState) (were text : List ℕ) (next : RecordState) (are : List ℕ) → state ≡ OutOfMemory → Puts state were text next are
+    → next ≡ OutOfMemory
+still_refused Off were text next are refused puts = absurd cc
+still_refused On were text next are refused puts = absurd cc
+still_refused OutOfMemory were text next are refused puts = puts.0
+
+-- two texts stand one behind the other
+pub both_on : (state : RecordState) (were one : List ℕ) (mid : RecordState) (between two : List ℕ) (next : RecordState) (are : List ℕ)
+    → state ≡ On → next ≡ On → Puts state were one mid between → Puts mid between two next are → are ≡ (were ++ one) ++ two
+both_on Off were one mid between two next are on still first second = absurd cc
+both_on On were one mid between two next are on still (inl put) second =
+    noted_on mid between two next are put.0 still second ∙ ap (λ (text : List ℕ). text ++ two) put.1
+both_on On were one mid between two next are on still (inr refused) second =
+    let other : next ≡ OutOfMemory = still_refused mid between two next are refused.0 second in
+    absurd cc
+both_on OutOfMemory were one mid between two next are on still first second = absurd cc
 
 -- one that is told nothing has what it had
 pub puts_off : (state : RecordState) (were text : List ℕ) (next : RecordState) (are : List ℕ) → state ≡ Off → Puts state were text next are

@@ -10,6 +10,7 @@ use Rattle.plain_machine.specs.Event.{GatewayEvent}
 use Rattle.plain_machine.specs.Machine.{Machine}
 use Rattle.plain_machine.specs.Refusing.{refusal_of, takes_none}
 use Rattle.surroundings.specs.Sending.{untold}
+use Rattle.surroundings.specs.Speaking.{anybody}
 use Rattle.traces.specs.declared.telling.Mark.{Mark}
 use Rattle.traces.specs.Writing.{Input}
 use Rattle.surroundings.specs.declared.surroundings.Fault.{Fault}
@@ -66,10 +67,11 @@ CanFreely m event = (refusal_of m event ≡ None) × (takes_none m event ≡ tru
 
 -- an event was tried so, whatever is sent; and line 1 was taken off hook
 abbrev pub TriesNowhere : Input → GatewayEvent → Standing → Exchange ℕ → Standing → Exchange ℕ → Type 0
-TriesNowhere input event was from is to = Tries (λ before at bytes sent after. ⊤) input event was from is to
+TriesNowhere input event was from is to = Tries (λ before at bytes sent after. ⊤) anybody input event was from is to
 
 abbrev pub TriesOffHook : List ℕ → Standing → Exchange ℕ → Standing → Exchange ℕ → Type 0
-TriesOffHook answer was from is to = TriesAct (λ before at bytes sent after. ⊤) (codes "off-hook 1") 1 OffHook answer was from is to
+TriesOffHook answer was from is to =
+    TriesAct (λ before at bytes sent after. ⊤) anybody (codes "off-hook 1") 1 OffHook answer was from is to
 
 -- a desk ended so, and who writes what was recorded was told these words last, if any
 abbrev pub EndsSaying : List ℕ → Desk ℕ Trace → CommonEnding → Type 0

@@ -2,6 +2,7 @@
 #![tactic(auto)]
 
 ghost use Rattle.std.specs.Prelude.{◌≡◌, ◌⊎◌, ◌∷◌, ◌++◌, ⊤, codes, true, false, ℕ, List, [], Bool, Option, Some, None, is_some, length, Ok, Err};
+ghost use Rattle.std.specs.List.{flat_map};
 ghost use Rattle.gateway_core.specs.GatewayState.{GatewayState};
 ghost use Rattle.gateway_rules.specs.declared.refusal.Refusal.{Refusal as Why};
 ghost use Rattle.live_ends.specs.declared.ending.CommonEnding.{CommonEnding};
@@ -14,7 +15,9 @@ ghost use Rattle.live_gateway.specs.Admitting.{is_heard};
 ghost use Rattle.live_gateway.specs.Answering.{IsActAnswer};
 ghost use Rattle.live_gateway.specs.Ending.{is_record_refused, IsCounted, OnlyEnds};
 ghost use Rattle.live_laws.specs.TurnExample.{one, lost_one, once, failed, CanFreely, TriesNowhere, TriesOffHook, LeavesLong, tells_long, comes_to, LooksNowhere, FindsNothing, SendsNowhere, HandsAnywhere, HandsNowhere, HandsWith, EndsSaying, CountsStranger, ActsAnywhere};
-ghost use Rattle.live_gateway.specs.Exchanging.{heard_in, mark_of, is_lost, faults_by, faultless, with_unreceived, unsent_in, IsTold, OnlySends, OnlyWrites, Explains, Notes, LosesOver, TakesOver};
+ghost use Rattle.live_gateway.specs.Exchanging.{heard_in, mark_of, is_lost, faults_by, faultless, with_unreceived, unsent_in};
+ghost use Rattle.live_gateway.specs.Exchanging.{IsTold, OnlySends, OnlyWrites, NotesTaken, NotesRefused, LosesOver, TakesOver};
+ghost use Rattle.live_gateway.specs.Noting.{SaysWhy, SaysUntaken};
 ghost use Rattle.live_gateway.specs.Desk.{Standing, MayRefuse};
 ghost use Rattle.live_play.specs.Running.{Live};
 ghost use Rattle.gateway_core.specs.Stands.{Stands};
@@ -29,15 +32,22 @@ ghost use Rattle.page_board.specs.declared.ring.Kind.TheVariants.{Sent as OfSent
 ghost use Rattle.plain_machine.specs.declared.label.SentMessage.{SentMessage};
 ghost use Rattle.told_messages.specs.Labelling.{sent_label};
 ghost use Rattle.told_messages.specs.Showing.{HappenedWith};
+ghost use Rattle.told_messages.specs.Coming.{untaken_text};
+ghost use Rattle.told_messages.specs.Explaining.{reason_text};
+ghost use Rattle.told_messages.specs.Logging.{explained_at};
+ghost use Rattle.told_messages.specs.Strangers.{unheard_text};
+ghost use Rattle.told_messages.specs.declared.log.Log.{Log};
 ghost use Rattle.traces.specs.declared.telling.Mark.{Mark};
 ghost use Rattle.traces.specs.declared.telling.Mark.TheVariants.{Unsent, Lost};
 ghost use Rattle.live_gateway.specs.Leaving.{OnlyShows, OnlyTells, OnlyPlays, OnlyTicks, OnlyLogs, NotesPause, OnlyHears, OnlyReplies, OnlyWaits, TakesIf, DoesVisit};
 ghost use Rattle.exchange_log.specs.Pausing.{pause_line};
+ghost use Rattle.exchange_log.specs.declared.note.Note.TheVariants as notes;
 ghost use Rattle.live_outlets.specs.declared.record.RecordState.TheVariants.{Off, On};
 ghost use Rattle.live_gateway.specs.Turning.{ready_at, RunsTurns};
 ghost use Rattle.surroundings.specs.Sending.{untold};
 ghost use Rattle.surroundings.specs.declared.surroundings.Fault.{Fault};
 ghost use Rattle.turns.specs.declared.turn.Turn.TheVariants.{Look, Wait};
+ghost use Rattle.surroundings.specs.Speaking.{anybody, nobody};
 ghost use Rattle.std.specs.Global.{Box};
 ghost use Rattle.page_board.specs.Showing.{BoardState};
 ghost use Rattle.live_gateway.specs.Visiting.{AreReady, ClosesAt, ServesOnce};
@@ -164,7 +174,7 @@ pub fn what_a_wait_comes_to_has_examples()
 /// tick and an act that can be done, and take no memory, are done; a datagram is refused for want of memory alone.
 pub fn what_is_tried_has_examples()
     ensures taken { (was is : Live) (input : Input) (event : GatewayEvent) (from to : Exchange ℕ)
-        → TakesOver (λ before to bytes sent after. ⊤) was from input event is to
+        → TakesOver (λ before to bytes sent after. ⊤) anybody was from input event is to
         → (to.faults.refused ≡ from.faults.refused) × (to.read ≡ from.read) × (to.now ≡ from.now) }
     ensures tried { (was is : Standing) (input : Input) (event : GatewayEvent) (from to : Exchange ℕ)
         → TriesNowhere input event was from is to
@@ -180,12 +190,25 @@ pub fn what_is_tried_has_examples()
     ensures acted { (was is : Desk ℕ ℕ) → ActsAnywhere was is → (is.end ≡ was.end) × (is.admission ≡ was.admission) }
 {}
 
-/// Where an input was refused that is counted, and else the log alone changes.
+/// Where an input was refused that is counted, and else the log alone changes: of a datagram it says why commands of it were refused, or
+/// that it wasn't taken, and then to which commands that were sent no answer is heard; of an act or a tick no more than that.
 pub fn what_is_noted_has_examples()
-    ensures refused { (was is : Exchange ℕ) → Notes true was is
+    ensures refused { (was is : Exchange ℕ) → NotesRefused (tick 5) was is
         → (is.faults.refused ≡ counted was.faults.refused 1) × (is.journal.tally ≡ was.journal.tally) × (is.around ≡ was.around) }
-    ensures taken { (was is : Exchange ℕ) → Notes false was is → is.journal.log ≡ was.journal.log → is ≡ was }
-    ensures explained { (was is : Exchange ℕ) → Explains was is → is.journal.log ≡ was.journal.log → is ≡ was }
+    ensures unsaid { (was is : Exchange ℕ) → NotesRefused (tick 5) was is → is.journal.log.value ≡ was.journal.log.value }
+    ensures untaken { (was is : Exchange ℕ) → NotesRefused (datagram one.0 (codes "x")) was is → is.journal.log.value.arrival ≡ None }
+    ensures taken { (gateway : GatewayState) (was is : Exchange ℕ) → NotesTaken anybody (tick 5) gateway was is
+        → is.journal.log ≡ was.journal.log → is ≡ was }
+    ensures why { (gateway : GatewayState) (was is : Exchange ℕ) → NotesTaken nobody (datagram one.0 []) gateway was is
+        → was.journal.log.value.record.state ≡ On → is.journal.log.value.record.state ≡ On → is.journal.log.value.record.out.items
+        ≡ (was.journal.log.value.record.out.items ++ flat_map (reason_text (explained_at was.journal.log.value)) gateway.outcomes)
+        ++ flat_map (unheard_text nobody was.now.time) gateway.account.sent }
+    ensures acted { (gateway : GatewayState) (was is : Log) → SaysWhy (phone 1 OffHook) gateway.outcomes was is → is ≡ was }
+    ensures ticked { (gateway : GatewayState) (was is : Log) → SaysWhy (tick 5) gateway.outcomes was is → is ≡ was }
+    ensures unacted { (was is : Log) → SaysUntaken (phone 1 OffHook) 5 was is → is ≡ was }
+    ensures left_out { (was is : Log) → SaysUntaken (datagram one.0 (codes "x")) 5 was is → was.record.state ≡ On → is.record.state ≡ On
+        → is.record.out.items
+        ≡ was.record.out.items ++ untaken_text was.domain (record { moment = 5; peer = one.0 }) (codes "x") notes.OutOfMemory }
     ensures answered { (was is : Exchange ℕ) → OnlyTells was is → is.around ≡ was.around → is.journal.board ≡ was.journal.board → is ≡ was }
 {}
 

@@ -1,10 +1,11 @@
 use Rattle.std.proofs.Common.{refl}
-use Rattle.live_gateway.proofs.OverLemmas.{noted_so, noted_then}
+use Rattle.live_gateway.proofs.OverLemmas.{notes_taken, notes_refused}
 use Rattle.live_gateway.proofs.turn_parts.note_taken.Goals as goal
 
-pub returns-then-is_taken-clause-notes : goal.returns-then-is_taken-clause-notes
-returns-then-is_taken-clause-notes g c =
-    noted_then _ _ c.count_refused.new.self _ (noted_so _ _ _ c.count_refused.ensures.rest) (record { rest = refl })
+pub returns-then-is_taken : goal.returns-then-is_taken
+returns-then-is_taken g c =
+    notes_taken _ _ _ _ c.count_refused.new.self _ c.if-is_taken.true c.count_refused.ensures
+    (rw (c.deref_mut.ensures.value) at c.unheard.ensures.record, rw (c.deref_mut.ensures.value) at c.unheard.ensures.rest) refl
 
-pub returns-else-is_taken-clause-notes : goal.returns-else-is_taken-clause-notes
-returns-else-is_taken-clause-notes g c = noted_so _ _ _ c.count_refused.ensures.rest
+pub returns-else-is_taken : goal.returns-else-is_taken
+returns-else-is_taken g c = notes_refused _ _ _ _ _ c.if-is_taken.false c.count_refused.ensures

@@ -1,10 +1,11 @@
 use Rattle.std.proofs.Common.{None, Some, refl, ◌∙◌, ap}
-use Rattle.std.specs.Prelude.{not, is_ok}
+use Rattle.std.specs.Prelude.{is_ok}
+use Rattle.surroundings.specs.Speaking.{admitted_by}
 use Rattle.live_play.specs.Coming.{Came}
 use Rattle.live_gateway.specs.Desk.{Standing, at_desk}
-use Rattle.live_gateway.proofs.DeskLemmas.{standing_of, counted_so, hears_nobody, hears}
+use Rattle.live_gateway.proofs.DeskLemmas.{standing_of, counted_in, hears_nobody, hears}
 use Rattle.live_gateway.proofs.HearingLemmas.{heard_still}
-use Rattle.live_gateway.proofs.OverLemmas.{explained_then}
+use Rattle.live_gateway.proofs.OverLemmas.{taken_in, refused_in}
 use Rattle.live_gateway.proofs.TurningLemmas.{tries}
 use Rattle.live_gateway.proofs.desk.Desk.datagram.Goals as goal
 
@@ -34,9 +35,8 @@ returns-clause-play g c =
     (rw (c.receive.ensures.handed) at c.datagram-done.ensures.taken)
     (rw (c.receive.ensures.handed) at c.datagram-done.ensures.refused)
     (ap (λ (x : Came). x.refused) same ∙ c.receive.ensures.refused)
-    (counted_so told traffic c.datagram-done.new.self c.datagram-done.new.out c.note_taken.new.exchange _
-    (c.note_taken.ensures.network ∙ c.note_datagram.ensures.network) (ap traffic (c.note_taken.ensures.around ∙ c.note_datagram.ensures.around))
-    (rw (c.is_ok-is_taken.ensures.value, c.note_datagram.ensures.faults) at c.note_taken.ensures.refused))
+    (counted_in told traffic c.datagram-done.new.self c.datagram-done.new.out c.note_datagram.new.exchange c.note_taken.new.exchange _ _ _ _ _ _
+    (rw (c.is_ok-is_taken.ensures.value) at c.note_datagram.ensures) (rw (c.is_ok-is_taken.ensures.value) at c.note_taken.ensures))
     refl
 
 pub returns-clause-looked : goal.returns-clause-looked
@@ -44,9 +44,10 @@ returns-clause-looked g c =
     let told = g.T.Teller.told in
     let traffic = g.S.Surroundings.traffic in
     let same = c.datagram-done.ensures.came in
-    let noted = counted_so told traffic c.datagram-done.new.self c.datagram-done.new.out c.note_taken.new.exchange (not (is_ok c.datagram-done.result))
-    (c.note_taken.ensures.network ∙ c.note_datagram.ensures.network) (ap traffic (c.note_taken.ensures.around ∙ c.note_datagram.ensures.around))
-    (rw (c.is_ok-is_taken.ensures.value, c.note_datagram.ensures.faults) at c.note_taken.ensures.refused) in
+    let says = rw (c.is_ok-is_taken.ensures.value, c.outcomes.ensures.kept, c.deref.ensures) at c.note_datagram.ensures in
+    let notes = rw (c.is_ok-is_taken.ensures.value, c.sent.ensures.kept, c.deref-2.ensures) at c.note_taken.ensures in
+    let noted = counted_in told traffic c.datagram-done.new.self c.datagram-done.new.out c.note_datagram.new.exchange c.note_taken.new.exchange
+    (is_ok c.datagram-done.result) _ _ _ _ _ says notes in
     record {
       found = Some (c.in-Some.source, c.in-Some.len);
       room = c.receive.new.room;
@@ -58,14 +59,15 @@ returns-clause-looked g c =
       tried = (
         c.in-Some.ensures.admitted,
         ap (λ (s : Standing). s.came.received) noted ∙ ap (λ (x : Came). x.received) same,
-        tries g.S.Surroundings.sends _ _ c.datagram-done.result (at_desk told traffic c.args.self.now)
+        tries g.S.Surroundings.sends (admitted_by c.args.self.now.admission.speakers) _ _ c.datagram-done.result (at_desk told traffic c.args.self.now)
             (standing_of told traffic c.datagram-done.new.self c.datagram-done.new.out) _
             c.receive.new.self c.datagram-done.new.out c.note_taken.new.exchange
             (rw (c.receive.ensures.handed) at c.datagram-done.ensures.outlet)
             c.datagram-done.ensures.untouched
             (rw (c.receive.ensures.handed) at c.datagram-done.ensures.refused)
-            (explained_then _ _ c.note_datagram.new.exchange _ c.note_datagram.ensures.notes
-            (rw (c.is_ok-is_taken.ensures.value) at c.note_taken.ensures.notes))
+            (taken_in c.datagram-done.result _ _ _ c.datagram-done.new.self.gateway.value c.datagram-done.new.out c.note_datagram.new.exchange _ says
+            notes)
+            (refused_in c.datagram-done.result _ _ _ _ _ c.datagram-done.new.out c.note_datagram.new.exchange _ says notes)
             (ap (λ (x : Came). x.refused) same ∙ c.receive.ensures.refused)
             noted
             c.datagram-done.ensures.ends,

@@ -1,13 +1,14 @@
 use Rattle.std.proofs.Common.{◌≡◌, inr, refl, ◌∙◌, ap}
+use Rattle.plain_machine.specs.Event.{phone}
+use Rattle.surroundings.specs.Speaking.{admitted_by}
 use Rattle.traces.specs.Writing.{Input, typed}
-use Rattle.message_counts.specs.declared.reporting.Faults.{Faults}
 use Rattle.live_play.specs.Coming.{Came}
 use Rattle.live_telephones.specs.declared.telephones.TelephoneRequest.TheVariants.{Act as AsksAct, Show}
 use Rattle.live_gateway.specs.Desk.{at_desk}
 use Rattle.live_gateway.specs.Exchanging.{handed_by}
-use Rattle.live_gateway.proofs.DeskLemmas.{standing_of, counted_so, acts, asks, line_is_quiet, line_is_still, line_is_line}
+use Rattle.live_gateway.proofs.DeskLemmas.{standing_of, counted_behind, acts, asks, line_is_quiet, line_is_still, line_is_line}
 use Rattle.live_gateway.proofs.LineLemmas.{taken_free}
-use Rattle.live_gateway.proofs.OverLemmas.{shown_so}
+use Rattle.live_gateway.proofs.OverLemmas.{taken_quietly, refused_quietly, shown_so}
 use Rattle.live_gateway.proofs.AnsweringLemmas.{tries_act, asks_of}
 use Rattle.live_gateway.proofs.desk.Desk.take_line.Goals as goal
 
@@ -61,9 +62,8 @@ returns-in-Act-clause-play g c =
     (line_is_line c.in-Some.text.now (taken_free _ c.in-Some.text.now _ c.in-Some.ensures))
     c.act-done.ensures.ran
     c.act-done.ensures.came
-    (counted_so told traffic c.act-done.new.self c.act-done.new.out c.answer_act.new.exchange _
-    (c.answer_act.ensures.network ∙ c.note_taken.ensures.network) (c.answer_act.ensures.traffic ∙ ap traffic c.note_taken.ensures.around)
-    (ap (λ (x : Faults). x.refused) c.answer_act.ensures.faults ∙ c.note_taken.ensures.refused))
+    (counted_behind told traffic c.act-done.new.self c.act-done.new.out c.note_taken.new.exchange c.answer_act.new.exchange _ _ _
+    c.note_taken.ensures c.answer_act.ensures.rest c.answer_act.ensures.traffic)
     refl
 
 pub returns-in-Act-clause-line : goal.returns-in-Act-clause-line
@@ -71,6 +71,7 @@ returns-in-Act-clause-line g c =
     let told = g.T.Teller.told in
     let traffic = g.S.Surroundings.traffic in
     let answered = c.answer_act.ensures.answered in
+    let notes = rw (c.is_ok.ensures.value, c.sent.ensures.kept, c.deref.ensures) at c.note_taken.ensures in
     inr (
       c.in-Some.text.now,
       AsksAct c.in-Act.line c.in-Act.act,
@@ -88,17 +89,18 @@ returns-in-Act-clause-line g c =
         answer = answered.0;
         before = shown_so c.args.self.now.exchange c.act.new.self c.act.ensures.rest;
         shown = c.act.ensures.shown;
-        tries = tries_act g.S.Surroundings.sends _ _ _ c.act-done.result _ answered.0 (at_desk told traffic c.args.self.now)
+        tries = tries_act g.S.Surroundings.sends (admitted_by c.args.self.now.admission.speakers) _ _ _ c.act-done.result _ answered.0 (at_desk told traffic c.args.self.now)
             (standing_of told traffic c.act-done.new.self c.act-done.new.out) _
             (record c.args.self.now.exchange { journal = c.act.new.self }) c.act-done.new.out c.note_taken.new.exchange
             c.act-done.ensures.outlet
             c.act-done.ensures.untouched
             c.act-done.ensures.refused
-            (rw (c.is_ok.ensures.value) at c.note_taken.ensures.notes)
+            (taken_quietly c.act-done.result _ (phone c.in-Act.line c.in-Act.act) c.act-done.new.self.gateway.value c.act-done.new.out _ (λ log. refl)
+            notes)
+            (refused_quietly c.act-done.result _ (phone c.in-Act.line c.in-Act.act) _ c.act-done.new.out _ (λ log. refl) notes)
             (ap (λ (x : Came). x.refused) c.act-done.ensures.came)
-            (counted_so told traffic c.act-done.new.self c.act-done.new.out c.answer_act.new.exchange _
-            (c.answer_act.ensures.network ∙ c.note_taken.ensures.network) (c.answer_act.ensures.traffic ∙ ap traffic c.note_taken.ensures.around)
-            (ap (λ (x : Faults). x.refused) c.answer_act.ensures.faults ∙ (rw (c.is_ok.ensures.value) at c.note_taken.ensures.refused)))
+            (counted_behind told traffic c.act-done.new.self c.act-done.new.out c.note_taken.new.exchange c.answer_act.new.exchange _ _ _
+            notes c.answer_act.ensures.rest c.answer_act.ensures.traffic)
             (rw (c.printed-printed.ensures) at answered.1)
             c.act-done.ensures.ends;
         says = record {
