@@ -57,10 +57,6 @@ use surroundings::Speakers;
 pub struct Live;
 
 impl Recorder<Trace> for Records {
-    ghost use Rattle.std.specs.Prelude.{⊤};
-
-    ghost writes = { λ was is. ⊤ };
-
     fn write(&mut self, journal: &mut Journal, trace: &mut Trace, time: u64) {
         if self.keep_late(journal, trace, time) {
             return;

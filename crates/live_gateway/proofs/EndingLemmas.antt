@@ -21,7 +21,7 @@ use Rattle.live_journal.specs.declared.trace.Trace.{Trace}
 use Rattle.live_telephones.specs.Losses.{counts_text}
 use Rattle.live_gateway.specs.declared.desk.Desk.{Desk}
 use Rattle.live_gateway.specs.declared.exchange.Exchange.{Exchange}
-use Rattle.live_gateway.specs.Ending.{EndsAt, WroteTimes, AsksForEnd, is_record_refused, EndsWith, OnlyEnds}
+use Rattle.live_gateway.specs.Ending.{EndsAt, WroteTimes, WritesLast, AsksForEnd, is_record_refused, EndsWith, OnlyEnds}
 use Rattle.live_gateway.specs.Exchanging.{OnlyWrites}
 use Rattle.surroundings.specs.Hearing.{AnswersTo}
 use Rattle.surroundings.specs.declared.lines.Lines.{Lines}
@@ -69,6 +69,19 @@ ended_by {S} items ends desk after (Ok v) is_refused was is ending says refused 
     (subst (λ (e : Exchange S). EndsWith ends (let d : Desk S Trace = record desk { exchange = e; lines = after.lines } in d) was is ending) (sym kept)
     (inr (items v, counted.0, says, counted.1, subst (λ (b : Bool). ending ≡ served_ending b (faults_in counted.0)) refused counted.2)))
 ended_by items ends desk after (Err why) is_refused was is ending says refused counted lacks kept rest = inl lacks
+
+-- behind the end the journal and the trace are as they were left by who wrote
+pub wrote_last : {S W : Type 0} (writes : W → Journal → Trace → ℕ → W → Journal → Trace → Type 0) (was mid is : Desk S Trace) (before after : W)
+    (told : Trace) → writes before was.exchange.journal told was.exchange.now.time after mid.exchange.journal mid.play.teller
+    → is.exchange ≡ record mid.exchange { around = is.exchange.around } → is ≡ record mid { exchange = is.exchange; lines = is.lines }
+    → WritesLast writes was before is after
+wrote_last {S} writes was mid is before after told wrote kept rest = (
+  told,
+  subst (λ (j : Journal). writes before was.exchange.journal told was.exchange.now.time after j is.play.teller)
+      (sym (ap (λ (e : Exchange S). e.journal) kept))
+      (subst (λ (t : Trace). writes before was.exchange.journal told was.exchange.now.time after mid.exchange.journal t)
+      (sym (ap (λ (d : Desk S Trace). d.play.teller) rest)) wrote),
+)
 
 -- ---- what stays
 

@@ -25,6 +25,7 @@ use Rattle.turns.specs.declared.situation.Situation.{Situation}
 use Rattle.turns.specs.declared.turn.Turn.{Turn}
 use Rattle.turns.specs.declared.turn.Turn.TheVariants.{End, Look, Wait, Tick, Command, Datagram, Visit, Note}
 use Rattle.turns.specs.Schedule.{next_of}
+use Rattle.live_journal.specs.declared.journal.Journal.{Journal}
 use Rattle.live_play.specs.Running.{Ran}
 use Rattle.live_telephones.specs.Watching.{WatchesOn, WatchesStill}
 use Rattle.live_gateway.specs.Leaving.{OnlyHears, TakesFromPage, Starts, Leaves}
@@ -178,21 +179,23 @@ pub record DoesNext {S T V : Type 0}
       → WatchesOn answers done.play.gateway.value.setup (plain done.play.gateway.value.setup events)
       done.exchange.around done.watch is.exchange.around is.watch
 
--- A turn was done, and then what was recorded was written: of the desk, that changes only what is recorded and told, and whether some of
--- it waits to be taken.
+-- A turn was done, and then what was recorded at it was written, at its time: of the desk, that changes only what is recorded and told, as
+-- who wrote left it, and whether some of it waits to be taken, as they say.
 pub record TurnsAndWrites {S T V W : Type 0}
-    (does : Desk S T → V → Desk S T → V → Type 0) (writes : W → W → Type 0) (was is : Desk S T × V × W) : Type 0 where
+    (does : Desk S T → V → Desk S T → V → Type 0) (writes : W → Journal → T → ℕ → W → Journal → T → Type 0) (offers : W → Bool → Type 0)
+    (was is : Desk S T × V × W) : Type 0 where
   pub done : Desk S T
   pub turn : does was.0 was.1 done is.1
-  pub wrote : writes was.2 is.2
+  pub wrote : writes was.2 done.exchange.journal done.play.teller done.exchange.now.time is.2 is.0.exchange.journal is.0.play.teller
+  pub offering : offers is.2 is.0.exchange.is_offering
   pub teller : is.0.play ≡ record done.play { teller = is.0.play.teller }
   pub exchange : OnlyWrites done.exchange is.0.exchange
   pub rest : is.0 ≡ record done { play = is.0.play; exchange = is.0.exchange }
 
 -- it began, and then there were so many turns, and nothing else
 pub record RunsTurns {S T V W : Type 0}
-    (passes : S → Result ℕ Fault → Type 0) (does : Desk S T → V → Desk S T → V → Type 0) (writes : W → W → Type 0)
-    (count : ℕ) (was : Desk S T) (visitors : V) (before : W) (is : Desk S T) (left : V) (after : W) : Type 0 where
+    (passes : S → Result ℕ Fault → Type 0) (does : Desk S T → V → Desk S T → V → Type 0)
+    (writes : W → Journal → T → ℕ → W → Journal → T → Type 0) (offers : W → Bool → Type 0) (count : ℕ) (was : Desk S T) (visitors : V) (before : W) (is : Desk S T) (left : V) (after : W) : Type 0 where
   pub begun : Desk S T
   pub starts : Starts passes was begun
-  pub turns : WroteTimes (TurnsAndWrites does writes) count (begun, visitors, before) (is, left, after)
+  pub turns : WroteTimes (TurnsAndWrites does writes offers) count (begun, visitors, before) (is, left, after)

@@ -373,7 +373,9 @@ impl<S: Surroundings + Drop, T: Teller + Drop> Desk<S, T> {
         ensures play { GoesOn T.told S.traffic self.old self.new }
         ensures lines { self.new.lines ≡ self.old.lines }
         ensures gateway { self.new.play.gateway ≡ self.old.play.gateway }
-        ensures wrote { W.writes recorder.old recorder.new }
+        ensures wrote { W.writes recorder.old self.old.exchange.journal self.old.play.teller self.old.exchange.now.time
+            recorder.new self.new.exchange.journal self.new.play.teller }
+        ensures offering { W.offers recorder.new self.new.exchange.is_offering }
         ensures teller { self.new.play ≡ record self.old.play { teller = self.new.play.teller } }
         ensures exchange { OnlyWrites self.old.exchange self.new.exchange }
         ensures rest { self.new ≡ record self.old { play = self.new.play; exchange = self.new.exchange } }
@@ -393,7 +395,7 @@ impl<S: Surroundings + Drop, T: Teller + Drop> Desk<S, T> {
         ensures play { GoesOn T.told S.traffic self.old self.new }
         ensures end { (count : ℕ)
             × RunsTurns S.passes (DoesNext T.told S.traffic S.sockets S.passes S.dates S.tells S.sleeps S.receives S.sends S.hears S.answers
-            V.waits V.closes V.serves) W.writes count self.old visitors.old recorder.old self.new visitors.new recorder.new
+            V.waits V.closes V.serves) W.writes W.offers count self.old visitors.old recorder.old self.new visitors.new recorder.new
             × ((EndsAt self.new.end self.new.play.gateway.value true) ⊎ (count ≡ 2 ^ 64 - 1)) }
     {
         // It begins now: what its start took isn't a pause.

@@ -3,7 +3,7 @@ ghost use Rattle.std.specs.Prelude.{◌≡◌, codes, IfOk, OnErr};
 ghost use Rattle.surroundings.specs.Hearing.{AnswersTo};
 ghost use Rattle.live_ends.specs.Ending.{served_ending};
 ghost use Rattle.live_outlets.specs.Written.{faults_in};
-ghost use Rattle.live_gateway.specs.Ending.{AsksForEnd, is_record_refused, EndsWith, OnlyEnds};
+ghost use Rattle.live_gateway.specs.Ending.{AsksForEnd, is_record_refused, WritesLast, EndsWith, OnlyEnds};
 
 use crate::desk::Desk;
 use live_ends::CommonEnding;
@@ -49,7 +49,8 @@ pub fn end_desk<S: Surroundings + Drop, W: Recorder<Trace> + Finisher, R: Clock>
     desk: &mut Desk<S, Trace>,
     recorder: &mut W,
 ) -> CommonEnding
-    ensures ended { (between : W) × W.writes recorder.old between × EndsWith W.ends desk.new between recorder.new result }
+    ensures ended { (between : W) × WritesLast W.writes desk.old recorder.old desk.new between
+        × EndsWith W.ends desk.new between recorder.new result }
     ensures stopped { AsksForEnd desk.old.lines
         → AnswersTo S.answers desk.old.lines.sender desk.old.exchange.around (codes "done\n") desk.new.exchange.around }
     ensures other { (AsksForEnd desk.old.lines → ⊥) → desk.new.exchange.around ≡ desk.old.exchange.around }

@@ -4,6 +4,7 @@ use Rattle.std.specs.declared.net.socket_addr.SocketAddrV4.{SocketAddrV4}
 use Rattle.bad_network.specs.declared.fate.Fate.{Fate}
 use Rattle.bad_network.specs.declared.fate.Fate.TheVariants.{Lost, Once}
 use Rattle.live_ends.specs.declared.ending.CommonEnding.{CommonEnding}
+use Rattle.live_journal.specs.declared.journal.Journal.{Journal}
 use Rattle.live_journal.specs.declared.trace.Trace.{Trace}
 use Rattle.plain_machine.specs.declared.label.SentMessage.{SentMessage}
 use Rattle.plain_machine.specs.Event.{GatewayEvent}
@@ -72,6 +73,13 @@ TriesNowhere input event was from is to = Tries (λ before at bytes sent after. 
 abbrev pub TriesOffHook : List ℕ → Standing → Exchange ℕ → Standing → Exchange ℕ → Type 0
 TriesOffHook answer was from is to =
     TriesAct (λ before at bytes sent after. ⊤) anybody (codes "off-hook 1") 1 OffHook answer was from is to
+
+-- who writes what was recorded was told to, whatever that left; or nobody was
+abbrev pub writes_any : ℕ → Journal → ℕ → ℕ → ℕ → Journal → ℕ → Type 0
+writes_any was journal trace time is left told = ⊤
+
+abbrev pub writes_never : ℕ → Journal → ℕ → ℕ → ℕ → Journal → ℕ → Type 0
+writes_never was journal trace time is left told = ⊥
 
 -- a desk ended so, and who writes what was recorded was told these words last, if any
 abbrev pub EndsSaying : List ℕ → Desk ℕ Trace → CommonEnding → Type 0

@@ -13,8 +13,9 @@ ghost use Rattle.live_gateway.specs.declared.desk.Desk.{Desk};
 ghost use Rattle.live_gateway.specs.declared.exchange.Exchange.{Exchange};
 ghost use Rattle.live_gateway.specs.Admitting.{is_heard};
 ghost use Rattle.live_gateway.specs.Answering.{IsActAnswer};
-ghost use Rattle.live_gateway.specs.Ending.{is_record_refused, IsCounted, OnlyEnds};
+ghost use Rattle.live_gateway.specs.Ending.{is_record_refused, IsCounted, WritesLast, OnlyEnds};
 ghost use Rattle.live_laws.specs.TurnExample.{one, lost_one, once, failed, CanFreely, TriesNowhere, TriesOffHook, LeavesLong, tells_long, comes_to, LooksNowhere, FindsNothing, SendsNowhere, HandsAnywhere, HandsNowhere, HandsWith, EndsSaying, CountsStranger, ActsAnywhere};
+ghost use Rattle.live_laws.specs.TurnExample.{writes_any, writes_never};
 ghost use Rattle.live_gateway.specs.Exchanging.{heard_in, mark_of, is_lost, faults_by, faultless, with_unreceived, unsent_in};
 ghost use Rattle.live_gateway.specs.Exchanging.{IsTold, OnlySends, OnlyWrites, NotesTaken, NotesRefused, LosesOver, TakesOver};
 ghost use Rattle.live_gateway.specs.Noting.{SaysWhy, SaysUntaken};
@@ -70,7 +71,7 @@ pub fn what_stays_has_examples()
         → DoesVisit {V = ℕ} (λ around. untold) (λ around told. ⊤) (λ v s b at w t c. ⊤) 5 visitors left was is
         → is.exchange.read ≡ was.exchange.read }
     ensures unasked { (desk : Desk ℕ ℕ) → TakesIf false desk.exchange.journal desk.lines true desk.exchange.journal desk.lines true }
-    ensures unrun { (was is : Desk ℕ ℕ) → RunsTurns {V = ℕ} {W = ℕ} (λ s told. ⊤) (λ a v b w. ⊤) (λ a b. ⊤) 0 was 3 7 is 3 7
+    ensures unrun { (was is : Desk ℕ ℕ) → RunsTurns {V = ℕ} {W = ℕ} (λ s told. ⊤) (λ a v b w. ⊤) writes_any (λ w o. ⊤) 0 was 3 7 is 3 7
         → is.end ≡ was.end }
 {}
 
@@ -221,11 +222,17 @@ pub fn what_visitors_have_has_examples()
         → ServesOnce {S = ℕ} (λ v s b at w t c. ⊥) 5 (Some one) 0 (Some board) left 0 shown → ⊥ }
 {}
 
-/// Where what was recorded is written, and where a desk ends, what was counted stays, and what the page is shown; of a desk that ends
-/// its gateway does too, and when it ends.
+/// Where what was recorded is written, once a turn, and where a desk ends, what was counted stays, and what the page is shown; of a desk that
+/// ends its gateway does too, and when it ends.
 pub fn what_writing_leaves_has_examples()
     ensures wrote { (was is : Exchange ℕ) → OnlyWrites was is
         → (is.journal.tally ≡ was.journal.tally) × (is.journal.board ≡ was.journal.board) × (is.faults ≡ was.faults) }
+    ensures unwritten { (was is : Desk ℕ ℕ)
+        → RunsTurns {V = ℕ} {W = ℕ} (λ s told. ⊤) (λ a v b w. ⊤) writes_never (λ w o. ⊤) 1 was 3 7 is 3 7 → ⊥ }
+    ensures offering { (was is : Desk ℕ ℕ)
+        → RunsTurns {V = ℕ} {W = ℕ} (λ s told. ⊤) (λ a v b w. ⊤) writes_any (λ w o. o ≡ true) 1 was 3 7 is 3 7
+        → is.exchange.is_offering ≡ true }
+    ensures last { (was is : Desk ℕ Trace) → WritesLast {W = ℕ} (λ b j t n a k u. n ≡ 7) was 0 is 0 → was.exchange.now.time ≡ 7 }
     ensures ended { (was is : Desk ℕ ℕ) → OnlyEnds was is
         → (is.exchange.journal.tally ≡ was.exchange.journal.tally) × (is.exchange.journal.board ≡ was.exchange.journal.board) }
     ensures rested { (was is : Desk ℕ ℕ) → OnlyEnds was is

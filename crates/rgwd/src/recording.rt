@@ -1,7 +1,4 @@
 //! What a gateway's records go to: its outlets, and the files of its capture, of which the next is made where one is full.
-ghost use Rattle.std.specs.Prelude.{◌≡◌, ◌&&◌, not};
-ghost use Rattle.mg_bytes.specs.Lists.{is_empty};
-
 use live_ends::CaptureFiles;
 use live_journal::{Capture, Journal, Recorder, Trace};
 use live_outlets::{Finisher, Outlets, Written};
@@ -74,9 +71,15 @@ fn turn_over<R: Files>(
 }
 
 impl<R: Files> Recorder<Trace> for Recording<R> {
-    ghost use Rattle.std.specs.Prelude.{⊤};
+    ghost use Rattle.std.specs.Prelude.{◌≡◌, ◌&&◌, [], not};
+    ghost use Rattle.mg_bytes.specs.Lists.{is_empty};
+    ghost use Rattle.live_journal.specs.Writing.{KeepsLog, IsWritten};
 
-    ghost writes = { λ was is. ⊤ };
+    ghost writes = { λ was journal trace time is left told. KeepsLog journal.log.value left.log.value
+        × (told.record.out.items ≡ []) × IsWritten is.outlets left.written };
+
+    ghost offers = { λ recording waits. waits ≡ not (is_empty recording.outlets.output.value.backlog.waiting
+        && is_empty recording.outlets.error.value.backlog.waiting) };
 
     fn write(&mut self, journal: &mut Journal, trace: &mut Trace, time: u64) {
         if let Some(files) = &mut self.files {
@@ -85,10 +88,7 @@ impl<R: Files> Recorder<Trace> for Recording<R> {
         journal.write(trace, &mut self.outlets, time);
     }
 
-    fn is_offering(&self) -> bool
-        ensures { result ≡ not (is_empty self.now.outlets.output.value.backlog.waiting
-            && is_empty self.now.outlets.error.value.backlog.waiting) }
-    {
+    fn is_offering(&self) -> bool {
         !self.outlets.are_taken()
     }
 }

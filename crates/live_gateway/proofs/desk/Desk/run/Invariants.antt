@@ -9,4 +9,4 @@ invariant-loop g l =
     (DoesNext g.T.Teller.told g.S.Surroundings.traffic g.S.Surroundings.sockets g.S.Surroundings.passes g.S.Surroundings.dates
     g.S.Surroundings.tells g.S.Surroundings.sleeps g.S.Surroundings.receives g.S.Surroundings.sends g.S.Surroundings.hears g.S.Surroundings.answers
     g.V.Visitors.waits g.V.Visitors.closes g.V.Visitors.serves)
-    g.W.Recorder.writes l.counter l.fn.self l.fn.visitors l.fn.recorder l.self l.visitors l.recorder
+    g.W.Recorder.writes g.W.Recorder.offers l.counter l.fn.self l.fn.visitors l.fn.recorder l.self l.visitors l.recorder
