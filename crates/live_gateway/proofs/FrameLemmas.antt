@@ -5,6 +5,7 @@ use Rattle.std.specs.Global.{Box}
 use Rattle.message_counts.specs.declared.reporting.Faults.{Faults}
 use Rattle.page_board.specs.Showing.{BoardState}
 use Rattle.surroundings.specs.Sending.{Traffic}
+use Rattle.surroundings.specs.declared.lines.Lines.{Lines}
 use Rattle.surroundings.specs.declared.surroundings.Fault.{Fault}
 use Rattle.surroundings.specs.declared.surroundings.Told.{Told}
 use Rattle.turns.specs.declared.schedule.Schedule.{Schedule}
@@ -54,12 +55,16 @@ pub shows_alone : {S : Type 0} (was : Exchange S) (journal : Journal) → IsSame
 shows_alone {S} was journal same = ap (λ (x : Journal). record was { journal = x }) (board_alone was.journal journal same)
 
 -- a visitor was served, behind what the page was shown
-pub served_alone : {S : Type 0} (was is : Exchange S) (shown : Journal) → shown ≡ record was.journal { board = shown.board } → is.network ≡ was.network
-    → is.journal ≡ record shown { board = is.journal.board } → is.now ≡ was.now → is.read ≡ was.read → is.faults ≡ was.faults
-    → is.is_offering ≡ was.is_offering → is ≡ record was { around = is.around; journal = record was.journal { board = is.journal.board } }
-served_alone was is shown board network journal now read faults offering =
-    made_of is is.around was.network (record was.journal { board = is.journal.board }) was.now was.read was.faults was.is_offering refl network
-    (journal ∙ ap (λ (x : Journal). record x { board = is.journal.board }) board) now read faults offering
+pub served_alone : {S : Type 0} (was is : Exchange S) (shown : Journal) → shown ≡ record was.journal { board = shown.board }
+    → is ≡ record was { around = is.around; journal = record shown { board = is.journal.board } }
+    → is ≡ record was { around = is.around; journal = record was.journal { board = is.journal.board } }
+served_alone {S} was is shown board served =
+    served ∙ ap (λ (x : Journal). record was { around = is.around; journal = record x { board = is.journal.board } }) board
+
+-- a datagram of lines was taken, or none was
+pub heard_alone : {S : Type 0} (was is : Exchange S) (read : ℕ) → is ≡ record was { around = is.around; read = is.read } → is.read ≡ read
+    → is ≡ record was { around = is.around; read = read }
+heard_alone {S} was is read rest same = rest ∙ ap (λ (n : ℕ). record was { around = is.around; read = n }) same
 
 -- a turn begins, behind a look at the clock
 pub begun_alone : {S : Type 0} (was mid is : Exchange S) → mid ≡ record was { faults = mid.faults } → is.around ≡ mid.around → is.network ≡ mid.network
@@ -98,6 +103,13 @@ begins_same told traffic was begun clock before counts =
     ap (at_desk told traffic) before
     ∙ ap (λ (n : ℕ). at_desk told traffic (record was { exchange = record was.exchange { faults = record was.exchange.faults { refused = n } } }))
     (ap (λ (x : Faults). x.refused) counts ∙ still_refused clock was.exchange.faults)
+
+-- nor does anything where it is looked for lines
+pub heard_same : {S T : Type 0} (told : T → Option (List ℕ)) (traffic : S → Traffic) (was : Desk S T) (heard : Exchange S) (lines : Lines)
+    → heard ≡ record was.exchange { around = heard.around; read = heard.read } → traffic heard.around ≡ traffic was.exchange.around
+    → at_desk told traffic (record was { exchange = heard; lines = lines }) ≡ at_desk told traffic was
+heard_same {S} told traffic was heard lines rest kept =
+    ap (λ (x : Exchange S). at_desk told traffic (record was { exchange = x })) rest ∙ ap (λ (x : Traffic). at_desk told (λ (s : S). x) was) kept
 
 -- nor does anything where the page is asked
 pub page_same : {S T : Type 0} (told : T → Option (List ℕ)) (traffic : S → Traffic) (tells : S → Told → Type 0)

@@ -92,16 +92,7 @@ fn asks_for_end(lines: &Lines) -> bool
 fn is_end(turn: Turn) -> bool
     ensures { result ≡ is_end turn }
 {
-    match turn {
-        Turn::End => true,
-        Turn::Look
-        | Turn::Wait { .. }
-        | Turn::Tick { .. }
-        | Turn::Command
-        | Turn::Datagram
-        | Turn::Visit
-        | Turn::Note { .. } => false,
-    }
+    matches!(turn, Turn::End)
 }
 
 impl<S: Surroundings + Drop, T: Teller + Drop> Desk<S, T> {

@@ -8,6 +8,7 @@ ghost use Rattle.live_gateway.specs.Admitting.{is_heard};
 ghost use Rattle.live_gateway.specs.Offering.{brought, TakesDue};
 ghost use Rattle.live_gateway.specs.Exchanging.{handed_by, received_by, came_by, next_due, moment_at, faultless, with_refused, with_read, faults_by, Waits, Becomes, HandsOver, LosesOver, IsSameTurn, LooksOnce, CountsReceived, FoundSince};
 ghost use Rattle.live_gateway.specs.Visiting.{ServesOnce};
+ghost use Rattle.live_gateway.specs.Leaving.{OnlyTells};
 ghost use Rattle.live_gateway.specs.Noting.{NotesReceived, TurnsAway, NotesArrival, NotesLate, CountsFound};
 ghost use Rattle.live_gateway.specs.Passing.{HandsOut, GoesOver, LooksOver, LooksDirectly, Looks};
 ghost use Rattle.live_play.specs.Readable.{first_unread};
@@ -166,12 +167,8 @@ impl<S: Surroundings + Drop> Exchange<S> {
 
     /// A visitor is served, at this moment in ms, if one is there.
     pub fn serve_visitor<V: Visitors<S>>(&mut self, visitors: &mut Option<Box<V>>, moment: u64)
-        ensures network { self.new.network ≡ self.old.network }
         ensures traffic { S.traffic self.new.around ≡ S.traffic self.old.around }
-        ensures faults { self.new.faults ≡ self.old.faults }
-        ensures read { self.new.read ≡ self.old.read }
-        ensures turn { IsSameTurn self.old self.new }
-        ensures journal { self.new.journal ≡ record self.old.journal { board = self.new.journal.board } }
+        ensures rest { OnlyTells self.old self.new }
         ensures served { ServesOnce V.serves moment visitors.old self.old.around self.old.journal.board
             visitors.new self.new.around self.new.journal.board }
     {
@@ -184,14 +181,11 @@ impl<S: Surroundings + Drop> Exchange<S> {
 
     /// A datagram of lines is taken, where no line is left and one has come.
     pub fn hear(&mut self, lines: &mut Lines)
-        ensures network { self.new.network ≡ self.old.network }
         ensures traffic { S.traffic self.new.around ≡ S.traffic self.old.around }
-        ensures faults { self.new.faults ≡ self.old.faults }
-        ensures journal { self.new.journal ≡ self.old.journal }
+        ensures rest { self.new ≡ record self.old { around = self.new.around; read = self.new.read } }
         ensures heard { (taken : Bool) × Hears S.sockets S.hears self.old.around lines.old taken self.new.around lines.new
             × (self.new.read ≡ with_read taken self.old.read) }
         ensures read { ((self.new.read ≡ self.old.read) × (lines.new ≡ lines.old)) ⊎ (self.new.read ≡ counted self.old.read 1) }
-        ensures turn { IsSameTurn self.old self.new }
     {
         if lines.hear(&mut self.around) {
             count(&mut self.read);

@@ -1,14 +1,14 @@
 use Rattle.std.proofs.Common.{false, refl}
 use Rattle.std.specs.Prelude.{not}
 use Rattle.live_gateway.proofs.DeskLemmas.{between}
-use Rattle.live_gateway.proofs.FrameLemmas.{made_of, with_exchange, page_same}
+use Rattle.live_gateway.proofs.FrameLemmas.{heard_alone, with_exchange, heard_same, page_same}
 use Rattle.live_gateway.proofs.desk.Desk.command.Goals as goal
 
 pub returns-clause-play : goal.returns-clause-play
 returns-clause-play g c =
     between g.T.Teller.told g.S.Surroundings.traffic _ _ _ _
     c.take_line.ensures.play
-    (rw (c.hear.ensures.network, c.hear.ensures.traffic, c.hear.ensures.faults) refl)
+    (heard_same g.T.Teller.told g.S.Surroundings.traffic c.args.self.now c.hear.new.self c.hear.new.lines c.hear.ensures.rest c.hear.ensures.traffic)
     refl
     (page_same g.T.Teller.told g.S.Surroundings.traffic g.S.Surroundings.tells (not c.args.self.now.is_of_page) false c.take_line.new.self
     (record c.take_line.new.self {
@@ -32,8 +32,7 @@ returns-clause-lines g c = record {
   taken = c.hear.ensures.heard.0;
   hearing = c.hear.ensures.heard.1;
   before = with_exchange (record c.args.self.now { lines = c.hear.new.lines }) _ _
-      (made_of c.hear.new.self _ _ _ _ _ _ _ refl c.hear.ensures.network c.hear.ensures.journal c.hear.ensures.turn.0 c.hear.ensures.heard.2
-      c.hear.ensures.faults c.hear.ensures.turn.1);
+      (heard_alone c.args.self.now.exchange c.hear.new.self _ c.hear.ensures.rest c.hear.ensures.heard.2);
   kept = c.hear.ensures.traffic;
   line = c.take_line.ensures.line;
   behind = record {

@@ -24,8 +24,7 @@ returns g c =
       before = with_exchange c.args.self.now _ _
           (served_alone c.args.self.now.exchange c.serve_visitor.new.self c.show.new.journal
           (shown_alone c.args.self.now.exchange.journal c.show.new.journal c.show.ensures)
-          c.serve_visitor.ensures.network c.serve_visitor.ensures.journal c.serve_visitor.ensures.turn.0 c.serve_visitor.ensures.read
-          c.serve_visitor.ensures.faults c.serve_visitor.ensures.turn.1);
+          c.serve_visitor.ensures.rest);
       turn = c.serve_visitor.ensures.served;
       kept = c.serve_visitor.ensures.traffic;
       page = record {
