@@ -117,8 +117,8 @@ impl<T: Teller + Drop> LivePlay<T> {
         hand_all(self.alloc, &mut self.teller, out, datagrams, messages, told);
     }
 
-    /// The clock goes to this moment, in ms: what the gateway sends at it is handed out. A refused tick changes nothing, nor is the trace told
-    /// of it. What was answered last stays.
+    /// The clock goes to this moment, in ms: what the gateway sends at it is handed out. A refused tick changes nothing, nor is the trace
+    /// told of it. What was answered last stays.
     #[tactic(auto, using(crate::proofs::RunLemmas::goes_on_quietly))]
     pub fn tick<O: Outlet>(&mut self, out: &mut O, moment: u64) -> Result<(), Refusal>
         ensures ran { RanOf (λ input. input ≡ passed moment)
@@ -151,8 +151,8 @@ impl<T: Teller + Drop> LivePlay<T> {
         }
     }
 
-    /// A datagram came from there: what the gateway sends at it is handed out. Where memory is refused for it nothing is changed, nor is the
-    /// trace told of it. What was answered last stays.
+    /// A datagram came from there: what the gateway sends at it is handed out. Where memory is refused for it nothing is changed, nor is
+    /// the trace told of it. What was answered last stays.
     #[tactic(auto, using(crate::proofs::RunLemmas::goes_on_quietly))]
     pub fn datagram<O: Outlet>(
         &mut self,
@@ -172,7 +172,8 @@ impl<T: Teller + Drop> LivePlay<T> {
             (live self.old.gateway.value self.old.script (T.told self.old.teller) (O.handed out.old)) []
             (live self.new.gateway.value self.new.script (T.told self.new.teller) (O.handed out.new))) }
         ensures outlet { OnOk result (TakesBy O.turns O.hands
-            (live self.old.gateway.value self.old.script (T.told self.old.teller) (O.handed out.old)) out.old (arrived source bytes.now) (datagram source bytes.now)
+            (live self.old.gateway.value self.old.script (T.told self.old.teller) (O.handed out.old)) out.old
+            (arrived source bytes.now) (datagram source bytes.now)
             (live self.new.gateway.value self.new.script (T.told self.new.teller) (O.handed out.new)) out.new) }
         ensures untouched { OnErr result (out.new ≡ out.old) }
         ensures ends { (before : List GatewayEvent) → Stands self.old.gateway.value before →
@@ -199,8 +200,8 @@ impl<T: Teller + Drop> LivePlay<T> {
     }
 
     /// Something is done at the telephone of a line, as a line of text said: what the gateway sends at it is handed out. A refused act
-    /// changes nothing; why it was refused is `printed`, and saying that may want memory: then the trace isn't told of it. An act that can be
-    /// done and takes none is done.
+    /// changes nothing; why it was refused is `printed`, and saying that may want memory: then the trace isn't told of it. An act that can
+    /// be done and takes none is done.
     pub fn act<O: Outlet>(
         &mut self,
         out: &mut O,
@@ -221,7 +222,8 @@ impl<T: Teller + Drop> LivePlay<T> {
             text.now (phone line act) refusal self.new.printed.items
             (live self.new.gateway.value self.new.script (T.told self.new.teller) (O.handed out.new))) }
         ensures outlet { OnOk result (TakesBy O.turns O.hands
-            (live self.old.gateway.value self.old.script (T.told self.old.teller) (O.handed out.old)) out.old (typed text.now) (phone line act)
+            (live self.old.gateway.value self.old.script (T.told self.old.teller) (O.handed out.old)) out.old
+            (typed text.now) (phone line act)
             (live self.new.gateway.value self.new.script (T.told self.new.teller) (O.handed out.new)) out.new) }
         ensures untouched { OnErr result (out.new ≡ out.old) }
         ensures ends { (before : List GatewayEvent) → Stands self.old.gateway.value before
@@ -264,8 +266,8 @@ impl<T: Teller + Drop> LivePlay<T> {
         }
     }
 
-    /// What a line is is asked, as a line of text said: the answer is `printed`. After an error, which is for want of memory, the trace wasn't
-    /// told of it.
+    /// What a line is is asked, as a line of text said: the answer is `printed`. After an error, which is for want of memory, the trace
+    /// wasn't told of it.
     pub fn ask(&mut self, text: &[u8], line: u16) -> Result<(), OutOfMemory>
         requires { line_in (words text.now) ≡ Some (Whole (Show line)) }
         ensures ran { (handed : Option (List Sent)) → RanOf (λ input. input ≡ typed text.now)
