@@ -93,7 +93,8 @@ WatchesOn {S} answers setup m before was after is =
     ((is_watched m.now was.watchers.places ≡ false) × (after ≡ before) × (is ≡ was))
     ⊎ ((is_watched m.now was.watchers.places ≡ true) × TellsLines answers setup m setup.names.lines before was after is)
     ⊎ ((is_watched m.now was.watchers.places ≡ true) × (is.watchers.places ≡ nobody) × (between : S)
-    × TellsSome answers setup m before was between is × TellsEach answers m.now was.watchers.places between (codes "! 1 OutOfMemory\n") after)
+    × TellsSome answers setup m before was between is
+    × TellsEach answers m.now was.watchers.places between (codes "! 1 OutOfMemory\n") after)
 
 -- So it is of who watches, whatever the gateway stands for: they do so still; or all are told that memory is refused, and nobody does any
 -- more.

@@ -226,8 +226,8 @@ fn view_of(
 fn put_line(gathering: &mut Gathering, views: &mut Vec<LineView>, gateway: &Gateway, line: u16)
     requires low { 1 ≤ line }
     requires high { line ≤ gateway.now.setup.names.lines }
-    ensures { gathering.new.is_refused ≡ false → (gathering.old.is_refused ≡ false) × ((events : List GatewayEvent) → Stands gateway.now events
-        → lines_in views.new.items
+    ensures { gathering.new.is_refused ≡ false → (gathering.old.is_refused ≡ false)
+        × ((events : List GatewayEvent) → Stands gateway.now events → lines_in views.new.items
         ≡ lines_in views.old.items ++ (line_viewed gateway.now.setup (plain gateway.now.setup events) line ∷ [])) }
 {
     match seen_line(gathering.alloc, gateway, line) {
@@ -361,8 +361,8 @@ fn put_numbers(counts: &mut Counts, journal: &Journal, faults: Faults)
 // All lines.
 #[tactic(auto, unfolding(crate::specs::Viewing::lines_viewed))]
 fn put_lines(gathering: &mut Gathering, views: &mut Vec<LineView>, gateway: &Gateway)
-    ensures { gathering.new.is_refused ≡ false → (gathering.old.is_refused ≡ false) × ((events : List GatewayEvent) → Stands gateway.now events
-        → lines_in views.new.items
+    ensures { gathering.new.is_refused ≡ false → (gathering.old.is_refused ≡ false)
+        × ((events : List GatewayEvent) → Stands gateway.now events → lines_in views.new.items
         ≡ lines_in views.old.items ++ lines_viewed gateway.now.setup (plain gateway.now.setup events) gateway.now.setup.names.lines) }
 {
     for before in 0..gateway.lines() {
