@@ -34,7 +34,8 @@ pub fn what_a_network_hands_out_has_examples()
     ensures one { (admission : Admission) (packet : Packet) (was is : Exchange ℕ) → PassesEach sends_any admission (packet ∷ []) was is
         → SendsNext sends_any packet was is ⊎ TurnsNextAway admission packet was is }
     ensures heard { (admission : Admission) (room : List ℕ) (was is : Exchange ℕ)
-        (next : GivesNext admission (at_port 9 2727, 5) room was is) → (next.packet.peer ≡ at_port 9 2727) × (next.packet.way ≡ In) × (is_heard admission next.packet.peer ≡ true) }
+        (next : GivesNext admission (at_port 9 2727, 5) room was is)
+        → (next.packet.peer ≡ at_port 9 2727) × (next.packet.way ≡ In) × (is_heard admission next.packet.peer ≡ true) }
     ensures bytes { (admission : Admission) (was is : Exchange ℕ) (next : GivesNext admission (at_port 9 2727, 2) (1 ∷ 2 ∷ 3 ∷ []) was is)
         → take 3 next.packet.bytes ≡ 1 ∷ 2 ∷ [] }
     ensures received { (admission : Admission) (room : List ℕ) (was is : Exchange ℕ) → GivesNext admission (at_port 9 2727, 5) room was is
@@ -54,9 +55,11 @@ pub fn what_a_network_hands_out_has_examples()
 pub fn what_a_look_gives_has_examples()
     ensures lost { (admission : Admission) (was is : Exchange ℕ)
         → HandsUnlessLost sends_any true admission (at_port 9 2727) (1 ∷ []) (Some (at_port 9 2727, 5)) [] was is → ⊥ }
-    ensures lost_quietly { (admission : Admission) (was is : Exchange ℕ) → HandsUnlessLost sends_any true admission (at_port 9 2727) (1 ∷ []) None [] was is
+    ensures lost_quietly { (admission : Admission) (was is : Exchange ℕ)
+        → HandsUnlessLost sends_any true admission (at_port 9 2727) (1 ∷ []) None [] was is
         → (is.journal.tally ≡ was.journal.tally) × (is.network ≡ was.network) }
-    ensures unlost { (admission : Admission) (was is : Exchange ℕ) → HandsUnlessLost sends_any false admission (at_port 9 2727) (1 ∷ []) None [] was is
+    ensures unlost { (admission : Admission) (was is : Exchange ℕ)
+        → HandsUnlessLost sends_any false admission (at_port 9 2727) (1 ∷ []) None [] was is
         → HandsOut sends_any admission None [] was is }
     ensures over { (admission : Admission) (given : Option (SocketAddrV4 × ℕ)) (was is : Exchange ℕ)
         (goes : GoesOver sends_any admission (at_port 9 2727) (1 ∷ []) given [] was is) → goes.offered.journal ≡ was.journal }

@@ -186,8 +186,9 @@ pub fn what_is_tried_has_examples()
     ensures heard { (was is : Standing) (from to : Exchange ℕ) → Stands was.live.gateway []
         → TriesNowhere (arrived one.0 []) (datagram one.0 []) was from is to
         → (is.came.refused ≡ was.came.refused) ⊎ MayRefuse was.live.gateway (datagram one.0 []) Why.OutOfMemory }
-    ensures done { (was is : Standing) (events : List GatewayEvent) (from to : Exchange ℕ) (answer : List ℕ) → Stands was.live.gateway events
-        → CanFreely (plain was.live.gateway.setup events) (phone 1 OffHook) → TriesOffHook answer was from is to → answer ≡ codes "done\n" }
+    ensures done { (was is : Standing) (events : List GatewayEvent) (from to : Exchange ℕ) (answer : List ℕ)
+        → Stands was.live.gateway events → CanFreely (plain was.live.gateway.setup events) (phone 1 OffHook)
+        → TriesOffHook answer was from is to → answer ≡ codes "done\n" }
     ensures acted { (was is : Desk ℕ ℕ) → ActsAnywhere was is → (is.end ≡ was.end) × (is.admission ≡ was.admission) }
 {}
 
@@ -222,8 +223,8 @@ pub fn what_visitors_have_has_examples()
         → ServesOnce {S = ℕ} (λ v s b at w t c. ⊥) 5 (Some one) 0 (Some board) left 0 shown → ⊥ }
 {}
 
-/// Where what was recorded is written, once a turn, and where a desk ends, what was counted stays, and what the page is shown; of a desk that
-/// ends its gateway does too, and when it ends.
+/// Where what was recorded is written, once a turn, and where a desk ends, what was counted stays, and what the page is shown; of a desk
+/// that ends its gateway does too, and when it ends.
 pub fn what_writing_leaves_has_examples()
     ensures wrote { (was is : Exchange ℕ) → OnlyWrites was is
         → (is.journal.tally ≡ was.journal.tally) × (is.journal.board ≡ was.journal.board) × (is.faults ≡ was.faults) }
