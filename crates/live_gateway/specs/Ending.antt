@@ -31,7 +31,8 @@ WroteTimes writes zero was is = is ≡ was
 WroteTimes {W} writes (suc count) was is = (between : W) × WroteTimes writes count was between × writes between is
 
 -- what was recorded at a desk was written, at the time of its last turn, behind what its trace was told as it ended
-abbrev pub WritesLast : {S W : Type 0} → (W → Journal → Trace → ℕ → W → Journal → Trace → Type 0) → Desk S Trace → W → Desk S Trace → W → Type 0
+abbrev pub WritesLast :
+    {S W : Type 0} → (W → Journal → Trace → ℕ → W → Journal → Trace → Type 0) → Desk S Trace → W → Desk S Trace → W → Type 0
 WritesLast writes was before is after =
     (told : Trace) × writes before was.exchange.journal told was.exchange.now.time after is.exchange.journal is.play.teller
 

@@ -258,7 +258,8 @@ NotesFate time to (Err fault) was is = Records was.record (unsent_text time to) 
 -- as it left the gateway, and it is counted as handed out; it became what is to be noted of it, in the log too, and that it wasn't sent
 -- counts as a fault. Nothing was read, no other fault counts, and what became of records stays.
 pub record HandsOver {S : Type 0} (sends : S → SocketAddrV4 → List ℕ → Result ⊤ Fault → S → Type 0)
-    (was : Exchange S) (to : SocketAddrV4) (bytes : List ℕ) (messages : List SentMessage) (mark : Option Mark) (is : Exchange S) : Type 0 where
+    (was : Exchange S) (to : SocketAddrV4) (bytes : List ℕ) (messages : List SentMessage) (mark : Option Mark) (is : Exchange S)
+    : Type 0 where
   pub shown : GoesOn (HappenedWith was.now.clock OfSent to bytes (map sent_label messages)) was.journal.board is.journal.board
   pub became : (became : Result Fate Fault) × Becomes sends was to bytes became is × (mark ≡ mark_of became)
       × (sent : Log) × Sends was.journal.log.value (record { moment = was.now.time; peer = to }) bytes messages sent
@@ -306,7 +307,8 @@ Notes false admitted sent was is = is ≡ record was { faults = with_refused tru
 
 -- The gateway took an event, and what it sent at it was handed out. Then the log says why commands of it were refused, and behind that to
 -- which commands that were sent no answer is heard; and nothing else changes.
-pub record NotesTaken {S : Type 0} (admitted : Admitted) (event : GatewayEvent) (gateway : GatewayState) (was is : Exchange S) : Type 0 where
+pub record NotesTaken {S : Type 0} (admitted : Admitted) (event : GatewayEvent) (gateway : GatewayState) (was is : Exchange S)
+    : Type 0 where
   pub explained : Log
   pub why : SaysWhy event gateway.outcomes was.journal.log.value explained
   pub unheard : SaysUnheard admitted was.now.time gateway.account.sent explained is.journal.log.value
@@ -318,8 +320,8 @@ pub record NotesRefused {S : Type 0} (event : GatewayEvent) (was is : Exchange S
   pub rest : is ≡ record was { journal = record was.journal { log = is.journal.log }; faults = with_refused true was.faults }
 
 -- The gateway took an event that came in so, over an exchange: this was told of it, and handed what was sent at it, each datagram with the
--- messages that stand in it; what stands in the trace behind the event is what the exchange said of each; and so many as weren't sent count.
--- Then that is noted, where these may speak to it, and nothing else is done.
+-- messages that stand in it; what stands in the trace behind the event is what the exchange said of each; and so many as weren't sent
+-- count. Then that is noted, where these may speak to it, and nothing else is done.
 pub record TakesOver {S : Type 0} (sends : S → SocketAddrV4 → List ℕ → Result ⊤ Fault → S → Type 0)
     (admitted : Admitted) (was : Live) (from : Exchange S) (input : Input) (event : GatewayEvent) (is : Live) (to : Exchange S)
     : Type 0 where

@@ -109,7 +109,8 @@ Does told traffic sockets tells receives sends hears answers (Wait until) was is
 Does told traffic sockets tells receives sends hears answers (Tick moment) was is =
     Tries sends (admitted_by was.admission.speakers) (passed moment) (tick moment)
     (at_desk told traffic was) (record was.exchange { now = is.exchange.now }) (at_desk told traffic is) is.exchange
-Does told traffic sockets tells receives sends hears answers Command was is = DoesLines told traffic sockets tells sends hears answers was is
+Does told traffic sockets tells receives sends hears answers Command was is =
+    DoesLines told traffic sockets tells sends hears answers was is
 Does told traffic sockets tells receives sends hears answers Datagram was is = LooksForOne told traffic receives sends was is
 Does told traffic sockets tells receives sends hears answers Visit was is = at_desk told traffic is ≡ at_desk told traffic was
 Does told traffic sockets tells receives sends hears answers (Note pause) was is = at_desk told traffic is ≡ at_desk told traffic was
@@ -195,7 +196,8 @@ pub record TurnsAndWrites {S T V W : Type 0}
 -- it began, and then there were so many turns, and nothing else
 pub record RunsTurns {S T V W : Type 0}
     (passes : S → Result ℕ Fault → Type 0) (does : Desk S T → V → Desk S T → V → Type 0)
-    (writes : W → Journal → T → ℕ → W → Journal → T → Type 0) (offers : W → Bool → Type 0) (count : ℕ) (was : Desk S T) (visitors : V) (before : W) (is : Desk S T) (left : V) (after : W) : Type 0 where
+    (writes : W → Journal → T → ℕ → W → Journal → T → Type 0) (offers : W → Bool → Type 0)
+    (count : ℕ) (was : Desk S T) (visitors : V) (before : W) (is : Desk S T) (left : V) (after : W) : Type 0 where
   pub begun : Desk S T
   pub starts : Starts passes was begun
   pub turns : WroteTimes (TurnsAndWrites does writes offers) count (begun, visitors, before) (is, left, after)
