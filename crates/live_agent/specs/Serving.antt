@@ -1,7 +1,8 @@
 -- How a call agent serves: one turn behind another, until the end comes.
-use Rattle.std.specs.Prelude.{◌≡◌, ◌⊎◌, ⊤, ℕ, zero, suc, ◌-◌, ◌^◌, true, false, is_err, List, Option, Result, Ok, Err}
+use Rattle.std.specs.Prelude.{◌≡◌, ◌⊎◌, ⊤, ℕ, zero, suc, ◌-◌, ◌^◌, Bool, true, false, is_err, List, Option, Result, Ok, Err}
 use Rattle.std.specs.declared.net.socket_addr.SocketAddr.{SocketAddr}
 use Rattle.std.specs.declared.net.socket_addr.SocketAddrV4.{SocketAddrV4}
+use Rattle.agent_config.specs.declared.config.AgentConfig.{AgentConfig}
 use Rattle.agent_texts.specs.declared.journal.Journal.{Journal}
 use Rattle.live_ends.specs.declared.ending.CommonEnding.{CommonEnding}
 use Rattle.live_ends.specs.declared.ending.CommonEnding.TheVariants.{Served, Clock, OutOfMemory}
@@ -10,6 +11,7 @@ use Rattle.surroundings.specs.Sending.{Traffic}
 use Rattle.surroundings.specs.declared.surroundings.Fault.{Fault}
 use Rattle.surroundings.specs.declared.surroundings.Told.{Told}
 use Rattle.switchboard.specs.declared.switchboard.Switchboard.{Switchboard}
+use Rattle.switchboard.specs.Opening.{BoardOf}
 use Rattle.turns.specs.Schedule.{opening}
 use Rattle.turns.specs.declared.schedule.Schedule.{Schedule}
 use Rattle.live_agent.specs.declared.wire.Wire.{Wire}
@@ -89,12 +91,13 @@ pub record ServesToEnd {S W : Type 0}
   pub counts : is.journal.value.tally ≡ done.journal.value.tally
   pub rest : is ≡ record done { journal = is.journal }
 
--- with a desk; or memory is refused for that, and nothing is done
+-- with the desk of a configuration, which routes calls where that is asked for; or memory is refused for that, and nothing is done
 abbrev pub ServesOver :
-    {S W : Type 0} → (Result ⊤ Fault → Switchboard → Wire S → Switchboard → Wire S → Type 0) → (List ℕ → W → Written → W → Type 0)
-    → Wire S → Wire S → W → CommonEnding → Type 0
-ServesOver serves ends was is recorder ending =
-    ((ending ≡ OutOfMemory) × (is ≡ was)) ⊎ ((board : Switchboard) × ServesToEnd serves ends board was is recorder ending)
+    {S W : Type 0} → AgentConfig → Bool → (Result ⊤ Fault → Switchboard → Wire S → Switchboard → Wire S → Type 0)
+    → (List ℕ → W → Written → W → Type 0) → Wire S → Wire S → W → CommonEnding → Type 0
+ServesOver config is_routed serves ends was is recorder ending =
+    ((ending ≡ OutOfMemory) × (is ≡ was))
+    ⊎ ((board : Switchboard) × BoardOf config is_routed board × ServesToEnd serves ends board was is recorder ending)
 
 -- how a load's exchange ends that served, or whose clock failed
 abbrev pub served_ending : Result ⊤ Fault → CommonEnding
@@ -103,7 +106,9 @@ served_ending (Err fault) = Clock
 
 -- so it serves while a load is made, by such a desk
 abbrev pub ServesLoad :
-    {S : Type 0} → (Result ⊤ Fault → Switchboard → Wire S → Switchboard → Wire S → Type 0) → Wire S → Wire S → CommonEnding → Type 0
-ServesLoad serves was is ending =
+    {S : Type 0} → AgentConfig → Bool → (Result ⊤ Fault → Switchboard → Wire S → Switchboard → Wire S → Type 0)
+    → Wire S → Wire S → CommonEnding → Type 0
+ServesLoad config is_routed serves was is ending =
     ((ending ≡ OutOfMemory) × (is ≡ was))
-    ⊎ ((board now : Switchboard) × (served : Result ⊤ Fault) × serves served board was now is × (ending ≡ served_ending served))
+    ⊎ ((board now : Switchboard) × (served : Result ⊤ Fault) × BoardOf config is_routed board × serves served board was now is
+    × (ending ≡ served_ending served))

@@ -1,10 +1,11 @@
 //! Worked examples of what a desk waits for, of what its turns leave, and of how it ends, as theorems.
 #![tactic(auto)]
 
-ghost use Rattle.std.specs.Prelude.{◌≡◌, ⊤, [], ◌∷◌, ℕ, Bool, true, false, List, Option, Some, None, Ok, Err, codes, length, slice_get, vec_len};
+ghost use Rattle.std.specs.Prelude.{◌≡◌, ⊤, [], ◌∷◌, ℕ, Bool, true, false, List, Option, Some, None, Ok, Err, codes, is_some, length, map, slice_get, vec_len};
 ghost use Rattle.std.specs.declared.net.socket_addr.SocketAddrV4.{SocketAddrV4};
 ghost use Rattle.std.specs.Global.{Box};
 ghost use Rattle.std.specs.Result.{result_err};
+ghost use Rattle.agent_config.specs.declared.config.AgentConfig.{AgentConfig};
 ghost use Rattle.agent_texts.specs.declared.journal.Journal.{Journal};
 ghost use Rattle.agent_texts.specs.declared.tally.Tally.{Tally};
 ghost use Rattle.agent_texts.specs.Counts.{with_given_up, with_notification};
@@ -45,6 +46,7 @@ ghost use Rattle.live_agent.specs.Datagrams.{with_stranger, DealsIf, HearsBy, He
 ghost use Rattle.switchboard.specs.Hearing.{HearsText};
 ghost use Rattle.switchboard.specs.Dues.{FallsDueAt};
 ghost use Rattle.switchboard.specs.Example.{HasAgent};
+ghost use Rattle.switchboard.specs.Opening.{configured_as, known_as, BoardOf};
 ghost use Rattle.switchboard.specs.Steps.{settled_in, WaitsIn};
 ghost use Rattle.switchboard.specs.Taking.{taken_place};
 ghost use Rattle.live_agent.specs.declared.wire.TheConstants.{MOST_AT_ONCE};
@@ -377,7 +379,16 @@ pub fn how_a_desk_serves_has_examples()
     ensures failed { (fault : Fault) → served_ending (Err fault) ≡ CommonEnding.Clock }
     ensures ends { (board : Switchboard) (was is : Wire ℕ) (ending : CommonEnding) (serves : ServesToEnd serves_any ends_any board was is 0 ending) →
         is.lines ≡ serves.done.lines }
-    ensures no_desk { (was is : Wire ℕ) (ending : CommonEnding) → ServesOver serves_never ends_any was is 0 ending → is ≡ was }
+    ensures no_desk { (config : AgentConfig) (was is : Wire ℕ) (ending : CommonEnding) →
+        ServesOver config true serves_never ends_any was is 0 ending → is ≡ was }
+    // It is that of its configuration: it has the gateways of that, and routes calls where that is asked for.
+    ensures its_gateways { (config : AgentConfig) (board : Switchboard) → BoardOf config true board →
+        map known_as board.gateways.items ≡ map configured_as config.gateways.items }
+    ensures unasked { (config : AgentConfig) (board : Switchboard) → BoardOf config false board → is_some board.office ≡ false }
+    ensures unmapped { (config : AgentConfig) (board : Switchboard) → config.map ≡ None → BoardOf config true board →
+        is_some board.office ≡ false }
+    ensures routed { (config : AgentConfig) (digits : List ℕ) (board : Switchboard) → config.map ≡ Some digits → BoardOf config true board →
+        is_some board.office ≡ true }
     // It stops where the clock fails, and not where it tells a moment.
     ensures fails { (fault : Fault) (board : Switchboard) (wire : Wire ℕ) (schedule : Schedule) →
         StopsAt (λ around outcome. outcome ≡ Ok 5) (λ around told. ⊥) (Err fault) 3 board wire schedule → ⊥ }

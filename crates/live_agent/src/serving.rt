@@ -7,6 +7,7 @@ ghost use Rattle.live_agent.specs.Handing.{HandsTo};
 ghost use Rattle.live_agent.specs.Serving.{served_ending, Serves, ServesLoad, ServesOver, ServesToEnd, TurnsOnce};
 ghost use Rattle.live_outlets.specs.Written.{faults_in};
 ghost use Rattle.surroundings.specs.Typing.{left_of};
+ghost use Rattle.switchboard.specs.Opening.{BoardOf};
 
 use crate::recorder::Recorder;
 use crate::session::serve;
@@ -109,7 +110,8 @@ fn board_of<S: Surroundings + Drop>(
     is_routed: bool,
     wire: &Wire<S>,
 ) -> Result<Switchboard, CommonEnding>
-    ensures { IfErr result (λ ending. ending ≡ OutOfMemory) }
+    ensures board { IfOk result (λ board. BoardOf config.now is_routed board) }
+    ensures ending { IfErr result (λ ending. ending ≡ OutOfMemory) }
 {
     let time = wire.now.time / MICROSECONDS;
     match Switchboard::of(alloc, config, is_routed, time) {
@@ -137,8 +139,9 @@ pub(crate) fn serve_config<S: Surroundings + Drop, W: Recorder>(
     wire: &mut Wire<S>,
     recorder: &mut W,
 ) -> CommonEnding
-    ensures { ServesLoad (Serves S.passes S.tells (TurnsOnce S.traffic S.sockets (HandsTo S.sends S.traffic) S.passes S.dates S.tells
-        S.sleeps S.receives S.hears S.answers W.writes)) wire.old wire.new result }
+    ensures { ServesLoad config.now is_routed
+        (Serves S.passes S.tells (TurnsOnce S.traffic S.sockets (HandsTo S.sends S.traffic) S.passes S.dates S.tells S.sleeps S.receives S.hears
+        S.answers W.writes)) wire.old wire.new result }
 {
     let mut board = match board_of(alloc, config, is_routed, wire) {
         Ok(board) => board,
@@ -195,8 +198,9 @@ fn serve_to_end<R: Clock, S: Surroundings + Drop, W: Recorder + Finisher>(
     wire: &mut Wire<S>,
     recorder: &mut W,
 ) -> CommonEnding
-    ensures { ServesToEnd (Serves S.passes S.tells (TurnsOnce S.traffic S.sockets (HandsTo S.sends S.traffic) S.passes S.dates S.tells
-        S.sleeps S.receives S.hears S.answers W.writes)) W.ends board wire.old wire.new recorder.new result }
+    ensures { ServesToEnd
+        (Serves S.passes S.tells (TurnsOnce S.traffic S.sockets (HandsTo S.sends S.traffic) S.passes S.dates S.tells S.sleeps S.receives S.hears
+        S.answers W.writes)) W.ends board wire.old wire.new recorder.new result }
 {
     let served = serve(alloc, &mut board, wire, recorder);
     board.close();
@@ -215,8 +219,9 @@ pub fn serve_over<R: Clock, S: Surroundings + Drop, W: Recorder + Finisher>(
     wire: &mut Wire<S>,
     recorder: &mut W,
 ) -> CommonEnding
-    ensures { ServesOver (Serves S.passes S.tells (TurnsOnce S.traffic S.sockets (HandsTo S.sends S.traffic) S.passes S.dates S.tells
-        S.sleeps S.receives S.hears S.answers W.writes)) W.ends wire.old wire.new recorder.new result }
+    ensures { ServesOver config.now is_routed
+        (Serves S.passes S.tells (TurnsOnce S.traffic S.sockets (HandsTo S.sends S.traffic) S.passes S.dates S.tells S.sleeps S.receives S.hears
+        S.answers W.writes)) W.ends wire.old wire.new recorder.new result }
 {
     match board_of(alloc, config, is_routed, wire) {
         Ok(board) => serve_to_end(rt, alloc, board, wire, recorder),

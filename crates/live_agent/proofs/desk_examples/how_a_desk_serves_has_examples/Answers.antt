@@ -1,4 +1,6 @@
-use Rattle.std.proofs.Common.{◌≡◌, ℕ, inl, inr, ap}
+use Rattle.std.proofs.Common.{◌≡◌, ℕ, true, List, Option, inl, inr, ap, ◌∙◌}
+use Rattle.std.specs.Prelude.{is_some}
+use Rattle.agent_config.specs.declared.config.AgentConfig.{AgentConfig}
 use Rattle.live_ends.specs.declared.ending.CommonEnding.{CommonEnding}
 use Rattle.live_agent.specs.AnyAround.{ends_any, serves_never}
 use Rattle.live_agent.specs.Serving.{ServesOver}
@@ -18,9 +20,22 @@ pub returns-clause-ends : goal.returns-clause-ends
 returns-clause-ends c = λ board was is ending serves. ap (λ (wire : Wire ℕ). wire.lines) serves.rest
 
 -- who never serves has no desk
-no_desk : (was is : Wire ℕ) (ending : CommonEnding) → ServesOver serves_never ends_any was is 0 ending → is ≡ was
-no_desk was is ending (inl none) = none.1
-no_desk was is ending (inr some) = absurd some.1.does
+no_desk : (config : AgentConfig) (was is : Wire ℕ) (ending : CommonEnding) → ServesOver config true serves_never ends_any was is 0 ending
+    → is ≡ was
+no_desk config was is ending (inl none) = none.1
+no_desk config was is ending (inr some) = absurd some.2.does
 
 pub returns-clause-no_desk : goal.returns-clause-no_desk
-returns-clause-no_desk c = λ was is ending serves. no_desk was is ending serves
+returns-clause-no_desk c = no_desk
+
+pub returns-clause-its_gateways : goal.returns-clause-its_gateways
+returns-clause-its_gateways c = λ config board of. of.0
+
+pub returns-clause-unasked : goal.returns-clause-unasked
+returns-clause-unasked c = λ config board of. of.1
+
+pub returns-clause-unmapped : goal.returns-clause-unmapped
+returns-clause-unmapped c = λ config board none of. of.1 ∙ ap (λ (digits : Option (List ℕ)). is_some digits) none
+
+pub returns-clause-routed : goal.returns-clause-routed
+returns-clause-routed c = λ config digits board some of. of.1 ∙ ap (λ (digits : Option (List ℕ)). is_some digits) some
