@@ -4,6 +4,8 @@ ghost use Rattle.load_bench.specs.declared.settings.LoadFault.TheVariants.{OutOf
 ghost use Rattle.load_bench.specs.Over.{bench_over};
 ghost use Rattle.load_bench.specs.Telephones.{CountsCame, CountsSent, Hears};
 ghost use Rattle.live_agent.specs.Clock.{milliseconds};
+ghost use Rattle.live_agent.specs.Handing.{HandsTo};
+ghost use Rattle.live_agent.specs.Serving.{has_served, EndsReported, LoadsOver, Serves, ServesBegun, TurnsOnce};
 ghost use Rattle.live_agent.specs.declared.loading.LoadEnding.TheVariants.{Unmade};
 ghost use Rattle.live_agent.specs.declared.loading.TheConstants.{ROOM};
 ghost use Rattle.live_agent.specs.Telephones.{end_of, load_ending, BeginsLoad, CountsFor, EndsLoad, HearsOnce, HearsTelephones, KeepsRoom, PassesLoad, Reports};
@@ -422,6 +424,58 @@ fn begin<S: Surroundings + Drop>(
     None
 }
 
+// Whether an exchange served to its end.
+fn has_served(ending: CommonEnding) -> bool
+    ensures { result ≡ has_served ending }
+{
+    match ending {
+        CommonEnding::Served => true,
+        CommonEnding::Help | CommonEnding::Version | CommonEnding::Usage | CommonEnding::Told => {
+            false
+        }
+        CommonEnding::BadAddress { .. } | CommonEnding::BadNetwork { .. } => false,
+        CommonEnding::Unreadable { .. } | CommonEnding::Unwritable { .. } => false,
+        CommonEnding::Unbound { .. } | CommonEnding::Clock | CommonEnding::Write => false,
+        CommonEnding::OutOfMemory => false,
+    }
+}
+
+// A load is over whose exchange served: its report is told, and what was recorded is written.
+fn report_load<S: Surroundings + Drop, W: Recorder>(
+    alloc: Global,
+    file: &str,
+    agent: &str,
+    wire: &mut Wire<S>,
+    recorder: &mut W,
+) -> LoadEnding
+    ensures { EndsReported S.answers W.writes wire.old result wire.new }
+{
+    let ending = wire.end_load(alloc, file, agent);
+    recorder.write(&mut wire.journal, wire.now.time);
+    ending
+}
+
+// Serves a load that has begun until it is over.
+fn serve_load<S: Surroundings + Drop, W: Recorder>(
+    alloc: Global,
+    config: &AgentConfig,
+    file: &str,
+    agent: &str,
+    is_routed: bool,
+    wire: &mut Wire<S>,
+    recorder: &mut W,
+) -> LoadEnding
+    ensures { ServesBegun S.answers
+        (Serves S.passes S.tells (TurnsOnce S.traffic S.sockets (HandsTo S.sends S.traffic) S.passes S.tells S.receives S.hears S.answers
+        W.writes)) W.writes config.now is_routed wire.old result wire.new }
+{
+    let served = serve_config(alloc, config, is_routed, wire, recorder);
+    if !has_served(served) {
+        return LoadEnding::Common(served);
+    }
+    report_load(alloc, file, agent, wire, recorder)
+}
+
 /// Makes a load over a wire, by the gateways of a configuration, whose file has this name: calls between their telephones, who are at the
 /// wire's commands. An exchange of this program's, whose clock begins now, serves them where that is asked for, and what becomes of its
 /// commands is counted. How far it is is logged, and the report is told.
@@ -432,20 +486,27 @@ pub fn load_over<S: Surroundings + Drop, W: Recorder>(
     settings: LoadSettings,
     wire: &mut Wire<S>,
     recorder: &mut W,
-) -> LoadEnding {
+) -> LoadEnding
+    ensures { LoadsOver S.answers
+        (Serves S.passes S.tells (TurnsOnce S.traffic S.sockets (HandsTo S.sends S.traffic) S.passes S.tells S.receives S.hears S.answers
+        W.writes)) W.writes config.now settings.is_routed wire.old result wire.new }
+{
     let Ok(agent) = peer_text(alloc, config.own) else {
         return LoadEnding::Common(CommonEnding::OutOfMemory);
     };
-    if let Some(ending) = begin(alloc, config, settings, wire) {
-        return LoadEnding::Common(ending);
+    let is_routed = settings.is_routed;
+    match begin(alloc, config, settings, wire) {
+        Some(ending) => LoadEnding::Common(ending),
+        None => serve_load(
+            alloc,
+            config,
+            file,
+            agent.as_str(),
+            is_routed,
+            wire,
+            recorder,
+        ),
     }
-    let served = serve_config(alloc, config, settings.is_routed, wire, recorder);
-    if !matches!(served, CommonEnding::Served) {
-        return LoadEnding::Common(served);
-    }
-    let ending = wire.end_load(alloc, file, agent.as_str());
-    recorder.write(&mut wire.journal, wire.now.time);
-    ending
 }
 
 /// Makes a load as the settings ask, by the gateways of a configuration, whose file has this name, all of which have telephones.
