@@ -1,8 +1,9 @@
 -- What calls of a wire give and leave.
-use Rattle.std.specs.Prelude.{◌≡◌, ℕ, ◌+◌, ◌-◌, ◌^◌, Bool, true, false, ◌||◌, not, min, max, nat_lt, if◌then◌else◌, List, Option, Some, None, Result, Ok, Err}
+use Rattle.std.specs.Prelude.{◌≡◌, ℕ, ◌+◌, ◌-◌, ◌^◌, Bool, true, false, ◌||◌, not, min, max, nat_lt, if◌then◌else◌, List, [], Option, Some, None, Result, Ok, Err}
 use Rattle.std.specs.Global.{Box}
 use Rattle.std.specs.declared.net.socket_addr.SocketAddrV4.{SocketAddrV4}
 use Rattle.bad_network.specs.declared.network.BadNetwork.{BadNetwork}
+use Rattle.bad_network.specs.declared.spoiling.Spoiling.{Spoiling}
 use Rattle.bad_network.specs.Waiting.{first_due}
 use Rattle.load_bench.specs.Due.{bench_due}
 use Rattle.mg_bytes.specs.Lists.{is_empty}
@@ -60,6 +61,14 @@ ready_by told is_line_left network clock = record {
   datagrams = told.datagrams || has_come network clock;
   visitors = false;
 }
+
+-- How it is made
+
+-- the network that spoils what goes over a wire, as is asked for, and in which nothing waits; none where none is asked for
+abbrev pub SpoilsSo : Option Spoiling → Option BadNetwork → Type 0
+SpoilsSo None network = network ≡ None
+SpoilsSo (Some spoiling) None = ⊥
+SpoilsSo (Some spoiling) (Some network) = (network.spoiling ≡ spoiling) × (network.waiting.items ≡ [])
 
 -- What falls due next
 

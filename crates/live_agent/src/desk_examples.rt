@@ -15,6 +15,7 @@ ghost use Rattle.bad_network.specs.declared.network.BadNetwork.{BadNetwork};
 ghost use Rattle.bad_network.specs.declared.packet.Packet.{Packet};
 ghost use Rattle.bad_network.specs.declared.packet.Way.TheVariants.{In, Out};
 ghost use Rattle.bad_network.specs.Drawing.{after_draws};
+ghost use Rattle.bad_network.specs.declared.spoiling.Spoiling.{Spoiling};
 ghost use Rattle.call_agent.specs.AgentStands.{AgentStands};
 ghost use Rattle.call_agent.specs.Hearing.{AgentEvent};
 ghost use Rattle.call_agent.specs.declared.issuing.Issued.{Issued};
@@ -62,7 +63,7 @@ ghost use Rattle.live_agent.specs.Turning.{line_request, first_request, DoesRequ
 ghost use Rattle.switchboard.specs.Typed.{typed_text};
 ghost use Rattle.switchboard.specs.TypedCommands.{IssuesCommand, IssuesMeant, IssuesThere};
 ghost use Rattle.live_agent.specs.TypedCommands.{fault_text, issued_text, TellsIssued, AnswersAll, AnswersIssued, IsTypedNext};
-ghost use Rattle.live_agent.specs.Wiring.{longest_until, one_more, FallsDueFirst, FallsDueOver, IsWaitedFor};
+ghost use Rattle.live_agent.specs.Wiring.{longest_until, one_more, FallsDueFirst, FallsDueOver, IsWaitedFor, SpoilsSo};
 
 use live_ends::CommonEnding;
 use switchboard::TypedFault;
@@ -70,6 +71,11 @@ use turns::Turn;
 
 /// What is waited for, and how long.
 pub fn what_is_waited_for_has_examples()
+    // A network spoils as is asked for, and nothing waits in it; where none is asked for there is none.
+    ensures none_spoils { (network : Option BadNetwork) → SpoilsSo None network → network ≡ None }
+    ensures spoils { (spoiling : Spoiling) (network : BadNetwork) → SpoilsSo (Some spoiling) (Some network) →
+        (network.spoiling ≡ spoiling) × (network.waiting.items ≡ []) }
+    ensures spoils_none { (spoiling : Spoiling) → SpoilsSo (Some spoiling) None → ⊥ }
     // What the network hands out, what is to be done of a load, what falls due at a gateway: the earliest.
     ensures network { FallsDueFirst 700 [] None (Some 300) (Some 300) }
     ensures load { (load : Box Load) → bench_due 250 load.value.bench.value ≡ 280 → FallsDueFirst 250 [] (Some load) (Some 300) (Some 280) }

@@ -1,10 +1,13 @@
 //! Serves a call agent from its opening to its end.
-ghost use Rattle.std.specs.Prelude.{◌≡◌, [], None, is_some, IfErr, IfOk};
+ghost use Rattle.std.specs.Prelude.{◌≡◌, ◌⊎◌, [], None, true, is_some, IfErr, IfOk};
 ghost use Rattle.agent_texts.specs.Counts.{nothing_counted};
 ghost use Rattle.live_ends.specs.declared.ending.CommonEnding.TheVariants.{OutOfMemory};
 ghost use Rattle.live_agent.specs.Ending.{is_record_refused, ending_of, EndsWith};
 ghost use Rattle.live_agent.specs.Handing.{HandsTo};
 ghost use Rattle.live_agent.specs.Serving.{served_ending, Serves, ServesLoad, ServesOver, ServesToEnd, TurnsOnce};
+ghost use Rattle.live_agent.specs.Wiring.{SpoilsSo};
+ghost use Rattle.live_outlets.specs.Recording.{state_when};
+ghost use Rattle.live_outlets.specs.declared.record.RecordState.TheVariants as states;
 ghost use Rattle.live_outlets.specs.Written.{faults_in};
 ghost use Rattle.surroundings.specs.Typing.{left_of};
 ghost use Rattle.switchboard.specs.Opening.{BoardOf};
@@ -47,7 +50,8 @@ pub struct WireSettings {
 
 // The network that is spoilt so, where one is.
 fn network_of(alloc: Global, spoiling: Option<Spoiling>) -> Option<BadNetwork>
-    ensures { is_some result ≡ is_some spoiling }
+    ensures made { is_some result ≡ is_some spoiling }
+    ensures spoils { SpoilsSo spoiling result }
 {
     match spoiling {
         Some(spoiling) => Some(BadNetwork::new(alloc, spoiling)),
@@ -68,6 +72,12 @@ pub fn wire_over<S: Surroundings + Drop>(
     ensures load { IfOk result (λ wire. wire.value.load ≡ None) }
     ensures counts { IfOk result (λ wire. wire.value.journal.value.tally ≡ nothing_counted) }
     ensures spoilt { IfOk result (λ wire. is_some wire.value.network ≡ is_some settings.network) }
+    ensures spoils { IfOk result (λ wire. SpoilsSo settings.network wire.value.network) }
+    ensures tells { IfOk result (λ wire. wire.value.journal.value.told.state ≡ state_when true) }
+    ensures logs { IfOk result (λ wire. wire.value.journal.value.log.state ≡ state_when settings.has_log) }
+    ensures captures { IfOk result (λ wire. (wire.value.journal.value.capture.state ≡ state_when settings.has_capture)
+        ⊎ (wire.value.journal.value.capture.state ≡ states.OutOfMemory)) }
+    ensures is_here { IfOk result (λ wire. wire.value.journal.value.here ≡ here) }
 {
     let journal = Journal::new(alloc, settings.has_log, settings.has_capture, here);
     let journal = boxed(alloc, journal)?;
