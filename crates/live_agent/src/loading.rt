@@ -466,8 +466,8 @@ fn serve_load<S: Surroundings + Drop, W: Recorder>(
     recorder: &mut W,
 ) -> LoadEnding
     ensures { ServesBegun S.answers
-        (Serves S.passes S.tells (TurnsOnce S.traffic S.sockets (HandsTo S.sends S.traffic) S.passes S.tells S.receives S.hears S.answers
-        W.writes)) W.writes config.now is_routed wire.old result wire.new }
+        (Serves S.passes S.tells (TurnsOnce S.traffic S.sockets (HandsTo S.sends S.traffic) S.passes S.dates S.tells S.sleeps S.receives
+        S.hears S.answers W.writes)) W.writes config.now is_routed wire.old result wire.new }
 {
     let served = serve_config(alloc, config, is_routed, wire, recorder);
     if !has_served(served) {
@@ -488,8 +488,8 @@ pub fn load_over<S: Surroundings + Drop, W: Recorder>(
     recorder: &mut W,
 ) -> LoadEnding
     ensures { LoadsOver S.answers
-        (Serves S.passes S.tells (TurnsOnce S.traffic S.sockets (HandsTo S.sends S.traffic) S.passes S.tells S.receives S.hears S.answers
-        W.writes)) W.writes config.now settings.is_routed wire.old result wire.new }
+        (Serves S.passes S.tells (TurnsOnce S.traffic S.sockets (HandsTo S.sends S.traffic) S.passes S.dates S.tells S.sleeps S.receives
+        S.hears S.answers W.writes)) W.writes config.now settings.is_routed wire.old result wire.new }
 {
     let Ok(agent) = peer_text(alloc, config.own) else {
         return LoadEnding::Common(CommonEnding::OutOfMemory);
