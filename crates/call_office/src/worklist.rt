@@ -31,7 +31,8 @@ impl Drop for Worklist {
 impl Worklist {
     /// None waits, or all do.
     pub fn new(alloc: Global, is_all: bool) -> Worklist
-        ensures { result.is_all ≡ is_all }
+        ensures all { result.is_all ≡ is_all }
+        ensures none { (result.waiting.items ≡ []) × (result.settled.items ≡ []) × (result.settles_all ≡ false) }
     {
         Worklist {
             waiting: Vec::new(alloc),
