@@ -81,7 +81,8 @@ IssuesOrder line (Some order) (Err fault) station were are =
 abbrev pub IssuesSettled : Option ℕ → Result (Option Issued) IssueFault → Switchboard → Switchboard → Type 0
 IssuesSettled None result was is = (result ≡ Ok None) × (is.gateways.items ≡ was.gateways.items)
 IssuesSettled (Some line) result was is =
-    IssuesOrder line (ordered_in line was.dialling.value.map was.office) result (slice_get was.stations.items line) was.gateways.items is.gateways.items
+    IssuesOrder line (ordered_in line was.dialling.value.map was.office) result (slice_get was.stations.items line) was.gateways.items
+    is.gateways.items
 
 -- Of the gateways that of a line alone may have issued something; all others are as they were.
 abbrev pub SendsAlone : Option Station → List Gateway → List Gateway → Type 0

@@ -61,7 +61,8 @@ abbrev pub TakesTold : ℕ → Option Gateway → Option Station → Bool → Sw
 TakesTold line None station found was is = TakesNone found was is
 TakesTold line (Some gateway) None found was is = TakesNone found was is
 TakesTold line (Some gateway) (Some station) found was is =
-    IsSomeAnd (slice_get is.stations.items line) (λ after. TakesFrom was.dialling.value.plan line gateway station found was.office is.office after)
+    IsSomeAnd (slice_get is.stations.items line)
+    (λ after. TakesFrom was.dialling.value.plan line gateway station found was.office is.office after)
     × OtherLinesStay line was.stations.items is.stations.items
 
 abbrev pub TakesOf : ℕ → Option ℕ → Bool → Switchboard → Switchboard → Type 0

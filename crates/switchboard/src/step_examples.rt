@@ -155,9 +155,10 @@ pub fn why_nothing_is_issued_has_examples()
         IssuesOrder 0 (Some order) (Err faults.OutOfMemory) station gateways gateways }
     ensures before_nothing { (station : Option Station) (gateways : List Gateway) →
         IssuesOrder 0 None (Err faults.OutOfMemory) station gateways gateways }
-    ensures before_anything { (station : Option Station) (were are : List Gateway) → IssuesOrder 0 None (Err faults.OutOfMemory) station were are →
-        are ≡ were }
-    ensures no_other { (station : Option Station) (were are : List Gateway) → IssuesOrder 0 None (Err faults.BadCommand) station were are → ⊥ }
+    ensures before_anything { (station : Option Station) (were are : List Gateway) →
+        IssuesOrder 0 None (Err faults.OutOfMemory) station were are → are ≡ were }
+    ensures no_other { (station : Option Station) (were are : List Gateway) →
+        IssuesOrder 0 None (Err faults.BadCommand) station were are → ⊥ }
     ensures not_given_up { (order : Shown) (were are : List Gateway) → IssuesOrder 0 (Some order) (Err faults.NoMoreIds) None were are → ⊥ }
 {}
 

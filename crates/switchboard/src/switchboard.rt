@@ -789,8 +789,8 @@ impl Switchboard {
         }
     }
 
-    /// Takes what the line that is so many behind the first of these has told and wasn't taken yet: whether there was anything. Then the line
-    /// waits to be settled.
+    /// Takes what the line that is so many behind the first of these has told and wasn't taken yet: whether there was anything. Then the
+    /// line waits to be settled.
     pub fn take(&mut self, journal: &mut Journal, place: usize, index: usize) -> bool
         ensures takes { TakesOf place (taken_place index (slice_get self.old.gateways.items place) self.old.notifying) result
             self.old self.new }
