@@ -24,8 +24,15 @@ counted_in journal = counts_text journal.tally ++ written_line journal.written j
 
 -- What was recorded is written to its end by who was told what was counted as last words, and so it ends; or memory was refused for these,
 -- and nobody is told any.
-abbrev pub EndsWith : {W : Type 0} → (List ℕ → W → Written → W → Type 0) → Bool → Journal → W → CommonEnding → Type 0
-EndsWith {W} ends has_failed journal is ending =
-    (ending ≡ OutOfMemory)
-    ⊎ ((between : W) × (written : Written) × ends (counted_in journal) between written is
+abbrev pub EndsWith : {W : Type 0} → (List ℕ → W → Written → W → Type 0) → Bool → Journal → W → W → CommonEnding → Type 0
+EndsWith ends has_failed journal was is ending =
+    ((ending ≡ OutOfMemory) × (is ≡ was))
+    ⊎ ((written : Written) × ends (counted_in journal) was written is
     × (ending ≡ ending_of has_failed (is_record_refused journal) (faults_in written)))
+
+-- before that what was recorded is written once more, at this moment
+abbrev pub WritesAndEnds :
+    {W : Type 0} → (W → Journal → ℕ → W → Journal → Type 0) → (List ℕ → W → Written → W → Type 0) → Bool → ℕ → Journal → W → Journal → W
+    → CommonEnding → Type 0
+WritesAndEnds {W} writes ends has_failed time before was journal is ending =
+    (between : W) × writes was before time between journal × EndsWith ends has_failed journal between is ending

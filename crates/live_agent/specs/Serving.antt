@@ -18,7 +18,7 @@ use Rattle.turns.specs.declared.schedule.Schedule.{Schedule}
 use Rattle.live_agent.specs.declared.loading.LoadEnding.{LoadEnding}
 use Rattle.live_agent.specs.declared.loading.LoadEnding.TheVariants.{Common, Unmade}
 use Rattle.live_agent.specs.declared.wire.Wire.{Wire}
-use Rattle.live_agent.specs.Ending.{EndsWith}
+use Rattle.live_agent.specs.Ending.{WritesAndEnds}
 use Rattle.live_agent.specs.Telephones.{BeginsLoad, EndsLoad}
 use Rattle.live_agent.specs.Turning.{DoesNext}
 use Rattle.live_agent.specs.Wiring.{AsksNext}
@@ -84,24 +84,26 @@ Serves passes tells turns result board was now is =
 
 -- It serves; then what was recorded is written, and written to its end, and so it ends.
 pub record ServesToEnd {S W : Type 0}
-    (serves : Result ⊤ Fault → Switchboard → Wire S → Switchboard → Wire S → Type 0) (ends : List ℕ → W → Written → W → Type 0)
-    (board : Switchboard) (was is : Wire S) (recorder : W) (ending : CommonEnding)
+    (serves : Result ⊤ Fault → Switchboard → Wire S → Switchboard → Wire S → Type 0) (writes : W → Journal → ℕ → W → Journal → Type 0)
+    (ends : List ℕ → W → Written → W → Type 0) (board : Switchboard) (was is : Wire S) (recorder : W) (ending : CommonEnding)
     : Type 0 where
   pub served : Result ⊤ Fault
   pub now : Switchboard
   pub done : Wire S
   pub does : serves served board was now done
-  pub ends_so : EndsWith ends (is_err served) is.journal.value recorder ending
+  pub time : ℕ
+  pub left : W
+  pub ends_so : WritesAndEnds writes ends (is_err served) time done.journal.value left is.journal.value recorder ending
   pub counts : is.journal.value.tally ≡ done.journal.value.tally
   pub rest : is ≡ record done { journal = is.journal }
 
 -- with the desk of a configuration, which routes calls where that is asked for; or memory is refused for that, and nothing is done
 abbrev pub ServesOver :
     {S W : Type 0} → AgentConfig → Bool → (Result ⊤ Fault → Switchboard → Wire S → Switchboard → Wire S → Type 0)
-    → (List ℕ → W → Written → W → Type 0) → Wire S → Wire S → W → CommonEnding → Type 0
-ServesOver config is_routed serves ends was is recorder ending =
+    → (W → Journal → ℕ → W → Journal → Type 0) → (List ℕ → W → Written → W → Type 0) → Wire S → Wire S → W → CommonEnding → Type 0
+ServesOver config is_routed serves writes ends was is recorder ending =
     ((ending ≡ OutOfMemory) × (is ≡ was))
-    ⊎ ((board : Switchboard) × BoardOf config is_routed board × ServesToEnd serves ends board was is recorder ending)
+    ⊎ ((board : Switchboard) × BoardOf config is_routed board × ServesToEnd serves writes ends board was is recorder ending)
 
 -- how a load's exchange ends that served, or whose clock failed
 abbrev pub served_ending : Result ⊤ Fault → CommonEnding

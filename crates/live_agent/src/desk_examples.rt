@@ -51,7 +51,7 @@ ghost use Rattle.switchboard.specs.Opening.{configured_as, known_as, BoardOf};
 ghost use Rattle.switchboard.specs.Steps.{settled_in, WaitsIn};
 ghost use Rattle.switchboard.specs.Taking.{taken_place};
 ghost use Rattle.live_agent.specs.declared.wire.TheConstants.{MOST_AT_ONCE};
-ghost use Rattle.live_agent.specs.Ending.{counted_in, EndsWith};
+ghost use Rattle.live_agent.specs.Ending.{counted_in, EndsWith, WritesAndEnds};
 ghost use Rattle.live_agent.specs.Handing.{comes_in, HandsFirst, HandsLast, Leaves, Offers, OffersTo, SendsEachOn, SendsOn, TakesOffer};
 ghost use Rattle.live_agent.specs.Sending.{GoesOut, SendsAll, SendsCommand, SendsOne, SendsOutputs, SendsOver, SettlesLines};
 ghost use Rattle.live_agent.specs.Serving.{served_ending, RunsTurns, ServesOver, ServesToEnd, StopsAt, Writes};
@@ -100,9 +100,13 @@ pub fn what_is_waited_for_has_examples()
 pub fn how_a_desk_ends_has_examples()
     // Memory was refused for its last words; or they are what was counted.
     ensures refused { (journal : Journal) (recorder : ℕ) →
-        EndsWith (λ last was written is. ⊥) true journal recorder CommonEnding.OutOfMemory }
+        EndsWith (λ last was written is. ⊥) true journal recorder recorder CommonEnding.OutOfMemory }
     ensures counted { (journal : Journal) (written : Written) (recorder : ℕ) →
-        EndsWith (λ last was became is. (last ≡ counted_in journal) × (became ≡ written)) true journal recorder CommonEnding.Clock }
+        EndsWith (λ last was became is. (last ≡ counted_in journal) × (became ≡ written)) true journal recorder recorder
+        CommonEnding.Clock }
+    // Before that what was recorded is written once more.
+    ensures written { (before journal : Journal) (recorder : ℕ) (ending : CommonEnding) →
+        WritesAndEnds (λ was left time is right. ⊥) ends_any true 700 before recorder journal recorder ending → ⊥ }
 {}
 
 /// What is typed, and what is done then.
@@ -383,10 +387,10 @@ pub fn how_a_desk_serves_has_examples()
     // It ends as it served; without a desk nothing is done.
     ensures served { served_ending (Ok tt) ≡ CommonEnding.Served }
     ensures failed { (fault : Fault) → served_ending (Err fault) ≡ CommonEnding.Clock }
-    ensures ends { (board : Switchboard) (was is : Wire ℕ) (ending : CommonEnding) (serves : ServesToEnd serves_any ends_any board was is 0 ending) →
+    ensures ends { (board : Switchboard) (was is : Wire ℕ) (ending : CommonEnding) (serves : ServesToEnd serves_any writes_any ends_any board was is 0 ending) →
         is.lines ≡ serves.done.lines }
     ensures no_desk { (config : AgentConfig) (was is : Wire ℕ) (ending : CommonEnding) →
-        ServesOver config true serves_never ends_any was is 0 ending → is ≡ was }
+        ServesOver config true serves_never writes_any ends_any was is 0 ending → is ≡ was }
     // It is that of its configuration: it has the gateways of that, and routes calls where that is asked for.
     ensures its_gateways { (config : AgentConfig) (board : Switchboard) → BoardOf config true board →
         map known_as board.gateways.items ≡ map configured_as config.gateways.items }

@@ -2,7 +2,7 @@
 ghost use Rattle.std.specs.Prelude.{◌≡◌, ◌⊎◌, [], None, true, is_some, IfErr, IfOk};
 ghost use Rattle.agent_texts.specs.Counts.{nothing_counted};
 ghost use Rattle.live_ends.specs.declared.ending.CommonEnding.TheVariants.{OutOfMemory};
-ghost use Rattle.live_agent.specs.Ending.{is_record_refused, ending_of, EndsWith};
+ghost use Rattle.live_agent.specs.Ending.{is_record_refused, ending_of, WritesAndEnds};
 ghost use Rattle.live_agent.specs.Handing.{HandsTo};
 ghost use Rattle.live_agent.specs.Serving.{served_ending, Serves, ServesLoad, ServesOver, ServesToEnd, TurnsOnce};
 ghost use Rattle.live_agent.specs.Wiring.{SpoilsSo};
@@ -188,7 +188,7 @@ fn finish<R: Clock, W: Recorder + Finisher>(
     time: u64,
     has_failed: bool,
 ) -> CommonEnding
-    ensures ends { EndsWith W.ends has_failed journal.new recorder.new result }
+    ensures ends { WritesAndEnds W.writes W.ends has_failed time journal.old recorder.old journal.new recorder.new result }
     ensures tally { journal.new.tally ≡ journal.old.tally }
 {
     recorder.write(journal, time);
@@ -210,7 +210,7 @@ fn serve_to_end<R: Clock, S: Surroundings + Drop, W: Recorder + Finisher>(
 ) -> CommonEnding
     ensures { ServesToEnd
         (Serves S.passes S.tells (TurnsOnce S.traffic S.sockets (HandsTo S.sends S.traffic) S.passes S.dates S.tells S.sleeps S.receives
-        S.hears S.answers W.writes)) W.ends board wire.old wire.new recorder.new result }
+        S.hears S.answers W.writes)) W.writes W.ends board wire.old wire.new recorder.new result }
 {
     let served = serve(alloc, &mut board, wire, recorder);
     board.close();
@@ -231,7 +231,7 @@ pub fn serve_over<R: Clock, S: Surroundings + Drop, W: Recorder + Finisher>(
 ) -> CommonEnding
     ensures { ServesOver config.now is_routed
         (Serves S.passes S.tells (TurnsOnce S.traffic S.sockets (HandsTo S.sends S.traffic) S.passes S.dates S.tells S.sleeps S.receives
-        S.hears S.answers W.writes)) W.ends wire.old wire.new recorder.new result }
+        S.hears S.answers W.writes)) W.writes W.ends wire.old wire.new recorder.new result }
 {
     match board_of(alloc, config, is_routed, wire) {
         Ok(board) => serve_to_end(rt, alloc, board, wire, recorder),

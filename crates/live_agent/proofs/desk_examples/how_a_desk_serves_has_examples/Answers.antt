@@ -2,7 +2,7 @@ use Rattle.std.proofs.Common.{◌≡◌, ℕ, true, List, Option, inl, inr, ap, 
 use Rattle.std.specs.Prelude.{is_some}
 use Rattle.agent_config.specs.declared.config.AgentConfig.{AgentConfig}
 use Rattle.live_ends.specs.declared.ending.CommonEnding.{CommonEnding}
-use Rattle.live_agent.specs.AnyAround.{ends_any, serves_never}
+use Rattle.live_agent.specs.AnyAround.{ends_any, serves_never, writes_any}
 use Rattle.live_agent.specs.Serving.{ServesOver}
 use Rattle.live_agent.specs.declared.wire.Wire.{Wire}
 use Rattle.live_agent.proofs.desk_examples.how_a_desk_serves_has_examples.Goals as goal
@@ -20,7 +20,7 @@ pub returns-clause-ends : goal.returns-clause-ends
 returns-clause-ends c = λ board was is ending serves. ap (λ (wire : Wire ℕ). wire.lines) serves.rest
 
 -- who never serves has no desk
-no_desk : (config : AgentConfig) (was is : Wire ℕ) (ending : CommonEnding) → ServesOver config true serves_never ends_any was is 0 ending
+no_desk : (config : AgentConfig) (was is : Wire ℕ) (ending : CommonEnding) → ServesOver config true serves_never writes_any ends_any was is 0 ending
     → is ≡ was
 no_desk config was is ending (inl none) = none.1
 no_desk config was is ending (inr some) = absurd some.2.does

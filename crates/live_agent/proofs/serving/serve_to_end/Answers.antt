@@ -7,7 +7,9 @@ returns g c = record {
   now = c.serve-served.new.board;
   done = c.serve-served.new.wire;
   does = c.serve-served.ensures;
-  ends_so = rw (c.is_err.ensures.value) at c.finish.ensures.ends;
+  time = c.time.result;
+  left = c.serve-served.new.recorder;
+  ends_so = rw (c.is_err.ensures.value, c.deref_mut.ensures.value) at c.finish.ensures.ends;
   counts = rw (c.deref_mut.ensures.value) at c.finish.ensures.tally;
   rest = refl;
 }
