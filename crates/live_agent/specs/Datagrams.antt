@@ -35,7 +35,8 @@ use Rattle.live_agent.specs.Wiring.{heard_at, read_at}
 -- What its texts are
 
 -- the texts are heard by the board, one behind another, from the gateway at this place; behind each lines are settled
-pub record HearsOne {S : Type 0} (sends : S → SocketAddrV4 → List ℕ → Result ⊤ Fault → S → Type 0) (place : ℕ) (text : List ℕ) (board : Switchboard) (was : Wire S)
+pub record HearsOne {S : Type 0} (sends : S → SocketAddrV4 → List ℕ → Result ⊤ Fault → S → Type 0) (place : ℕ) (text : List ℕ)
+    (board : Switchboard) (was : Wire S)
     (now : Switchboard) (is : Wire S)
     : Type 0 where
   pub heard : Switchboard
@@ -45,7 +46,8 @@ pub record HearsOne {S : Type 0} (sends : S → SocketAddrV4 → List ℕ → Re
   pub leaves : told ≡ record was { journal = told.journal }
   pub settles : SettlesAll sends heard told now is
 
-abbrev pub HearsTexts : {S : Type 0} → (S → SocketAddrV4 → List ℕ → Result ⊤ Fault → S → Type 0) → ℕ → List (List ℕ) → Switchboard → Wire S → Switchboard → Wire S → Type 0
+abbrev pub HearsTexts : {S : Type 0} → (S → SocketAddrV4 → List ℕ → Result ⊤ Fault → S → Type 0) → ℕ → List (List ℕ) → Switchboard → Wire S
+    → Switchboard → Wire S → Type 0
 HearsTexts sends place [] board was now is = (now ≡ board) × (is ≡ was)
 HearsTexts {S} sends place (text ∷ more) board was now is =
     (heard : Switchboard) × (sent : Wire S) × HearsOne sends place text board was heard sent × HearsTexts sends place more heard sent now is
@@ -53,19 +55,22 @@ HearsTexts {S} sends place (text ∷ more) board was now is =
 -- What lines told is taken
 
 -- where there was anything, lines are settled
-abbrev pub SettlesIf : {S : Type 0} → (S → SocketAddrV4 → List ℕ → Result ⊤ Fault → S → Type 0) → Bool → Switchboard → Wire S → Switchboard → Wire S → Type 0
+abbrev pub SettlesIf : {S : Type 0} → (S → SocketAddrV4 → List ℕ → Result ⊤ Fault → S → Type 0) → Bool → Switchboard → Wire S → Switchboard
+    → Wire S → Type 0
 SettlesIf sends false board was now is = (now ≡ board) × (is ≡ was)
 SettlesIf sends true board was now is = SettlesAll sends board was now is
 
 -- of the line that is taken so many behind the first; it counts where there was anything, and is told, and that line waits to be settled
-pub record TakesNext {S : Type 0} (sends : S → SocketAddrV4 → List ℕ → Result ⊤ Fault → S → Type 0) (place index : ℕ) (board : Switchboard) (was : Wire S)
+pub record TakesNext {S : Type 0} (sends : S → SocketAddrV4 → List ℕ → Result ⊤ Fault → S → Type 0) (place index : ℕ) (board : Switchboard)
+    (was : Wire S)
     (now : Switchboard) (is : Wire S)
     : Type 0 where
   pub found : Bool
   pub taken : Switchboard
   pub told : Wire S
   pub takes : TakesOf place (taken_place index (slice_get board.gateways.items place) board.notifying) found board taken
-  pub waits : found ≡ true → IfSome (taken_place index (slice_get board.gateways.items place) board.notifying) (λ line. WaitsIn line taken.office)
+  pub waits : found ≡ true → IfSome (taken_place index (slice_get board.gateways.items place) board.notifying)
+      (λ line. WaitsIn line taken.office)
   pub rest : taken ≡ record board { stations = taken.stations; office = taken.office }
   pub counts : told.journal.value.tally ≡ counted_if found with_notification was.journal.value.tally
   pub leaves : told ≡ record was { journal = told.journal }
@@ -73,13 +78,16 @@ pub record TakesNext {S : Type 0} (sends : S → SocketAddrV4 → List ℕ → R
   pub settles : SettlesIf sends found taken told now is
 
 -- of so many lines, one behind another
-abbrev pub TakesEach : {S : Type 0} → (S → SocketAddrV4 → List ℕ → Result ⊤ Fault → S → Type 0) → ℕ → ℕ → Switchboard → Wire S → Switchboard → Wire S → Type 0
+abbrev pub TakesEach : {S : Type 0} → (S → SocketAddrV4 → List ℕ → Result ⊤ Fault → S → Type 0) → ℕ → ℕ → Switchboard → Wire S → Switchboard
+    → Wire S → Type 0
 TakesEach sends place zero board was now is = (now ≡ board) × (is ≡ was)
 TakesEach {S} sends place (suc index) board was now is =
-    (taken : Switchboard) × (sent : Wire S) × TakesEach sends place index board was taken sent × TakesNext sends place index taken sent now is
+    (taken : Switchboard) × (sent : Wire S) × TakesEach sends place index board was taken sent
+        × TakesNext sends place index taken sent now is
 
 -- of those lines of the gateway at this place whose notifications came
-pub record TakesAll {S : Type 0} (sends : S → SocketAddrV4 → List ℕ → Result ⊤ Fault → S → Type 0) (place : ℕ) (board : Switchboard) (was : Wire S)
+pub record TakesAll {S : Type 0} (sends : S → SocketAddrV4 → List ℕ → Result ⊤ Fault → S → Type 0) (place : ℕ) (board : Switchboard)
+    (was : Wire S)
     (now : Switchboard) (is : Wire S)
     : Type 0 where
   pub begun : Switchboard
@@ -89,26 +97,33 @@ pub record TakesAll {S : Type 0} (sends : S → SocketAddrV4 → List ℕ → Re
 
 -- Whose it is
 
--- The agent of the gateway at this place takes it, or refuses it for a reason of its own, and stands for what it did before then. Where there
--- is no such gateway nothing is said. Nothing else of that gateway has changed, nor another one, nor anything else of the board.
-pub record StepsAt (place : ℕ) (source : SocketAddrV4) (bytes : List ℕ) (outputs : Result (List OutDatagram) Refusal) (was is : Switchboard) : Type 0 where
-  pub took : AtPlace place (λ before behind. IfOk outputs (λ sent. AgentTook before.agent.value (hears (datagram source bytes)) behind.agent.value sent))
+-- The agent of the gateway at this place takes it, or refuses it for a reason of its own, and stands for what it did before then. Where
+-- there is no such gateway nothing is said. Nothing else of that gateway has changed, nor another one, nor anything else of the board.
+pub record StepsAt (place : ℕ) (source : SocketAddrV4) (bytes : List ℕ) (outputs : Result (List OutDatagram) Refusal)
+    (was is : Switchboard)
+    : Type 0 where
+  pub took : AtPlace place (λ before behind. IfOk outputs (λ sent. AgentTook before.agent.value (hears (datagram source bytes))
+      behind.agent.value sent))
       was.gateways.items is.gateways.items
-  pub stays : AtPlace place (λ before behind. OnErr outputs (AgentStays before.agent.value behind.agent.value)) was.gateways.items is.gateways.items
-  pub ends : AtPlace place (λ before behind. Refuses (datagram source bytes) (result_err outputs) before) was.gateways.items is.gateways.items
+  pub stays : AtPlace place (λ before behind. OnErr outputs (AgentStays before.agent.value behind.agent.value)) was.gateways.items
+      is.gateways.items
+  pub ends : AtPlace place (λ before behind. Refuses (datagram source bytes) (result_err outputs) before) was.gateways.items
+      is.gateways.items
   pub nobody : IfNone (slice_get was.gateways.items place) (outputs ≡ Ok [])
   pub own : AtPlace place (λ before behind. behind ≡ record before { agent = behind.agent }) was.gateways.items is.gateways.items
   pub others : OthersStay place was.gateways.items is.gateways.items
   pub rest : is ≡ record was { gateways = is.gateways }
 
 -- where it went on, each of its texts is heard by the board, and what lines told is taken
-abbrev pub DealsIf : {S : Type 0} → (S → SocketAddrV4 → List ℕ → Result ⊤ Fault → S → Type 0) → Bool → ℕ → List ℕ → Switchboard → Wire S → Switchboard → Wire S → Type 0
+abbrev pub DealsIf : {S : Type 0} → (S → SocketAddrV4 → List ℕ → Result ⊤ Fault → S → Type 0) → Bool → ℕ → List ℕ → Switchboard → Wire S
+    → Switchboard → Wire S → Type 0
 DealsIf sends false place bytes board was now is = (now ≡ board) × (is ≡ was)
 DealsIf {S} sends true place bytes board was now is =
     (dealt : Switchboard) × (told : Wire S) × HearsTexts sends place (texts_of bytes) board was dealt told
     × TakesAll sends place dealt told now is
 
-pub record HearsAt {S : Type 0} (sends : S → SocketAddrV4 → List ℕ → Result ⊤ Fault → S → Type 0) (place : ℕ) (source : SocketAddrV4) (bytes : List ℕ)
+pub record HearsAt {S : Type 0} (sends : S → SocketAddrV4 → List ℕ → Result ⊤ Fault → S → Type 0) (place : ℕ) (source : SocketAddrV4)
+    (bytes : List ℕ)
     (board : Switchboard) (was : Wire S) (now : Switchboard) (is : Wire S)
     : Type 0 where
   pub outputs : Result (List OutDatagram) Refusal
@@ -123,14 +138,16 @@ pub record HearsAt {S : Type 0} (sends : S → SocketAddrV4 → List ℕ → Res
 abbrev pub with_stranger : Tally → Tally
 with_stranger tally = record tally { strange = one_more tally.strange }
 
-abbrev pub HearsBy : {S : Type 0} → (S → SocketAddrV4 → List ℕ → Result ⊤ Fault → S → Type 0) → Option ℕ → SocketAddrV4 → List ℕ → Switchboard → Wire S → Switchboard → Wire S → Type 0
+abbrev pub HearsBy : {S : Type 0} → (S → SocketAddrV4 → List ℕ → Result ⊤ Fault → S → Type 0) → Option ℕ → SocketAddrV4 → List ℕ
+    → Switchboard → Wire S → Switchboard → Wire S → Type 0
 HearsBy sends None source bytes board was now is =
     (now ≡ board) × (is ≡ record was { journal = is.journal })
     × (is.journal.value ≡ record was.journal.value { tally = with_stranger was.journal.value.tally })
 HearsBy sends (Some place) source bytes board was now is = HearsAt sends place source bytes board was now is
 
 -- a datagram came from here: that counts, and is recorded in the log and the capture; it is of the gateway at that address, or a stranger's
-pub record HearsDatagram {S : Type 0} (sends : S → SocketAddrV4 → List ℕ → Result ⊤ Fault → S → Type 0) (source : SocketAddrV4) (bytes : List ℕ)
+pub record HearsDatagram {S : Type 0} (sends : S → SocketAddrV4 → List ℕ → Result ⊤ Fault → S → Type 0) (source : SocketAddrV4)
+    (bytes : List ℕ)
     (board : Switchboard) (was : Wire S) (now : Switchboard) (is : Wire S)
     : Type 0 where
   pub came : Wire S
@@ -144,11 +161,13 @@ pub record HearsDatagram {S : Type 0} (sends : S → SocketAddrV4 → List ℕ �
 -- Where it came from
 
 -- the network that spoils what goes over the wire hands the next one over that comes in, or none
-abbrev pub HearsPacket : {S : Type 0} → (S → SocketAddrV4 → List ℕ → Result ⊤ Fault → S → Type 0) → Option Packet → Switchboard → Wire S → Switchboard → Wire S → Type 0
+abbrev pub HearsPacket : {S : Type 0} → (S → SocketAddrV4 → List ℕ → Result ⊤ Fault → S → Type 0) → Option Packet → Switchboard → Wire S
+    → Switchboard → Wire S → Type 0
 HearsPacket sends None board was now is = (now ≡ board) × (is ≡ was)
 HearsPacket sends (Some packet) board was now is = HearsDatagram sends packet.peer packet.bytes board was now is
 
-pub record TakesOver {S : Type 0} (sends : S → SocketAddrV4 → List ℕ → Result ⊤ Fault → S → Type 0) (found : Bool) (board : Switchboard) (was : Wire S)
+pub record TakesOver {S : Type 0} (sends : S → SocketAddrV4 → List ℕ → Result ⊤ Fault → S → Type 0) (found : Bool) (board : Switchboard)
+    (was : Wire S)
     (now : Switchboard) (is : Wire S)
     : Type 0 where
   pub packet : Option Packet
@@ -159,7 +178,8 @@ pub record TakesOver {S : Type 0} (sends : S → SocketAddrV4 → List ℕ → R
   pub hears : HearsPacket sends packet board handed now is
 
 -- one that the sockets gave is heard; where a network spoils it, it is offered to that first, and what that hands over now is
-abbrev pub TakesReceived : {S : Type 0} → (S → SocketAddrV4 → List ℕ → Result ⊤ Fault → S → Type 0) → Option BadNetwork → SocketAddrV4 → List ℕ
+abbrev pub TakesReceived : {S : Type 0} → (S → SocketAddrV4 → List ℕ → Result ⊤ Fault → S → Type 0) → Option BadNetwork → SocketAddrV4
+    → List ℕ
     → Switchboard → Wire S → Switchboard → Wire S → Type 0
 TakesReceived sends None source bytes board was now is = HearsDatagram sends source bytes board was now is
 TakesReceived {S} sends (Some network) source bytes board was now is =
@@ -168,7 +188,8 @@ TakesReceived {S} sends (Some network) source bytes board was now is =
     × OnlyNotes was.journal.value offered.journal.value × (offered ≡ record was { network = offered.network; journal = offered.journal })
     × TakesOver sends found board offered now is
 
-abbrev pub TakesFound : {S : Type 0} → (S → SocketAddrV4 → List ℕ → Result ⊤ Fault → S → Type 0) → Option (SocketAddrV4 × ℕ) → List ℕ → Switchboard → Wire S → Switchboard → Wire S → Type 0
+abbrev pub TakesFound : {S : Type 0} → (S → SocketAddrV4 → List ℕ → Result ⊤ Fault → S → Type 0) → Option (SocketAddrV4 × ℕ) → List ℕ
+    → Switchboard → Wire S → Switchboard → Wire S → Type 0
 TakesFound sends None room board was now is = (now ≡ board) × (is ≡ was)
 TakesFound sends (Some found) room board was now is = TakesReceived sends was.network found.0 (take found.1 room) board was now is
 

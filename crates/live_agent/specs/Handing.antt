@@ -27,7 +27,8 @@ HandsTo sends traffic was to bytes outcome is =
     × ((traffic is).received ≡ (traffic was).received)
 
 -- it is put onto the machine's network; one that doesn't leave counts, and is noted in the log: nothing else of the wire has changed
-pub record Leaves {S : Type 0} (sends : S → SocketAddrV4 → List ℕ → Result ⊤ Fault → S → Type 0) (to : SocketAddrV4) (bytes : List ℕ) (was is : Wire S)
+pub record Leaves {S : Type 0} (sends : S → SocketAddrV4 → List ℕ → Result ⊤ Fault → S → Type 0) (to : SocketAddrV4) (bytes : List ℕ)
+    (was is : Wire S)
     : Type 0 where
   pub outcome : Result ⊤ Fault
   pub handed : sends was.around to bytes outcome is.around
@@ -47,7 +48,9 @@ TakesOffer copies was waiting counted counts =
     ((waiting ≡ put_all copies was.waiting.items) × (counts ≡ with_fate (fate_of was.spoiling (draws_of was.generator)) counted))
     ⊎ (IsPutInPart copies was.waiting.items waiting × (counts ≡ with_refusal counted))
 
-pub record Offers (way : Way) (peer : SocketAddrV4) (bytes : List ℕ) (clock : ℕ) (was is : BadNetwork) (counted counts : Tally) : Type 0 where
+pub record Offers (way : Way) (peer : SocketAddrV4) (bytes : List ℕ) (clock : ℕ) (was is : BadNetwork)
+    (counted counts : Tally)
+    : Type 0 where
   pub takes : TakesOffer (copies_at was way peer bytes clock) was is.waiting.items counted counts
   pub spoiling : is.spoiling ≡ was.spoiling
   pub draws : is.generator ≡ after_draws was.generator
@@ -73,7 +76,9 @@ pub record HandsOut {S : Type 0} (packet : Option Packet) (was is : Wire S) : Ty
   pub rest : is ≡ record was { network = is.network }
 
 -- one that goes out is put onto the machine's network
-pub record SendsOn {S : Type 0} (sends : S → SocketAddrV4 → List ℕ → Result ⊤ Fault → S → Type 0) (packet : Packet) (was is : Wire S) : Type 0 where
+pub record SendsOn {S : Type 0} (sends : S → SocketAddrV4 → List ℕ → Result ⊤ Fault → S → Type 0) (packet : Packet)
+    (was is : Wire S)
+    : Type 0 where
   pub handed : Wire S
   pub hands : HandsOut (Some packet) was handed
   pub goes : packet.way ≡ Out
@@ -96,7 +101,9 @@ HandsLast count (Some packet) was is = HandsOut (Some packet) was is × (packet.
 HandsLast count None was is = HandsOut None was is ⊎ ((count ≡ MOST_AT_ONCE) × (is ≡ was))
 
 -- the next packet that comes in is handed over, if one is due, and those that go out before it are put onto the machine's network
-pub record HandsOver {S : Type 0} (sends : S → SocketAddrV4 → List ℕ → Result ⊤ Fault → S → Type 0) (packet : Option Packet) (was is : Wire S) : Type 0 where
+pub record HandsOver {S : Type 0} (sends : S → SocketAddrV4 → List ℕ → Result ⊤ Fault → S → Type 0) (packet : Option Packet)
+    (was is : Wire S)
+    : Type 0 where
   pub out : List Packet
   pub left : Wire S
   pub each : SendsEachOn sends out was left

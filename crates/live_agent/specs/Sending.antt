@@ -36,7 +36,8 @@ GoesOut sends to bytes (Some network) was is =
 
 -- a datagram is sent to there, again or for the first time: it counts once, at a load too, is recorded in the log and the capture, and goes
 -- out
-pub record SendsOne {S : Type 0} (sends : S → SocketAddrV4 → List ℕ → Result ⊤ Fault → S → Type 0) (is_repeat : Bool) (to : SocketAddrV4) (bytes : List ℕ)
+pub record SendsOne {S : Type 0} (sends : S → SocketAddrV4 → List ℕ → Result ⊤ Fault → S → Type 0) (is_repeat : Bool) (to : SocketAddrV4)
+    (bytes : List ℕ)
     (was is : Wire S)
     : Type 0 where
   pub over : SendsOver was is
@@ -49,13 +50,15 @@ pub record SendsOne {S : Type 0} (sends : S → SocketAddrV4 → List ℕ → Re
   pub goes : GoesOut sends to bytes was.network noted is
 
 -- so are these, one behind another
-abbrev pub SendsAll : {S : Type 0} → (S → SocketAddrV4 → List ℕ → Result ⊤ Fault → S → Type 0) → Bool → List OutDatagram → Wire S → Wire S → Type 0
+abbrev pub SendsAll : {S : Type 0} → (S → SocketAddrV4 → List ℕ → Result ⊤ Fault → S → Type 0) → Bool → List OutDatagram → Wire S → Wire S
+    → Type 0
 SendsAll sends is_repeat [] was is = is ≡ was
 SendsAll {S} sends is_repeat (datagram ∷ more) was is =
     (sent : Wire S) × SendsOne sends is_repeat datagram.to datagram.bytes was sent × SendsAll sends is_repeat more sent is
 
 -- what an agent says is sent; or it refused that, which counts, and nothing is: whether it went on
-abbrev pub SendsOutputs : {S : Type 0} → (S → SocketAddrV4 → List ℕ → Result ⊤ Fault → S → Type 0) → Bool → Result (List OutDatagram) Refusal → Bool
+abbrev pub SendsOutputs : {S : Type 0} → (S → SocketAddrV4 → List ℕ → Result ⊤ Fault → S → Type 0) → Bool
+    → Result (List OutDatagram) Refusal → Bool
     → Wire S → Wire S → Type 0
 SendsOutputs sends is_repeat (Ok outputs) went_on was is = (went_on ≡ true) × SendsAll sends is_repeat outputs was is
 SendsOutputs sends is_repeat (Err refusal) went_on was is =
@@ -63,7 +66,8 @@ SendsOutputs sends is_repeat (Err refusal) went_on was is =
     × (is.journal.value ≡ record was.journal.value { tally = with_refusal was.journal.value.tally })
 
 -- a command was issued: that counts, and nothing is told of it; and what it is goes out for the first time
-pub record SendsCommand {S : Type 0} (sends : S → SocketAddrV4 → List ℕ → Result ⊤ Fault → S → Type 0) (datagram : OutDatagram) (was is : Wire S)
+pub record SendsCommand {S : Type 0} (sends : S → SocketAddrV4 → List ℕ → Result ⊤ Fault → S → Type 0) (datagram : OutDatagram)
+    (was is : Wire S)
     : Type 0 where
   pub counted : Wire S
   pub counts : counted.journal.value.tally ≡ with_command was.journal.value.tally

@@ -40,7 +40,8 @@ SendsIssued sends (Err fault) was is =
     × (is.journal.value ≡ record was.journal.value { tally = with_refusal was.journal.value.tally })
 
 -- the line that is settled so many behind the first is sent what it is to be sent, or it isn't, for the reason of its agent
-pub record SendsNext {S : Type 0} (sends : S → SocketAddrV4 → List ℕ → Result ⊤ Fault → S → Type 0) (index : ℕ) (board : Switchboard) (was : Wire S)
+pub record SendsNext {S : Type 0} (sends : S → SocketAddrV4 → List ℕ → Result ⊤ Fault → S → Type 0) (index : ℕ) (board : Switchboard)
+    (was : Wire S)
     (now : Switchboard) (is : Wire S)
     : Type 0 where
   pub issued : Result (Option Issued) IssueFault
@@ -51,7 +52,8 @@ pub record SendsNext {S : Type 0} (sends : S → SocketAddrV4 → List ℕ → R
   pub goes : SendsIssued sends issued was is
 
 -- so are so many lines, one behind another
-abbrev pub SendsEach : {S : Type 0} → (S → SocketAddrV4 → List ℕ → Result ⊤ Fault → S → Type 0) → ℕ → Switchboard → Wire S → Switchboard → Wire S → Type 0
+abbrev pub SendsEach : {S : Type 0} → (S → SocketAddrV4 → List ℕ → Result ⊤ Fault → S → Type 0) → ℕ → Switchboard → Wire S → Switchboard
+    → Wire S → Type 0
 SendsEach sends zero board was now is = (now ≡ board) × (is ≡ was)
 SendsEach {S} sends (suc index) board was now is =
     (issued : Switchboard) × (sent : Wire S) × SendsEach sends index board was issued sent × SendsNext sends index issued sent now is
@@ -71,7 +73,8 @@ pub record SettlesNow {S : Type 0} (sends : S → SocketAddrV4 → List ℕ → 
   pub goes : SendsEach sends (settling_in begun.office) shown told now is
 
 -- where the agents' clock is behind they go on waiting
-abbrev pub SettlesBy : {S : Type 0} → (S → SocketAddrV4 → List ℕ → Result ⊤ Fault → S → Type 0) → Bool → Switchboard → Wire S → Switchboard → Wire S → Type 0
+abbrev pub SettlesBy : {S : Type 0} → (S → SocketAddrV4 → List ℕ → Result ⊤ Fault → S → Type 0) → Bool → Switchboard → Wire S → Switchboard
+    → Wire S → Type 0
 SettlesBy sends true board was now is = (now ≡ board) × (is ≡ was)
 SettlesBy sends false board was now is = SettlesNow sends board was now is
 

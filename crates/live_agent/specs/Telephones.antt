@@ -51,9 +51,11 @@ SaysEach {S} answers (said ∷ more) all was is =
 abbrev pub course_behind : Bool → Course → Course
 course_behind all course = if all then course else given_up OutOfMemory course
 
--- All that a bench has to say is said, and waits no longer. Where memory was refused for some of it the load is given up. Nothing else of the
--- bench has changed.
-pub record SaysAll {S : Type 0} (answers : S → SocketAddr → List ℕ → S → Type 0) (before : S) (was : Bench) (after : S) (is : Bench) : Type 0 where
+-- All that a bench has to say is said, and waits no longer. Where memory was refused for some of it the load is given up. Nothing else of
+-- the bench has changed.
+pub record SaysAll {S : Type 0} (answers : S → SocketAddr → List ℕ → S → Type 0) (before : S) (was : Bench) (after : S)
+    (is : Bench)
+    : Type 0 where
   pub all : Bool
   pub says : SaysEach answers was.said.items all before after
   pub none_waits : is.said.items ≡ []
@@ -80,7 +82,9 @@ OfLoad Does (Some was) None = ⊥
 OfLoad Does (Some was) (Some is) = Does was.value.bench.value is.value.bench.value × KeepsRoom was.value is.value
 
 -- at this moment what is due of a bench is done, and how far it is is told; then what it has to say is said
-pub record SaysPassed {S : Type 0} (answers : S → SocketAddr → List ℕ → S → Type 0) (moment : ℕ) (before after : S) (was is : Bench) : Type 0 where
+pub record SaysPassed {S : Type 0} (answers : S → SocketAddr → List ℕ → S → Type 0) (moment : ℕ) (before after : S)
+    (was is : Bench)
+    : Type 0 where
   pub passed : Bench
   pub told : Bench
   pub passes : PassesBench moment was passed
@@ -103,13 +107,15 @@ PassesLoad answers moment (Some load) was is = Passes answers moment was is
 
 -- Where they said nothing, nothing is said to them, and the bench is as it was. Else it hears at this moment what stands in the room for
 -- that, and from where it came; and what it has to say then is said.
-abbrev pub SaysHeard : {S : Type 0} → (S → SocketAddr → List ℕ → S → Type 0) → ℕ → Option (SocketAddr × ℕ) → List ℕ → S → S → Bench → Bench → Type 0
+abbrev pub SaysHeard : {S : Type 0} → (S → SocketAddr → List ℕ → S → Type 0) → ℕ → Option (SocketAddr × ℕ) → List ℕ → S → S → Bench → Bench
+    → Type 0
 SaysHeard answers moment None room before after was is = (after ≡ before) × (is ≡ was)
 SaysHeard answers moment (Some found) room before after was is =
     (heard : Bench) × HearsThem found.0 (take found.1 room) moment was heard × SaysAll answers before heard after is
 
 -- it is looked once what they say, into a room that is so long
-pub record HearsOnce {S : Type 0} (hears : S → Option (SocketAddr × ℕ) → List ℕ → S → Type 0) (answers : S → SocketAddr → List ℕ → S → Type 0)
+pub record HearsOnce {S : Type 0} (hears : S → Option (SocketAddr × ℕ) → List ℕ → S → Type 0)
+    (answers : S → SocketAddr → List ℕ → S → Type 0)
     (moment size : ℕ) (taken : Bool) (before after : S) (was is : Bench)
     : Type 0 where
   pub found : Option (SocketAddr × ℕ)
@@ -121,7 +127,8 @@ pub record HearsOnce {S : Type 0} (hears : S → Option (SocketAddr × ℕ) → 
   pub says : SaysHeard answers moment found room looked after was is
 
 -- into the room of a load that is made, which is still made, and keeps its room
-abbrev pub HearsIn : {S : Type 0} → (S → Option (SocketAddr × ℕ) → List ℕ → S → Type 0) → (S → SocketAddr → List ℕ → S → Type 0) → ℕ → Bool → S → S
+abbrev pub HearsIn : {S : Type 0} → (S → Option (SocketAddr × ℕ) → List ℕ → S → Type 0) → (S → SocketAddr → List ℕ → S → Type 0) → ℕ → Bool
+    → S → S
     → Option (Box Load) → Option (Box Load) → Type 0
 HearsIn hears answers moment taken before after None is = ⊥
 HearsIn hears answers moment taken before after (Some was) None = ⊥
@@ -130,7 +137,8 @@ HearsIn hears answers moment taken before after (Some was) (Some is) =
     × KeepsRoom was.value is.value
 
 -- So it is at this moment, and a datagram that has come counts as read. Where the load is over then the end has come.
-pub record HearsTelephones {S : Type 0} (hears : S → Option (SocketAddr × ℕ) → List ℕ → S → Type 0) (answers : S → SocketAddr → List ℕ → S → Type 0)
+pub record HearsTelephones {S : Type 0} (hears : S → Option (SocketAddr × ℕ) → List ℕ → S → Type 0)
+    (answers : S → SocketAddr → List ℕ → S → Type 0)
     (moment : ℕ) (was is : Wire S)
     : Type 0 where
   pub taken : Bool
@@ -170,7 +178,8 @@ SaysAndReports answers now before after was is = (said : Bench) × SaysEnded ans
 abbrev pub made_by : Option LoadFault → Bench → LoadEnding
 made_by (Some fault) bench = Unmade fault
 made_by None bench =
-    Made (is_success bench.course.value.settings.success bench.tally.value.all.value.numbers.at_rest bench.tally.value.all.value.numbers.attempts)
+    Made (is_success bench.course.value.settings.success bench.tally.value.all.value.numbers.at_rest
+        bench.tally.value.all.value.numbers.attempts)
 
 abbrev pub load_ending : Bench → LoadEnding
 load_ending bench = made_by bench.course.value.fault bench
@@ -179,7 +188,9 @@ abbrev pub ending_in : Option (Box Load) → LoadEnding
 ending_in None = Unmade OutOfMemory
 ending_in (Some load) = load_ending load.value.bench.value
 
-pub record EndsLoad {S : Type 0} (answers : S → SocketAddr → List ℕ → S → Type 0) (was : Wire S) (ending : LoadEnding) (is : Wire S) : Type 0 where
+pub record EndsLoad {S : Type 0} (answers : S → SocketAddr → List ℕ → S → Type 0) (was : Wire S) (ending : LoadEnding)
+    (is : Wire S)
+    : Type 0 where
   pub says : OfLoad (SaysAndReports answers (milliseconds was.now.time) was.around is.around) was.load is.load
   pub ends : ending ≡ ending_in is.load
   pub rest : is ≡ record was { around = is.around; journal = is.journal; load = is.load }

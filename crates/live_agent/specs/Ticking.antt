@@ -1,4 +1,5 @@
--- What a tick does: the clock of each agent goes on; what is given up by now is so, and what was put off is sent again, as lines are settled.
+-- What a tick does: the clock of each agent goes on; what is given up by now is so, and what was put off is sent again, as lines are
+-- settled.
 use Rattle.std.specs.Prelude.{◌≡◌, ◌⊎◌, ⊤, ℕ, zero, suc, Bool, true, false, is_ok, is_some, List, [], length, None, IfNone, IfOk, OnErr, Result, Ok, slice_get}
 use Rattle.std.specs.Result.{result_err}
 use Rattle.std.specs.declared.net.socket_addr.SocketAddrV4.{SocketAddrV4}
@@ -24,16 +25,19 @@ use Rattle.live_agent.specs.Settling.{SettlesAll}
 
 -- The clocks of agents
 
--- That of the agent of the gateway at this place goes on, and what it says by that is sent, again; or it refuses that, for its reason. Where
--- there is no such gateway nothing is said.
-pub record TicksOne {S : Type 0} (sends : S → SocketAddrV4 → List ℕ → Result ⊤ Fault → S → Type 0) (to place : ℕ) (board : Switchboard) (was : Wire S)
+-- That of the agent of the gateway at this place goes on, and what it says by that is sent, again; or it refuses that, for its reason.
+-- Where there is no such gateway nothing is said.
+pub record TicksOne {S : Type 0} (sends : S → SocketAddrV4 → List ℕ → Result ⊤ Fault → S → Type 0) (to place : ℕ) (board : Switchboard)
+    (was : Wire S)
     (now : Switchboard) (is : Wire S)
     : Type 0 where
   pub outputs : Result (List OutDatagram) Refusal
   pub went_on : Bool
   pub took : AtPlace place (λ before behind. IfOk outputs (λ sent.
-      AgentTook before.agent.value (hears (tick (tick_to before.ticked to))) behind.agent.value sent)) board.gateways.items now.gateways.items
-  pub stays : AtPlace place (λ before behind. OnErr outputs (AgentStays before.agent.value behind.agent.value)) board.gateways.items now.gateways.items
+      AgentTook before.agent.value (hears (tick (tick_to before.ticked to))) behind.agent.value sent)) board.gateways.items
+          now.gateways.items
+  pub stays : AtPlace place (λ before behind. OnErr outputs (AgentStays before.agent.value behind.agent.value)) board.gateways.items
+      now.gateways.items
   pub ends : AtPlace place (λ before behind. Refuses (tick (tick_to before.ticked to)) (result_err outputs) before)
       board.gateways.items now.gateways.items
   pub nobody : IfNone (slice_get board.gateways.items place) (outputs ≡ Ok [])
@@ -45,7 +49,8 @@ pub record TicksOne {S : Type 0} (sends : S → SocketAddrV4 → List ℕ → Re
   pub goes : SendsOutputs sends true outputs went_on was is
 
 -- those of so many agents, one behind another
-abbrev pub TicksEach : {S : Type 0} → (S → SocketAddrV4 → List ℕ → Result ⊤ Fault → S → Type 0) → ℕ → ℕ → Switchboard → Wire S → Switchboard → Wire S → Type 0
+abbrev pub TicksEach : {S : Type 0} → (S → SocketAddrV4 → List ℕ → Result ⊤ Fault → S → Type 0) → ℕ → ℕ → Switchboard → Wire S → Switchboard
+    → Wire S → Type 0
 TicksEach sends to zero board was now is = (now ≡ board) × (is ≡ was)
 TicksEach {S} sends to (suc place) board was now is =
     (ticked : Switchboard) × (sent : Wire S) × TicksEach sends to place board was ticked sent × TicksOne sends to place ticked sent now is
@@ -53,7 +58,9 @@ TicksEach {S} sends to (suc place) board was now is =
 -- What is given up
 
 -- the next command to the gateway at this place that is given up by now is so, and counts, and that is told and noted, if there is one
-pub record GivesUpNext {S : Type 0} (found : Bool) (place : ℕ) (board : Switchboard) (was : Wire S) (now : Switchboard) (is : Wire S) : Type 0 where
+pub record GivesUpNext {S : Type 0} (found : Bool) (place : ℕ) (board : Switchboard) (was : Wire S) (now : Switchboard)
+    (is : Wire S)
+    : Type 0 where
   pub is_found : found ≡ is_some (ended_in None (slice_get board.gateways.items place))
   pub gives_up : GivesUp place board now
   pub counts : is.journal.value.tally ≡ counted_if found with_given_up was.journal.value.tally
@@ -61,7 +68,8 @@ pub record GivesUpNext {S : Type 0} (found : Bool) (place : ℕ) (board : Switch
   pub rest : is ≡ record was { journal = is.journal }
 
 -- so many are, one behind another; behind each lines are settled
-pub record GivesUpOne {S : Type 0} (sends : S → SocketAddrV4 → List ℕ → Result ⊤ Fault → S → Type 0) (place : ℕ) (board : Switchboard) (was : Wire S)
+pub record GivesUpOne {S : Type 0} (sends : S → SocketAddrV4 → List ℕ → Result ⊤ Fault → S → Type 0) (place : ℕ) (board : Switchboard)
+    (was : Wire S)
     (now : Switchboard) (is : Wire S)
     : Type 0 where
   pub given : Switchboard
@@ -69,7 +77,8 @@ pub record GivesUpOne {S : Type 0} (sends : S → SocketAddrV4 → List ℕ → 
   pub gives_up : GivesUpNext true place board was given told
   pub settles : SettlesAll sends given told now is
 
-abbrev pub GivesUpMany : {S : Type 0} → (S → SocketAddrV4 → List ℕ → Result ⊤ Fault → S → Type 0) → ℕ → ℕ → Switchboard → Wire S → Switchboard → Wire S → Type 0
+abbrev pub GivesUpMany : {S : Type 0} → (S → SocketAddrV4 → List ℕ → Result ⊤ Fault → S → Type 0) → ℕ → ℕ → Switchboard → Wire S
+    → Switchboard → Wire S → Type 0
 GivesUpMany sends place zero board was now is = (now ≡ board) × (is ≡ was)
 GivesUpMany {S} sends place (suc count) board was now is =
     (given : Switchboard) × (told : Wire S) × GivesUpMany sends place count board was given told × GivesUpOne sends place given told now is
@@ -79,7 +88,8 @@ abbrev pub GivesUpLast : {S : Type 0} → ℕ → ℕ → Switchboard → Wire S
 GivesUpLast count place board was now is =
     GivesUpNext false place board was now is ⊎ ((count ≡ MOST_AT_ONCE) × (now ≡ board) × (is ≡ was))
 
-pub record GivesUpAll {S : Type 0} (sends : S → SocketAddrV4 → List ℕ → Result ⊤ Fault → S → Type 0) (place : ℕ) (board : Switchboard) (was : Wire S)
+pub record GivesUpAll {S : Type 0} (sends : S → SocketAddrV4 → List ℕ → Result ⊤ Fault → S → Type 0) (place : ℕ) (board : Switchboard)
+    (was : Wire S)
     (now : Switchboard) (is : Wire S)
     : Type 0 where
   pub count : ℕ
@@ -89,15 +99,16 @@ pub record GivesUpAll {S : Type 0} (sends : S → SocketAddrV4 → List ℕ → 
   pub last : GivesUpLast count place given told now is
 
 -- at so many gateways, one behind another
-abbrev pub GivesUpEach : {S : Type 0} → (S → SocketAddrV4 → List ℕ → Result ⊤ Fault → S → Type 0) → ℕ → Switchboard → Wire S → Switchboard → Wire S → Type 0
+abbrev pub GivesUpEach : {S : Type 0} → (S → SocketAddrV4 → List ℕ → Result ⊤ Fault → S → Type 0) → ℕ → Switchboard → Wire S → Switchboard
+    → Wire S → Type 0
 GivesUpEach sends zero board was now is = (now ≡ board) × (is ≡ was)
 GivesUpEach {S} sends (suc place) board was now is =
     (given : Switchboard) × (told : Wire S) × GivesUpEach sends place board was given told × GivesUpAll sends place given told now is
 
 -- What was put off
 
--- the next line of the gateway at this place to which a command is sent again by now waits to be settled, if there is one, and whoever waited
--- waits still
+-- the next line of the gateway at this place to which a command is sent again by now waits to be settled, if there is one, and whoever
+-- waited waits still
 pub record WakesNext (found : Bool) (place : ℕ) (board now : Switchboard) : Type 0 where
   pub is_found : found ≡ is_some (woken_at (slice_get board.gateways.items place))
   pub line : WakesIn (woken_at (slice_get board.gateways.items place)) board.office now.office
@@ -128,7 +139,8 @@ WakesEach (suc place) board now = (woken : Switchboard) × WakesEach place board
 
 -- It is this moment, and the clock goes on to one: that of each agent first. Then it is known whether it is behind; what is given up by now
 -- is so, at each gateway; and lines of which something was put off that is sent again by now are settled.
-pub record TicksAll {S : Type 0} (sends : S → SocketAddrV4 → List ℕ → Result ⊤ Fault → S → Type 0) (moment to : ℕ) (board : Switchboard) (was : Wire S)
+pub record TicksAll {S : Type 0} (sends : S → SocketAddrV4 → List ℕ → Result ⊤ Fault → S → Type 0) (moment to : ℕ) (board : Switchboard)
+    (was : Wire S)
     (now : Switchboard) (is : Wire S)
     : Type 0 where
   pub ticked : Switchboard

@@ -79,7 +79,8 @@ abbrev pub TellsCounts : Journal → List ℕ → Type 0
 TellsCounts journal text = (text ≡ counted_in journal) ⊎ (text ≡ codes "! 1 OutOfMemory\n")
 
 -- But for a command that was typed the board stays as it was. The end has come where that was asked for.
-abbrev pub DoesRequest : {S : Type 0} → (S → SocketAddrV4 → List ℕ → Result ⊤ Fault → S → Type 0) → (S → SocketAddr → List ℕ → S → Type 0) → Request
+abbrev pub DoesRequest : {S : Type 0} → (S → SocketAddrV4 → List ℕ → Result ⊤ Fault → S → Type 0) → (S → SocketAddr → List ℕ → S → Type 0)
+    → Request
     → Switchboard → Switchboard → Wire S → Wire S → Type 0
 DoesRequest sends answers Nothing board now was is = (now ≡ board) × (is ≡ was)
 DoesRequest sends answers Counts board now was is =
@@ -90,7 +91,8 @@ DoesRequest sends answers StopFromAfar board now was is =
     (now ≡ board) × AnswersWith answers (codes "! stop is taken from a loopback address alone, 127.0.0.0/8\n") was is
 DoesRequest sends answers Command board now was is = DoesCommand sends answers board now was is
 
-pub record AnswersFirst {S : Type 0} (sends : S → SocketAddrV4 → List ℕ → Result ⊤ Fault → S → Type 0) (answers : S → SocketAddr → List ℕ → S → Type 0)
+pub record AnswersFirst {S : Type 0} (sends : S → SocketAddrV4 → List ℕ → Result ⊤ Fault → S → Type 0)
+    (answers : S → SocketAddr → List ℕ → S → Type 0)
     (board now : Switchboard) (was is : Wire S)
     : Type 0 where
   pub request : Request
@@ -136,8 +138,8 @@ Notes pause was is =
     Tells (pause_line was.now.time pause.lateness pause.read) was.journal.value.log is.journal.value.log
     × (is.journal.value ≡ record was.journal.value { log = is.journal.value.log }) × (is ≡ record was { journal = is.journal })
 
--- Where it is this moment the clock goes on to one, and what falls due is sent; whether it is behind is known by that. What was typed stays,
--- and what was read, and whether a load is made.
+-- Where it is this moment the clock goes on to one, and what falls due is sent; whether it is behind is known by that. What was typed
+-- stays, and what was read, and whether a load is made.
 abbrev pub TickedOver : {S : Type 0} → ℕ → ℕ → Wire S → Wire S → Type 0
 TickedOver moment to was is =
     (is_some is.load ≡ is_some was.load) × (is ≡ record was {
@@ -168,7 +170,8 @@ TicksOver moment to was is =
     })
 
 -- all that it does: what the agents' clocks do, what is given up and what was put off; then what is due of a load
-pub record DoesTick {S : Type 0} (sends : S → SocketAddrV4 → List ℕ → Result ⊤ Fault → S → Type 0) (answers : S → SocketAddr → List ℕ → S → Type 0)
+pub record DoesTick {S : Type 0} (sends : S → SocketAddrV4 → List ℕ → Result ⊤ Fault → S → Type 0)
+    (answers : S → SocketAddr → List ℕ → S → Type 0)
     (moment to : ℕ) (board now : Switchboard) (was is : Wire S)
     : Type 0 where
   pub ticked : Wire S
@@ -186,13 +189,16 @@ abbrev pub DoesTurn :
     → (S → Option (SocketAddr × ℕ) → List ℕ → S → Type 0)
     → (S → SocketAddr → List ℕ → S → Type 0) → ℕ → Turn → Switchboard → Switchboard → Wire S → Wire S → Type 0
 DoesTurn traffic sockets sleeps sends receives hears answers moment turns.End board now was is = (now ≡ board) × (is ≡ was)
-DoesTurn traffic sockets sleeps sends receives hears answers moment turns.Look board now was is = (now ≡ board) × Waits traffic sleeps 0 was is
+DoesTurn traffic sockets sleeps sends receives hears answers moment turns.Look board now was is = (now ≡ board)
+    × Waits traffic sleeps 0 was is
 DoesTurn traffic sockets sleeps sends receives hears answers moment (turns.Wait until) board now was is =
     (now ≡ board) × WaitsUntil traffic sleeps until moment board.gateways.items was is
-DoesTurn traffic sockets sleeps sends receives hears answers moment (turns.Tick to) board now was is = DoesTick sends answers moment to board now was is
+DoesTurn traffic sockets sleeps sends receives hears answers moment (turns.Tick to) board now was is =
+    DoesTick sends answers moment to board now was is
 DoesTurn traffic sockets sleeps sends receives hears answers moment turns.Command board now was is =
     TakesTyped sockets sends hears answers moment was.load board now was is
-DoesTurn traffic sockets sleeps sends receives hears answers moment turns.Datagram board now was is = TakesDatagram sends receives board was now is
+DoesTurn traffic sockets sleeps sends receives hears answers moment turns.Datagram board now was is =
+    TakesDatagram sends receives board was now is
 DoesTurn traffic sockets sleeps sends receives hears answers moment turns.Visit board now was is = (now ≡ board) × (is ≡ was)
 DoesTurn traffic sockets sleeps sends receives hears answers moment (turns.Note pause) board now was is = (now ≡ board) × Notes pause was is
 

@@ -36,14 +36,16 @@ abbrev pub TellsIssued : ℕ → List ℕ → Type 0
 TellsIssued id text = (text ≡ issued_text id) ⊎ (text ≡ fault_text OutOfMemory)
 
 -- why it isn't issued is answered; where it is, it counts, and is sent before
-abbrev pub AnswersIssued : {S : Type 0} → (S → SocketAddrV4 → List ℕ → Result ⊤ Fault → S → Type 0) → (S → SocketAddr → List ℕ → S → Type 0) → Result Issued TypedFault → Wire S → Wire S → Type 0
+abbrev pub AnswersIssued : {S : Type 0} → (S → SocketAddrV4 → List ℕ → Result ⊤ Fault → S → Type 0) → (S → SocketAddr → List ℕ → S → Type 0)
+    → Result Issued TypedFault → Wire S → Wire S → Type 0
 AnswersIssued sends answers (Err fault) was is = AnswersAll answers (fault_text fault) was is
 AnswersIssued {S} sends answers (Ok issued) was is =
     (sent : Wire S) × (text : List ℕ) × SendsCommand sends issued.datagram was sent
     × TellsIssued issued.id text × AnswersAll answers text sent is
 
 -- Where memory is refused for the answer before, nothing is issued.
-abbrev pub AnswersCommand : {S : Type 0} → (S → SocketAddrV4 → List ℕ → Result ⊤ Fault → S → Type 0) → (S → SocketAddr → List ℕ → S → Type 0) → List ℕ → Switchboard → Switchboard → Wire S → Wire S → Type 0
+abbrev pub AnswersCommand : {S : Type 0} → (S → SocketAddrV4 → List ℕ → Result ⊤ Fault → S → Type 0) → (S → SocketAddr → List ℕ → S
+    → Type 0) → List ℕ → Switchboard → Switchboard → Wire S → Wire S → Type 0
 AnswersCommand sends answers text board now was is =
     ((now ≡ board) × AnswersAll answers (fault_text OutOfMemory) was is)
     ⊎ ((issued : Result Issued TypedFault) × IssuesTyped text issued board now × AnswersIssued sends answers issued was is)
@@ -54,7 +56,8 @@ IsTypedNext [] text = text ≡ []
 IsTypedNext (piece ∷ behind) text = (rest : List ℕ) × (cut rest ≡ behind) × (text ≡ typed_text (line_of piece) rest)
 
 -- it is issued, or refused, and that is answered; where memory is refused for its text, it is refused for that
-abbrev pub DoesCommand : {S : Type 0} → (S → SocketAddrV4 → List ℕ → Result ⊤ Fault → S → Type 0) → (S → SocketAddr → List ℕ → S → Type 0) → Switchboard → Switchboard → Wire S → Wire S → Type 0
+abbrev pub DoesCommand : {S : Type 0} → (S → SocketAddrV4 → List ℕ → Result ⊤ Fault → S → Type 0) → (S → SocketAddr → List ℕ → S → Type 0)
+    → Switchboard → Switchboard → Wire S → Wire S → Type 0
 DoesCommand sends answers board now was is =
     ((now ≡ board) × AnswersAll answers (fault_text OutOfMemory) was is)
     ⊎ ((text : List ℕ) × IsTypedNext (left_of was.lines) text × AnswersCommand sends answers text board now was is)

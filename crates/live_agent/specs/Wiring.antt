@@ -96,7 +96,8 @@ longest_until until None moment = ms_until until moment
 longest_until until (Some due) moment = ms_until (min until due) moment
 
 -- how things stand at a board and over a wire
-pub record IsSituation {S : Type 0} (passes : S → Result ℕ Fault → Type 0) (tells : S → Told → Type 0) (board : Switchboard) (wire : Wire S) (at : Situation)
+pub record IsSituation {S : Type 0} (passes : S → Result ℕ Fault → Type 0) (tells : S → Told → Type 0) (board : Switchboard) (wire : Wire S)
+    (at : Situation)
     : Type 0 where
   pub told : Told
   pub told_so : tells wire.around told
@@ -108,7 +109,8 @@ pub record IsSituation {S : Type 0} (passes : S → Result ℕ Fault → Type 0)
   pub ready : at.ready ≡ ready_by told (not (is_empty (left_of wire.lines))) (due_of wire.network) wire.now.clock
 
 -- what comes next by a schedule, as things stand, has its turn, until that is the end; and the schedule behind that is the next
-pub record AsksNext {S : Type 0} (passes : S → Result ℕ Fault → Type 0) (tells : S → Told → Type 0) (board : Switchboard) (wire : Wire S) (schedule : Schedule) (goes_on : Bool) (next : Schedule)
+pub record AsksNext {S : Type 0} (passes : S → Result ℕ Fault → Type 0) (tells : S → Told → Type 0) (board : Switchboard) (wire : Wire S)
+    (schedule : Schedule) (goes_on : Bool) (next : Schedule)
     : Type 0 where
   pub at : Situation
   pub turn : Turn

@@ -79,7 +79,8 @@ pub fn what_is_waited_for_has_examples()
     // What the network hands out, what is to be done of a load, what falls due at a gateway: the earliest.
     ensures network { FallsDueFirst 700 [] None (Some 300) (Some 300) }
     ensures load { (load : Box Load) → bench_due 250 load.value.bench.value ≡ 280 → FallsDueFirst 250 [] (Some load) (Some 300) (Some 280) }
-    ensures network_first { (load : Box Load) → bench_due 250 load.value.bench.value ≡ 320 → FallsDueFirst 250 [] (Some load) (Some 300) (Some 300) }
+    ensures network_first { (load : Box Load) → bench_due 250 load.value.bench.value ≡ 320 →
+        FallsDueFirst 250 [] (Some load) (Some 300) (Some 300) }
     ensures load_alone { (load : Box Load) → bench_due 250 load.value.bench.value ≡ 320 → FallsDueOver 250 (Some load) None (Some 320) }
     ensures gateway { (gateway : Gateway) → FallsDueAt gateway (Some 100) →
         FallsDueFirst 700 (gateway ∷ []) None (Some 300) (Some 100) }
@@ -182,11 +183,13 @@ pub fn what_turns_leave_has_examples()
 /// What a datagram does.
 pub fn what_a_datagram_does_has_examples()
     // A stranger's counts, and does nothing.
-    ensures stranger { (source : SocketAddrV4) (board now : Switchboard) (was is : Wire ℕ) → HearsBy sends_any None source [] board was now is →
+    ensures stranger { (source : SocketAddrV4) (board now : Switchboard) (was is : Wire ℕ) →
+        HearsBy sends_any None source [] board was now is →
         (now ≡ board) × (is.journal.value.tally ≡ with_stranger was.journal.value.tally) × (is.journal.value.log ≡ was.journal.value.log)
         × (is.journal.value.told ≡ was.journal.value.told) }
     // What has no text is heard so; of two the first is heard before the other.
-    ensures no_text { (board now : Switchboard) (was is : Wire ℕ) → HearsTexts sends_any 0 [] board was now is → (now ≡ board) × (is ≡ was) }
+    ensures no_text { (board now : Switchboard) (was is : Wire ℕ) → HearsTexts sends_any 0 [] board was now is →
+        (now ≡ board) × (is ≡ was) }
     ensures two { (board now : Switchboard) (was is : Wire ℕ) → HearsTexts sends_any 0 (codes "a" ∷ codes "b" ∷ []) board was now is →
         (heard : Switchboard) × (sent : Wire ℕ) × HearsOne sends_any 0 (codes "a") board was heard sent }
     ensures text { (board now : Switchboard) (was is : Wire ℕ) → HearsOne sends_any 0 [] board was now is →
@@ -194,17 +197,22 @@ pub fn what_a_datagram_does_has_examples()
     // Its agent takes it, or refuses it: nothing else of the board changes, nor of the wire.
     ensures nobody_steps { (source : SocketAddrV4) (outputs : _) (board now : Switchboard) → board.gateways.items ≡ [] →
         StepsAt 0 source [] outputs board now → outputs ≡ Ok [] }
-    ensures steps { (source : SocketAddrV4) (outputs : _) (board now : Switchboard) → StepsAt 0 source [] outputs board now → now.office ≡ board.office }
+    ensures steps { (source : SocketAddrV4) (outputs : _) (board now : Switchboard) → StepsAt 0 source [] outputs board now →
+        now.office ≡ board.office }
     // Where its agent refused it, no text is heard, and nothing is taken.
-    ensures refused { (board now : Switchboard) (was is : Wire ℕ) → DealsIf sends_any false 0 [] board was now is → (now ≡ board) × (is ≡ was) }
+    ensures refused { (board now : Switchboard) (was is : Wire ℕ) → DealsIf sends_any false 0 [] board was now is →
+        (now ≡ board) × (is ≡ was) }
     // Where a line told nothing none is settled.
-    ensures nothing { (board now : Switchboard) (was is : Wire ℕ) → SettlesIf sends_any false board was now is → (now ≡ board) × (is ≡ was) }
+    ensures nothing { (board now : Switchboard) (was is : Wire ℕ) → SettlesIf sends_any false board was now is →
+        (now ≡ board) × (is ≡ was) }
     ensures something { (board now : Switchboard) (was is : Wire ℕ) → SettlesIf sends_any true board was now is → SettlesLines board now }
-    ensures counts_none { (board now : Switchboard) (was is : Wire ℕ) (takes : TakesNext sends_any 0 0 board was now is) → takes.found ≡ false →
+    ensures counts_none { (board now : Switchboard) (was is : Wire ℕ) (takes : TakesNext sends_any 0 0 board was now is) →
+        takes.found ≡ false →
         takes.told.journal.value.tally ≡ was.journal.value.tally }
     ensures counts { (board now : Switchboard) (was is : Wire ℕ) (takes : TakesNext sends_any 0 0 board was now is) → takes.found ≡ true →
         takes.told.journal.value.tally ≡ with_notification was.journal.value.tally }
-    ensures waits_then { (line : ℕ) (board now : Switchboard) (was is : Wire ℕ) (takes : TakesNext sends_any 0 0 board was now is) → takes.found ≡ true →
+    ensures waits_then { (line : ℕ) (board now : Switchboard) (was is : Wire ℕ) (takes : TakesNext sends_any 0 0 board was now is) →
+        takes.found ≡ true →
         taken_place 0 (slice_get board.gateways.items 0) board.notifying ≡ Some line → WaitsIn line takes.taken.office }
     ensures room { (board now : Switchboard) (was is : Wire ℕ) (looks : TakesLooked sends_any receives_any board was now is) →
         length looks.room ≡ 4001 }
@@ -213,8 +221,10 @@ pub fn what_a_datagram_does_has_examples()
     ensures no_line { (board now : Switchboard) (was is : Wire ℕ) → TakesEach sends_any 0 0 board was now is → now ≡ board }
     // Where the network handed one over the sockets aren't looked for one; where it handed over none, nothing is heard.
     ensures handed { (board now : Switchboard) (was is : Wire ℕ) → TakesElse sends_any receives_any true board was now is → is ≡ was }
-    ensures not_handed { (board now : Switchboard) (was is : Wire ℕ) → HearsPacket sends_any None board was now is → (now ≡ board) × (is ≡ was) }
-    ensures looks { (board now : Switchboard) (was is : Wire ℕ) → TakesFound sends_any None [] board was now is → (now ≡ board) × (is ≡ was) }
+    ensures not_handed { (board now : Switchboard) (was is : Wire ℕ) → HearsPacket sends_any None board was now is →
+        (now ≡ board) × (is ≡ was) }
+    ensures looks { (board now : Switchboard) (was is : Wire ℕ) → TakesFound sends_any None [] board was now is →
+        (now ≡ board) × (is ≡ was) }
     ensures looks_for_one { (board now : Switchboard) (was is : Wire ℕ) (looks : TakesLooked sends_any receives_any board was now is) →
         looks.outcome ≡ Ok None → looks.looked.read ≡ was.read }
     // Without such a network it is heard at once.
@@ -235,26 +245,31 @@ pub fn what_a_network_hands_over_has_examples()
     ensures no_network { (packet : Option Packet) (is : Option BadNetwork) → HandsFirst 700 None packet is → (packet ≡ None) × (is ≡ None) }
     ensures gone { (was : BadNetwork) (packet : Option Packet) → HandsFirst 700 (Some was) packet None → ⊥ }
     // The first that waits, where it is due by now; else none, and all wait on.
-    ensures first { (was is : BadNetwork) (one two : Packet) → was.waiting.items ≡ one ∷ two ∷ [] → one.due ≡ 700 → is.waiting.items ≡ two ∷ [] →
+    ensures first { (was is : BadNetwork) (one two : Packet) → was.waiting.items ≡ one ∷ two ∷ [] → one.due ≡ 700 →
+        is.waiting.items ≡ two ∷ [] →
         is.spoiling ≡ was.spoiling → is.generator ≡ was.generator → HandsFirst 700 (Some was) (Some one) (Some is) }
-    ensures not_due { (was : BadNetwork) (one : Packet) → was.waiting.items ≡ one ∷ [] → one.due ≡ 701 → HandsFirst 700 (Some was) None (Some was) }
+    ensures not_due { (was : BadNetwork) (one : Packet) → was.waiting.items ≡ one ∷ [] → one.due ≡ 701 →
+        HandsFirst 700 (Some was) None (Some was) }
     // It comes in where it goes that way; one that goes out is sent, and isn't handed over.
     ensures comes { comes_in In ≡ true }
     ensures goes { comes_in Out ≡ false }
     ensures comes_in_last { (packet : Packet) (was is : Wire ℕ) → HandsLast 3 (Some packet) was is → packet.way ≡ In }
     ensures goes_out_before { (packet : Packet) (was is : Wire ℕ) → SendsOn sends_any packet was is → packet.way ≡ Out }
     ensures none_out { (was is : Wire ℕ) → SendsEachOn sends_any [] was is → is ≡ was }
-    ensures one_out { (packet : Packet) (was is : Wire ℕ) → SendsEachOn sends_any (packet ∷ []) was is → (sent : Wire ℕ) × SendsOn sends_any packet was sent }
+    ensures one_out { (packet : Packet) (was is : Wire ℕ) → SendsEachOn sends_any (packet ∷ []) was is →
+        (sent : Wire ℕ) × SendsOn sends_any packet was sent }
     // What is offered to it has its copies wait, and counts as what it becomes; without one nothing counts.
     ensures offered { (was : BadNetwork) (counted : Tally) → TakesOffer [] was was.waiting.items counted (with_refusal counted) }
-    ensures offered_nobody { (peer : SocketAddrV4) (is : Option BadNetwork) (counted counts : Tally) → OffersTo In peer [] 700 None is counted counts →
+    ensures offered_nobody { (peer : SocketAddrV4) (is : Option BadNetwork) (counted counts : Tally) →
+        OffersTo In peer [] 700 None is counted counts →
         (is ≡ None) × (counts ≡ counted) }
     ensures draws { (peer : SocketAddrV4) (was is : BadNetwork) (counted counts : Tally) → Offers Out peer [] 700 was is counted counts →
         is.generator ≡ after_draws was.generator }
     // What leaves doesn't count; what doesn't counts as a fault.
     ensures leaves { (tally : Tally) → leaving_counted (Ok tt) tally ≡ tally }
     ensures stays { (fault : Fault) (tally : Tally) → leaving_counted (Err fault) tally ≡ with_send_fault tally }
-    ensures handed { (to : SocketAddrV4) (was is : Wire ℕ) → Leaves (λ before peer bytes outcome after. peer ≡ to) to [] was is → is.network ≡ was.network }
+    ensures handed { (to : SocketAddrV4) (was is : Wire ℕ) → Leaves (λ before peer bytes outcome after. peer ≡ to) to [] was is →
+        is.network ≡ was.network }
 {}
 
 /// What changes of a journal beside what counts.
@@ -266,7 +281,8 @@ pub fn what_is_recorded_has_examples()
     ensures tells { (was is : Journal) → OnlyTells was is → (is.log ≡ was.log) × (is.capture ≡ was.capture) × (is.written ≡ was.written) }
     ensures tells_and_notes { (was is : Journal) → OnlyTellsAndNotes was is → (is.capture ≡ was.capture) × (is.written ≡ was.written) }
     // So it is of what comes, of what is sent, and of what is given up.
-    ensures came { (source : SocketAddrV4) (board now : Switchboard) (was is : Wire ℕ) (hears : HearsDatagram sends_any source [] board was now is) →
+    ensures came { (source : SocketAddrV4) (board now : Switchboard) (was is : Wire ℕ)
+        (hears : HearsDatagram sends_any source [] board was now is) →
         hears.came.journal.value.told ≡ was.journal.value.told }
     ensures sent { (to : SocketAddrV4) (was is : Wire ℕ) (sends : SendsOne sends_any true to [] was is) →
         sends.noted.journal.value.told ≡ was.journal.value.told }
@@ -293,8 +309,10 @@ pub fn what_telephones_are_told_has_examples()
     ensures given_up { (course : Course) → course.fault ≡ None → (course_behind false course).fault ≡ Some faults.OutOfMemory }
     ensures goes_on { (course : Course) → course_behind true course ≡ course }
     // It is over as its bench says, and then the end has come. Time and telephones unmake no load.
-    ensures over { (load : Box Load) → bench_over 700 load.value.bench.value ≡ true → end_of (load_over 700 (Some load)) (Some 900) ≡ Some 0 }
-    ensures not_over { (load : Box Load) → bench_over 700 load.value.bench.value ≡ false → end_of (load_over 700 (Some load)) (Some 900) ≡ Some 900 }
+    ensures over { (load : Box Load) → bench_over 700 load.value.bench.value ≡ true → end_of (load_over 700 (Some load)) (Some 900)
+        ≡ Some 0 }
+    ensures not_over { (load : Box Load) → bench_over 700 load.value.bench.value ≡ false → end_of (load_over 700 (Some load)) (Some 900)
+        ≡ Some 900 }
     ensures none_made { load_over 700 None ≡ false }
     ensures passes_on { (was is : Wire ℕ) → Passes answers_any 700 was is → is.end ≡ end_of (load_over 700 is.load) was.end }
     ensures logs { (board now : Switchboard) (was is : Wire ℕ) (ticks : DoesTick sends_any answers_any 900 700 board now was is) →
@@ -308,15 +326,19 @@ pub fn what_telephones_are_told_has_examples()
     ensures begins { (was is : Wire ℕ) → BeginsLoad answers_any None was is → is.end ≡ None }
     ensures begins_none { (ending : CommonEnding) (was is : Wire ℕ) → BeginsLoad answers_any (Some ending) was is → is.load ≡ was.load }
     ensures reports { (was is : Bench) → Reports was is → is.tally ≡ was.tally }
-    ensures unmade_for { (bench : Bench) → bench.course.value.fault ≡ Some faults.NoLines → load_ending bench ≡ loads.Unmade faults.NoLines }
+    ensures unmade_for { (bench : Bench) → bench.course.value.fault ≡ Some faults.NoLines →
+        load_ending bench ≡ loads.Unmade faults.NoLines }
     ensures unmade_at_all { ending_in None ≡ loads.Unmade faults.OutOfMemory }
     ensures begins_with_room { (before after : ℕ) (asked : Bench) (load : Box Load) → SaysTo answers_any before asked after (Some load) →
         vec_len load.value.room ≡ 65536 }
-    ensures hears_in_room { (before after : ℕ) (was is : Bench) (hears : HearsOnce hears_any answers_any 700 4001 true before after was is) →
+    ensures hears_in_room { (before after : ℕ) (was is : Bench) (hears : HearsOnce hears_any answers_any 700 4001 true before after was is)
+        →
         length hears.room ≡ 4001 }
     // Where they said nothing, nothing is said to them; what they say counts as read.
-    ensures nothing { (before after : ℕ) (was is : Bench) → SaysHeard answers_any 700 None [] before after was is → (after ≡ before) × (is ≡ was) }
-    ensures reads { (was is : Wire ℕ) (hears : HearsTelephones hears_any answers_any 700 was is) → hears.taken ≡ true → is.read ≡ one_more was.read }
+    ensures nothing { (before after : ℕ) (was is : Bench) → SaysHeard answers_any 700 None [] before after was is →
+        (after ≡ before) × (is ≡ was) }
+    ensures reads { (was is : Wire ℕ) (hears : HearsTelephones hears_any answers_any 700 was is) → hears.taken ≡ true →
+        is.read ≡ one_more was.read }
     ensures ends { (was is : Wire ℕ) → HearsTelephones hears_any answers_any 700 was is → is.end ≡ end_of (load_over 700 is.load) was.end }
 {}
 
@@ -327,7 +349,8 @@ pub fn what_is_sent_has_examples()
         SendsOne (λ before peer bytes outcome after. peer ≡ other) true to [] was is → to ≡ other }
     ensures as_it_is { (to : SocketAddrV4) (was is : Wire ℕ) → was.network ≡ None →
         SendsOne (λ before peer bytes outcome after. bytes ≡ codes "a") true to (codes "b") was is → codes "b" ≡ codes "a" }
-    ensures to_the_network { (to : SocketAddrV4) (network : BadNetwork) (was is : Wire ℕ) → GoesOut (λ before peer bytes outcome after. ⊥) to [] (Some network) was is →
+    ensures to_the_network { (to : SocketAddrV4) (network : BadNetwork) (was is : Wire ℕ) →
+        GoesOut (λ before peer bytes outcome after. ⊥) to [] (Some network) was is →
         is.around ≡ was.around }
     ensures all { (datagram : OutDatagram) (was is : Wire ℕ) → SendsAll sends_any true (datagram ∷ []) was is →
         (sent : Wire ℕ) × SendsOne sends_any true datagram.to datagram.bytes was sent }
@@ -348,12 +371,14 @@ pub fn what_is_sent_has_examples()
         settled_in 0 board.office ≡ None → sends.issued ≡ Ok None }
     ensures refused_too { (fault : IssueFault) (was is : Wire ℕ) → SendsIssued sends_any (Err fault) was is →
         is.journal.value.tally ≡ with_refusal was.journal.value.tally }
-    ensures issued { (issued : Issued) (was is : Wire ℕ) → SendsIssued sends_any (Ok (Some issued)) was is → SendsCommand sends_any issued.datagram was is }
+    ensures issued { (issued : Issued) (was is : Wire ℕ) → SendsIssued sends_any (Ok (Some issued)) was is →
+        SendsCommand sends_any issued.datagram was is }
 {}
 
 /// What a tick does.
 pub fn what_a_tick_does_has_examples()
-    ensures no_agent { (board now : Switchboard) (was is : Wire ℕ) → TicksEach sends_any 700 0 board was now is → (now ≡ board) × (is ≡ was) }
+    ensures no_agent { (board now : Switchboard) (was is : Wire ℕ) → TicksEach sends_any 700 0 board was now is →
+        (now ≡ board) × (is ≡ was) }
     ensures again { (board now : Switchboard) (was is : Wire ℕ) (ticks : TicksOne sends_any 700 0 board was now is) →
         SendsOutputs sends_any true ticks.outputs ticks.went_on was is }
     // Where there is no gateway none says anything; a clock that may go on does, where nothing falls due by then.
@@ -365,11 +390,14 @@ pub fn what_a_tick_does_has_examples()
     // So many are given up, woken, or handed over at most at a turn.
     ensures most { MOST_AT_ONCE ≡ 65535 }
     // What is given up counts.
-    ensures none_given_up { (board now : Switchboard) (was is : Wire ℕ) → GivesUpMany sends_any 0 0 board was now is → (now ≡ board) × (is ≡ was) }
+    ensures none_given_up { (board now : Switchboard) (was is : Wire ℕ) → GivesUpMany sends_any 0 0 board was now is →
+        (now ≡ board) × (is ≡ was) }
     ensures counts { (board now : Switchboard) (was is : Wire ℕ) → GivesUpNext true 0 board was now is →
         is.journal.value.tally ≡ with_given_up was.journal.value.tally }
-    ensures counts_none { (board now : Switchboard) (was is : Wire ℕ) → GivesUpNext false 0 board was now is → is.journal.value.tally ≡ was.journal.value.tally }
-    ensures no_gateway { (board now : Switchboard) (was is : Wire ℕ) → GivesUpEach sends_any 0 board was now is → (now ≡ board) × (is ≡ was) }
+    ensures counts_none { (board now : Switchboard) (was is : Wire ℕ) → GivesUpNext false 0 board was now is →
+        is.journal.value.tally ≡ was.journal.value.tally }
+    ensures no_gateway { (board now : Switchboard) (was is : Wire ℕ) → GivesUpEach sends_any 0 board was now is →
+        (now ≡ board) × (is ≡ was) }
     ensures none_woken { (board now : Switchboard) → WakesMany 0 0 board now → now ≡ board }
     ensures no_gateway_woken { (board now : Switchboard) → WakesEach 0 board now → now ≡ board }
 {}
@@ -387,7 +415,8 @@ pub fn how_a_desk_serves_has_examples()
     // It ends as it served; without a desk nothing is done.
     ensures served { served_ending (Ok tt) ≡ CommonEnding.Served }
     ensures failed { (fault : Fault) → served_ending (Err fault) ≡ CommonEnding.Clock }
-    ensures ends { (board : Switchboard) (was is : Wire ℕ) (ending : CommonEnding) (serves : ServesToEnd serves_any writes_any ends_any board was is 0 ending) →
+    ensures ends { (board : Switchboard) (was is : Wire ℕ) (ending : CommonEnding)
+        (serves : ServesToEnd serves_any writes_any ends_any board was is 0 ending) →
         is.lines ≡ serves.done.lines }
     ensures no_desk { (config : AgentConfig) (was is : Wire ℕ) (ending : CommonEnding) →
         ServesOver config true serves_never writes_any ends_any was is 0 ending → is ≡ was }

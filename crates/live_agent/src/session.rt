@@ -438,7 +438,8 @@ fn take_line<S: Surroundings + Drop>(
     wire: &mut Wire<S>,
     moment: u64,
 )
-    ensures { TakesTyped S.sockets (HandsTo S.sends S.traffic) S.hears S.answers moment wire.old.load board.old board.new wire.old wire.new }
+    ensures { TakesTyped S.sockets (HandsTo S.sends S.traffic) S.hears S.answers moment wire.old.load board.old board.new wire.old
+        wire.new }
 {
     if wire.hear_telephones(alloc, moment) {
         return;
@@ -679,7 +680,8 @@ fn turn<S: Surroundings + Drop>(
     schedule: &mut Schedule,
 ) -> Result<bool, Fault>
     ensures next { IfOk result (λ goes_on. AsksNext S.passes S.tells board.old wire.old schedule.old goes_on schedule.new) }
-    ensures does { IfOk result (λ goes_on. goes_on ≡ true → DoesNext S.traffic S.sockets (HandsTo S.sends S.traffic) S.passes S.dates S.tells
+    ensures does { IfOk result (λ goes_on. goes_on ≡ true →
+        DoesNext S.traffic S.sockets (HandsTo S.sends S.traffic) S.passes S.dates S.tells
         S.sleeps S.receives S.hears S.answers board.old board.new wire.old wire.new schedule.old schedule.new) }
     ensures ended { IfOk result (λ goes_on. goes_on ≡ false → (wire.new ≡ wire.old) × (board.new ≡ board.old)) }
     ensures failed { IfErr result (λ fault. S.passes wire.old.around (Err fault)) }

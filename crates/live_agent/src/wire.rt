@@ -401,7 +401,8 @@ impl<S: Surroundings + Drop> Wire<S> {
 
     /// The program was stopped, and goes on: that is noted in the log.
     pub(crate) fn note_pause(&mut self, pause: Pause)
-        ensures told { Tells (pause_line self.old.now.time pause.lateness pause.read) self.old.journal.value.log self.new.journal.value.log }
+        ensures told { Tells (pause_line self.old.now.time pause.lateness pause.read) self.old.journal.value.log
+            self.new.journal.value.log }
         ensures journal { self.new.journal.value ≡ record self.old.journal.value { log = self.new.journal.value.log } }
         ensures rest { self.new ≡ record self.old { journal = self.new.journal } }
     {
