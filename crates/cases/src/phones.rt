@@ -2,7 +2,7 @@
 //!
 //! Their lines are those of `live`, but for these:
 //!
-//! - `set 1 off` a line of the script, which is called `script`.
+//! - `set 1 off` a line of the script, which is called `script`; `words 1 off` a line of each file that is brought.
 //! - `<`, `>` lines come from the telephones of gateway gw1, 127.0.0.1:2428, or go there, or from and to the address behind them: those of
 //!   gw2 are at 127.0.0.2:2428.
 //! - `print ..` a line that it says at its end; `print status 1` its exit status.
@@ -43,11 +43,22 @@ fn names_of(alloc: Global) -> Result<Vec<Text>, AllocError> {
     Ok(names)
 }
 
-// Reads a script of one file.
-fn read(alloc: Global, reader: &mut Reader<'_>, script: &str) -> Result<Wanted, ScriptFault> {
+// Reads a script, and each file that is brought, which says this.
+fn read(
+    alloc: Global,
+    reader: &mut Reader<'_>,
+    script: &str,
+    brought: &str,
+) -> Result<(), ScriptFault> {
     let name = text_of(alloc, b"script")?;
     reader.begin(name, text_of(alloc, script.as_bytes())?)?;
-    reader.go_on()
+    for _ in 0..u64::MAX {
+        match reader.go_on()? {
+            Wanted::File { .. } => reader.give(text_of(alloc, brought.as_bytes())?)?,
+            Wanted::Nothing => return Ok(()),
+        }
+    }
+    Ok(())
 }
 
 // Says how it ends: lines, and the exit status.
@@ -124,10 +135,15 @@ impl Program for Phones {
     ) -> Result<bool, OutOfMemory> {
         let alloc = rt.alloc();
         let names = names_of(alloc)?;
+        let brought = story.words.as_slice().join(alloc, "\n")?;
         let mut reader = Reader::new(alloc, names.as_slice());
-        match read(alloc, &mut reader, story.settings.as_str()) {
-            Ok(Wanted::Nothing) => play_script(alloc, reader.into_script(), story, given)?,
-            Ok(Wanted::File { .. }) => return Ok(false),
+        match read(
+            alloc,
+            &mut reader,
+            story.settings.as_str(),
+            brought.as_str(),
+        ) {
+            Ok(()) => play_script(alloc, reader.into_script(), story, given)?,
             Err(ScriptFault::OutOfMemory) => return Err(AllocError),
             Err(ScriptFault::Line { place, fault }) => {
                 let text = fault_line(alloc, reader.files(), place, fault)?;
