@@ -2,7 +2,8 @@
 use crate::values::capturing::{address_of, number_of, parted};
 use crate::values::names::DOMAIN;
 use exchange_log::{
-    Note, Notice, Stamp, Way, put_given_up, put_message, put_note, put_notice, put_refused,
+    Note, Notice, Stamp, Way, put_given_up, put_message, put_note, put_notice, put_pause,
+    put_refused,
 };
 use mg_bytes::OutOfMemory;
 use mgcp_text::TransactionId;
@@ -50,6 +51,26 @@ fn refused_by(given: &mut Outcome, value: &[u8]) -> Note {
     }
 }
 
+// `0 1200`: how much later each of two copies comes, in ms.
+fn copied_by(given: &mut Outcome, value: &[u8]) -> Note {
+    let (first, second) = parted(given, value);
+    Note::Copied {
+        first: number_of(given, first),
+        second: number_of(given, second),
+    }
+}
+
+// `30500 12`: how much later the program went on than it was to, in ms, and how many datagrams had come; `-` where that isn't known.
+fn put_paused(given: &mut Outcome, moment: u64, value: &[u8]) -> Result<(), OutOfMemory> {
+    let (lateness, word) = parted(given, value);
+    let lateness = number_of(given, lateness);
+    let waiting = match word {
+        b"-" => None,
+        _ => Some(number_of(given, word)),
+    };
+    put_pause(given.alloc, &mut given.bytes, moment, lateness, waiting)
+}
+
 // `answered again 1205` and so on.
 fn note_of(given: &mut Outcome, call: &str, value: &[u8]) -> Note {
     match call {
@@ -62,6 +83,14 @@ fn note_of(given: &mut Outcome, call: &str, value: &[u8]) -> Note {
         },
         "log unreadable" => Note::Unreadable,
         "log not sent" => Note::Unsent,
+        "log lost" => Note::Lost,
+        "log late" => Note::Late {
+            ms: number_of(given, value),
+        },
+        "log copied" => copied_by(given, value),
+        "log unheard" => Note::Unheard {
+            host: *address_of(given, value).ip(),
+        },
         "log out of memory" => Note::OutOfMemory,
         "log stranger" => Note::Stranger {
             untold: number_of(given, value),
@@ -100,6 +129,7 @@ fn put_line(
             };
             put_notice(given.alloc, &mut given.bytes, stamp.moment, dropped)
         }
+        "log paused" => put_paused(given, stamp.moment, value),
         _ => {
             let note = note_of(given, call, value);
             put_note(given.alloc, &mut given.bytes, stamp, note)
