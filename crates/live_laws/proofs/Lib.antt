@@ -9,3 +9,6 @@ pub mod Computing
 pub mod TurnExampleLemmas
 pub mod WayExampleLemmas
 pub mod PassingExampleLemmas
+pub mod Opening
+pub mod DeskExampleLemmas
+pub mod TelephoneExampleLemmas
