@@ -118,29 +118,29 @@ same_now {S} sends (Err why) was from sent input event is t same = ap (λ (x : E
 pub notes_taken : {S : Type 0} (is_taken : Bool) (admitted : Admitted) (sent : List SentMessage) (was mid is : Exchange S) → is_taken ≡ true
     → mid ≡ record was { faults = with_refused (not is_taken) was.faults }
     → SaysUnheard admitted mid.now.time sent mid.journal.log.value is.journal.log.value → OnlyNotes mid is → Notes is_taken admitted sent was is
-notes_taken {S} true admitted sent was mid is yes counted says rest =
+notes_taken {S} true admitted sent was mid is so counted says rest =
     let same : mid ≡ was = counted in
     subst (λ (x : Exchange S). SaysUnheard admitted x.now.time sent x.journal.log.value is.journal.log.value × OnlyNotes x is) same (says, rest)
-notes_taken false admitted sent was mid is yes counted says rest = absurd cc
+notes_taken false admitted sent was mid is so counted says rest = absurd cc
 
 -- or refused: the log was told nothing
 pub notes_refused : {S : Type 0} (is_taken : Bool) (admitted : Admitted) (sent : List SentMessage) (was is : Exchange S) → is_taken ≡ false
     → is ≡ record was { faults = with_refused (not is_taken) was.faults } → Notes is_taken admitted sent was is
-notes_refused true admitted sent was is no counted = absurd cc
-notes_refused false admitted sent was is no counted = counted
+notes_refused true admitted sent was is so counted = absurd cc
+notes_refused false admitted sent was is so counted = counted
 
 -- so it was with a datagram before that
 pub explains_taken : {S : Type 0} (is_taken : Bool) (outcomes : List TextOutcome) (source : SocketAddrV4) (bytes : List ℕ) (was is : Exchange S)
     → is_taken ≡ true → SaysWhy (datagram source bytes) outcomes was.journal.log.value is.journal.log.value → OnlyNotes was is
     → Explains is_taken outcomes source bytes was is
-explains_taken true outcomes source bytes was is yes says rest = (says, rest)
-explains_taken false outcomes source bytes was is yes says rest = absurd cc
+explains_taken true outcomes source bytes was is so says rest = (says, rest)
+explains_taken false outcomes source bytes was is so says rest = absurd cc
 
 pub explains_refused : {S : Type 0} (is_taken : Bool) (outcomes : List TextOutcome) (source : SocketAddrV4) (bytes : List ℕ) (was is : Exchange S)
     → is_taken ≡ false → SaysUntaken (datagram source bytes) was.now.time was.journal.log.value is.journal.log.value → OnlyNotes was is
     → Explains is_taken outcomes source bytes was is
-explains_refused true outcomes source bytes was is no says rest = absurd cc
-explains_refused false outcomes source bytes was is no says rest = (says, rest)
+explains_refused true outcomes source bytes was is so says rest = absurd cc
+explains_refused false outcomes source bytes was is so says rest = (says, rest)
 
 -- where only the log changes of a journal, only that changes of its exchange
 pub noted_alone : {S : Type 0} (was : Exchange S) (journal : Journal) → journal ≡ record was.journal { log = journal.log }
