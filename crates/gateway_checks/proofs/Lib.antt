@@ -3,3 +3,5 @@ pub mod VerdictLaws
 pub mod SplitLemmas
 pub mod PieceLemmas
 pub mod SignLemmas
+pub mod PartingLemmas
+pub mod PutLemmas

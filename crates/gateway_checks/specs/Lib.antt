@@ -2,3 +2,6 @@ pub mod Judging
 pub mod Reporting
 pub mod Naming
 pub mod Sending
+pub mod Parting
+pub mod Checks
+pub mod Junit

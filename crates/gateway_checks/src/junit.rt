@@ -1,4 +1,9 @@
 //! The report as JUnit's XML: a test case for each check.
+ghost use Rattle.std.specs.Prelude.{◌≡◌, ◌++◌, OnOk, string_bytes};
+ghost use Rattle.std.specs.Str.Lossy.{utf8_lossy};
+ghost use Rattle.gateway_checks.specs.Junit.{xml_byte, xml_text, outcome_text, skipped_text, verdict_text, case_head, case_text};
+ghost use Rattle.gateway_checks.specs.Junit.{skipped_in, all_in, with_count, suite_head, suite_text};
+
 use crate::check::Check;
 use crate::judging::Verdict;
 use crate::report::{Tally, word_of};
@@ -6,7 +11,9 @@ use crate::texts::append;
 use mg_bytes::{Draft, OutOfMemory};
 
 // What stands for a byte in a text of XML.
-fn put_byte(out: &mut Draft, byte: u8) {
+fn put_byte(out: &mut Draft, byte: u8)
+    ensures { out.new ≡ out.old ++ xml_byte byte }
+{
     match byte {
         b'&' => out.put(b"&amp;"),
         b'<' => out.put(b"&lt;"),
@@ -19,14 +26,18 @@ fn put_byte(out: &mut Draft, byte: u8) {
 }
 
 // Puts a text, so that nothing in it ends what it stands in.
-fn put_text(out: &mut Draft, text: &str) {
+fn put_text(out: &mut Draft, text: &str)
+    ensures { out.new ≡ out.old ++ xml_text text.now }
+{
     for byte in text.as_bytes() {
         put_byte(out, *byte);
     }
 }
 
 // Puts what is told of a check that hasn't passed: the element, what was due, and what was said.
-fn put_outcome(out: &mut Draft, element: &str, message: &str, said: &str) {
+fn put_outcome(out: &mut Draft, element: &str, message: &str, said: &str)
+    ensures { out.new ≡ out.old ++ outcome_text element.now message.now said.now }
+{
     out.put(b"<");
     out.put(element.as_bytes());
     out.put(b" message=\"");
@@ -38,15 +49,42 @@ fn put_outcome(out: &mut Draft, element: &str, message: &str, said: &str) {
     out.put(b">");
 }
 
+// Puts what is told of a check that was skipped: why, and what was said.
+fn put_skipped(out: &mut Draft, verdict: Option<Verdict>, said: &str)
+    ensures { out.new ≡ out.old ++ skipped_text verdict said.now }
+{
+    put_outcome(out, "skipped", word_of(verdict), said);
+}
+
 // Puts what is told of a check with this verdict: what was due, and what was said.
-fn put_verdict(out: &mut Draft, verdict: Option<Verdict>, due: &str, said: &str) {
+fn put_verdict(out: &mut Draft, verdict: Option<Verdict>, due: &str, said: &str)
+    ensures { out.new ≡ out.old ++ verdict_text verdict due.now said.now }
+{
     match verdict {
         Some(Verdict::Passed) => {}
         Some(Verdict::Failed) => put_outcome(out, "failure", due, said),
-        Some(Verdict::LeftOpen | Verdict::NotSupported) | None => {
-            put_outcome(out, "skipped", word_of(verdict), said);
-        }
+        Some(Verdict::LeftOpen) => put_skipped(out, verdict, said),
+        Some(Verdict::NotSupported) => put_skipped(out, verdict, said),
+        None => put_skipped(out, verdict, said),
     }
+}
+
+// Puts a text as it stands.
+fn put_plain(out: &mut Draft, text: &str)
+    ensures { out.new ≡ out.old ++ text.now }
+{
+    out.put(text.as_bytes());
+}
+
+// Puts what a case begins with: the check's name, and the sections of its rule.
+fn put_case_head(out: &mut Draft, check: &Check<'_>)
+    ensures { out.new ≡ out.old ++ case_head check.now }
+{
+    out.put(b"<testcase name=\"");
+    put_plain(out, check.name);
+    out.put(b"\" classname=\"RFC 3435, ");
+    put_text(out, check.sections);
+    out.put(b"\">");
 }
 
 /// Puts a check: its name, the sections of its rule, its verdict, what was due, and what was said.
@@ -56,35 +94,62 @@ pub fn put_case(
     verdict: Option<Verdict>,
     due: &str,
     said: &str,
-) -> Result<(), OutOfMemory> {
+) -> Result<(), OutOfMemory>
+    ensures { OnOk result (string_bytes out.new ≡ string_bytes out.old ++ utf8_lossy (case_text check.now verdict due.now said.now)) }
+{
     let mut case = Draft::new(*out.allocator());
-    case.put(b"<testcase name=\"");
-    case.put(check.name.as_bytes());
-    case.put(b"\" classname=\"RFC 3435, ");
-    put_text(&mut case, check.sections);
-    case.put(b"\">");
+    put_case_head(&mut case, check);
     put_verdict(&mut case, verdict, due, said);
     case.put(b"</testcase>\n");
     append(case, out)
 }
 
-/// The whole report, of these cases.
-pub fn put_suite(out: &mut String, cases: &str, tally: &Tally) -> Result<(), OutOfMemory> {
-    let skipped = u64::from(tally.left_open)
-        + u64::from(tally.not_supported)
-        + u64::from(tally.not_played);
-    let failed = u64::from(tally.failed);
-    let mut suite = Draft::new(*out.allocator());
-    suite.put(
+// So many checks were skipped.
+fn skipped_in(tally: &Tally) -> u64
+    ensures { result ≡ skipped_in tally.now }
+{
+    u64::from(tally.left_open) + u64::from(tally.not_supported) + u64::from(tally.not_played)
+}
+
+// So many checks there were.
+fn all_in(tally: &Tally) -> u64
+    ensures { result ≡ all_in tally.now }
+{
+    skipped_in(tally) + u64::from(tally.passed) + u64::from(tally.failed)
+}
+
+// Puts a text, and a count behind it.
+fn put_count(out: &mut Draft, text: &[u8], count: u64)
+    ensures { out.new ≡ out.old ++ with_count text.now count }
+{
+    out.put(text);
+    out.put_decimal(count);
+}
+
+// Puts what a report begins with: how many checks there were, how many failed, and how many were skipped.
+fn put_suite_head(out: &mut Draft, all: u64, failed: u64, skipped: u64)
+    ensures { out.new ≡ out.old ++ suite_head all failed skipped }
+{
+    put_count(
+        out,
         b"<?xml version=\"1.0\" encoding=\"UTF-8\"?>\n<testsuite name=\"rgca check\" tests=\"",
+        all,
     );
-    suite.put_decimal(skipped + u64::from(tally.passed) + failed);
-    suite.put(b"\" failures=\"");
-    suite.put_decimal(failed);
-    suite.put(b"\" errors=\"0\" skipped=\"");
-    suite.put_decimal(skipped);
-    suite.put(b"\">\n");
-    suite.put(cases.as_bytes());
+    put_count(out, b"\" failures=\"", failed);
+    put_count(out, b"\" errors=\"0\" skipped=\"", skipped);
+    out.put(b"\">\n");
+}
+
+/// The whole report, of these cases.
+pub fn put_suite(out: &mut String, cases: &str, tally: &Tally) -> Result<(), OutOfMemory>
+    ensures { OnOk result (string_bytes out.new ≡ string_bytes out.old ++ utf8_lossy (suite_text cases.now tally.now)) }
+{
+    let all = all_in(tally);
+    let failed = u64::from(tally.failed);
+    let skipped = skipped_in(tally);
+    let mut suite = Draft::new(*out.allocator());
+    put_suite_head(&mut suite, all, failed, skipped);
+    put_plain(&mut suite, cases);
     suite.put(b"</testsuite>\n");
     append(suite, out)
 }

@@ -16,7 +16,7 @@ mod report;
 mod signs;
 mod texts;
 
-pub use crate::check::{Check, all_checks, check_named, check_of};
+pub use crate::check::{Check, all_checks, check_named, check_of, first_check};
 pub use crate::checks::{IN_USE, SERVES, UNKNOWN};
 pub use crate::judging::{Fault, Verdict, judged, settled, verdict_of};
 pub use crate::junit::{put_case, put_suite};

@@ -4,7 +4,8 @@ ghost use Rattle.std.specs.List.{slice_split};
 ghost use Rattle.std.specs.Str.{str_to_ascii_uppercase};
 ghost use Rattle.std.specs.Str.Lossy.{utf8_lossy};
 ghost use Rattle.gateway_checks.specs.Naming.{meaning_in, meaning_of, value_kept, kept_or_name, endpoint_name, upper_endpoint_name};
-ghost use Rattle.gateway_checks.specs.Naming.{value_meant, is_brace, piece_filled, filled_by, value_under, filled, id_by, id_in, is_own, differ, names_kept, kept_with};
+ghost use Rattle.gateway_checks.specs.Naming.{value_meant, is_brace, piece_filled, filled_by, value_under, filled};
+ghost use Rattle.gateway_checks.specs.Naming.{id_by, id_in, is_own, differ, names_kept, kept_with};
 ghost use Rattle.gateway_checks.specs.Sending.{datagram};
 
 use crate::signs::{end_line, put_signs};

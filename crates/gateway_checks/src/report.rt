@@ -1,6 +1,10 @@
 //! What is told of checks.
-ghost use Rattle.std.specs.Prelude.{◌≡◌, ◌==◌, if◌then◌else◌};
+ghost use Rattle.std.specs.Prelude.{◌≡◌, ◌==◌, ◌++◌, if◌then◌else◌, OnOk, decimal as digits_of, string_bytes};
+ghost use Rattle.std.specs.List.{flat_map};
+ghost use Rattle.std.specs.Str.Lines.{lines};
+ghost use Rattle.std.specs.Str.Lossy.{utf8_lossy};
 ghost use Rattle.gateway_checks.specs.Reporting.{word_of, one_more, with_verdict};
+ghost use Rattle.gateway_checks.specs.Reporting.{rule_line, in_room, said_line, check_report, tally_line};
 
 use crate::check::Check;
 use crate::judging::Verdict;
@@ -72,13 +76,43 @@ pub fn word_of(verdict: Option<Verdict>) -> &'static str
 const ROOM: &[u8] = b"              ";
 
 // Puts the sections of a check's rule, and the rule, behind its name.
-fn put_rule(out: &mut Draft, check: &Check<'_>) {
+fn put_rule(out: &mut Draft, check: &Check<'_>)
+    ensures { out.new ≡ out.old ++ rule_line check.now }
+{
     out.put(check.name.as_bytes());
     out.put(b" (");
     out.put(check.sections.as_bytes());
     out.put(b"): ");
     out.put(check.rule.as_bytes());
-    out.put_byte(b'\n');
+    out.put(b"\n");
+}
+
+// Puts a verdict's word, with blanks behind it that fill its room.
+fn put_word(out: &mut Draft, word: &[u8])
+    ensures { out.new ≡ out.old ++ in_room word.now }
+{
+    out.put(word);
+    if let Some(room) = ROOM.get(word.len()..) {
+        out.put(room);
+    }
+}
+
+// Puts a line of what was said.
+fn put_line(out: &mut Draft, line: &str)
+    ensures { out.new ≡ out.old ++ said_line line.now }
+{
+    out.put(b"    ");
+    out.put(line.as_bytes());
+    out.put(b"\n");
+}
+
+// Puts what was said, line by line.
+fn put_said(out: &mut Draft, said: &str)
+    ensures { out.new ≡ out.old ++ flat_map said_line (lines said.now) }
+{
+    for line in said.lines() {
+        put_line(out, line);
+    }
 }
 
 /// Puts a check: its verdict, its rule, and what was said.
@@ -87,31 +121,41 @@ pub fn put_check(
     check: &Check<'_>,
     verdict: Option<Verdict>,
     said: &str,
-) -> Result<(), OutOfMemory> {
-    let word = word_of(verdict);
+) -> Result<(), OutOfMemory>
+    ensures { OnOk result (string_bytes out.new ≡ string_bytes out.old ++ utf8_lossy (check_report check.now verdict said.now)) }
+{
     let mut told = Draft::new(*out.allocator());
-    told.put(word.as_bytes());
-    told.put(ROOM.get(word.len()..).unwrap_or(&[]));
+    put_word(&mut told, word_of(verdict).as_bytes());
     put_rule(&mut told, check);
-    for line in said.lines() {
-        told.put(b"    ");
-        told.put(line.as_bytes());
-        told.put_byte(b'\n');
-    }
+    put_said(&mut told, said);
     append(told, out)
 }
 
+// Puts a count, and what came so often.
+fn put_count(out: &mut Draft, count: u32, name: &[u8])
+    ensures { out.new ≡ out.old ++ digits_of count ++ name.now }
+{
+    out.put_decimal(u64::from(count));
+    out.put(name);
+}
+
 /// Puts how many checks have come to what.
-pub fn put_tally(out: &mut String, tally: &Tally) -> Result<(), OutOfMemory> {
-    write!(
-        out,
-        "{} pass, {} fail, {} left open, {} not supported, {} not played\n",
-        tally.passed, tally.failed, tally.left_open, tally.not_supported, tally.not_played
-    )
+pub fn put_tally(out: &mut String, tally: &Tally) -> Result<(), OutOfMemory>
+    ensures { OnOk result (string_bytes out.new ≡ string_bytes out.old ++ utf8_lossy (tally_line tally.now)) }
+{
+    let mut line = Draft::new(*out.allocator());
+    put_count(&mut line, tally.passed, b" pass, ");
+    put_count(&mut line, tally.failed, b" fail, ");
+    put_count(&mut line, tally.left_open, b" left open, ");
+    put_count(&mut line, tally.not_supported, b" not supported, ");
+    put_count(&mut line, tally.not_played, b" not played\n");
+    append(line, out)
 }
 
 /// Puts a check in a list of them: its name, the sections of its rule, and the rule.
-pub fn put_entry(out: &mut String, check: &Check<'_>) -> Result<(), OutOfMemory> {
+pub fn put_entry(out: &mut String, check: &Check<'_>) -> Result<(), OutOfMemory>
+    ensures { OnOk result (string_bytes out.new ≡ string_bytes out.old ++ utf8_lossy (rule_line check.now)) }
+{
     let mut entry = Draft::new(*out.allocator());
     put_rule(&mut entry, check);
     append(entry, out)

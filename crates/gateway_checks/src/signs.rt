@@ -1,6 +1,7 @@
 //! Signs of a datagram's text, and what they stand for.
 ghost use Rattle.std.specs.Prelude.{◌≡◌, ◌++◌, OnOk};
-ghost use Rattle.gateway_checks.specs.Sending.{sign_at, stands_for, bytes_behind, put_at, left_behind, bytes_of, length_behind, written_out, ended};
+ghost use Rattle.gateway_checks.specs.Sending.{sign_at, stands_for, bytes_behind, put_at, left_behind, bytes_of, length_behind};
+ghost use Rattle.gateway_checks.specs.Sending.{written_out, ended};
 
 use mg_bytes::{Draft, OutOfMemory};
 
