@@ -27,8 +27,12 @@ ghost use Rattle.switchboard.specs.Dues.{FallsDue, FallsDueAt};
 ghost use Rattle.call_office.specs.Duties.{announced, begun, fixed_order, lost, new_care, outlived, owed};
 ghost use Rattle.switchboard.specs.Issuing.{ordered_in, FailsBy, Flies, IssuesOrder, IssuesSettled, IssuesTo, IssuesUnder, SendsAlone, SendsAtMost};
 ghost use Rattle.call_office.specs.Orders.{Shown, routed};
-ghost use Rattle.call_office.specs.Steps.{Forgets};
-ghost use Rattle.switchboard.specs.Steps.{has_line, Announces, AnnouncesTo, IssuesAt, OfOffice, OthersStay, Refuses, Ticks, WaitsIn, Wakens, settled_in};
+ghost use Rattle.call_office.specs.Steps.{Begins, Forgets};
+ghost use Rattle.call_office.specs.Waiting.{IsWaiting, Touches, WaitOn};
+ghost use Rattle.switchboard.specs.Hearing.{AnswersIn};
+ghost use Rattle.switchboard.specs.Taking.{HearsTold};
+ghost use Rattle.switchboard.specs.Steps.{has_line, Announces, AnnouncesBy, AnnouncesTo, InOffice, IssuesAt, LinesWaitOn, OfOffice, OthersStay};
+ghost use Rattle.switchboard.specs.Steps.{Refuses, SameLines, Ticks, ToldAt, TouchesIf, TouchesMeant, WaitsIn, Wakens, settled_in};
 ghost use Rattle.switchboard.specs.TypedCommands.{typed_fault, IssuesCommand, IssuesMeant, IssuesThere};
 ghost use Rattle.call_office.specs.Example.{audited, creating, deleted_later, deleted_now};
 ghost use Rattle.switchboard.specs.Example.{wake_at, HasAgent};
@@ -202,4 +206,27 @@ pub fn who_waits_has_examples()
     ensures among { (office : Box Office) → office.value.worklist.waiting.items ≡ 3 ∷ [] → WaitsIn 3 (Some office) }
     ensures nobody { (office : Box Office) → office.value.worklist.waiting.items ≡ [] → office.value.worklist.is_all ≡ false
         → WaitsIn 3 (Some office) → ⊥ }
+{}
+
+/// Who waits behind what a step does to an exchange.
+pub fn who_waits_behind_a_step_has_examples()
+    // It is one of a board's exchange; there is still one behind it.
+    ensures none { (is : Option (Box Office)) → InOffice SameLines None is → is ≡ None }
+    ensures lost { (was : Box Office) → InOffice SameLines (Some was) None → ⊥ }
+    // Where a line is shown, or begins what it is sent, the same lines wait; where one is woken whoever waited waits still.
+    ensures shown { (was is : Box Office) → ToldAt (Some 3) (Some was) (Some is) → is.value.worklist ≡ was.value.worklist }
+    ensures sent { (was is : Box Office) → IssuesAt (Some 3) false (Some was) (Some is) → is.value.worklist ≡ was.value.worklist }
+    ensures not_sent { (was is : Box Office) → IssuesAt (Some 3) true (Some was) (Some is) →
+        (begun : Option (Box Office)) × OfOffice (Begins 3) (Some was) begun × InOffice SameLines (Some was) begun
+        × InOffice (Touches 3) begun (Some is) }
+    ensures waits_on { (was is : Box Office) → InOffice LinesWaitOn (Some was) (Some is) → WaitOn was.value.worklist is.value.worklist }
+    // Something has happened to a line of which something is told, or whose command was answered, and to each that is announced.
+    ensures told_of { (was is : Box Office) → HearsTold [] 3 [] (Some was) (Some is) → Touches 3 was.value is.value }
+    ensures answered { (gateway after : Gateway) (was is : Box Office) →
+        AnswersIn 3 200 [] (Some gateway) (Some was) (Some after) (Some is) → Touches 3 was.value is.value }
+    ensures meant { (was is : Office) → TouchesIf true 3 was is → Touches 3 was is }
+    ensures not_meant { (was is : Office) → TouchesIf false 3 was is → is ≡ was }
+    ensures announced { (was is : Box Office) → AnnouncesBy true (Ok Pattern.All) 4 2 (Some was) (Some is) → IsWaiting is.value.worklist 5 }
+    ensures left { (was is : Office) → was.exchange ≡ creating → TouchesMeant true (Pattern.One 2) 0 2 was is → IsWaiting is.worklist 3 }
+    ensures others { (was is : Office) → TouchesMeant true Pattern.All 4 2 was is → WaitOn was.worklist is.worklist }
 {}
