@@ -1,7 +1,7 @@
 //! Worked examples of what a step does to a line, as theorems.
 #![tactic(auto, unfolding(crate::proofs::Computing::on_examples))]
 
-ghost use Rattle.std.specs.Prelude.{◌≡◌, [], ◌∷◌, true, List, Option, Some, None};
+ghost use Rattle.std.specs.Prelude.{◌≡◌, [], ◌∷◌, true, false, List, Option, Some, None, IsPermutation};
 ghost use Rattle.std.specs.Global.{Box};
 ghost use Rattle.call_routing.specs.Exchange.{opening, sent_to, told, answered};
 ghost use Rattle.agent_texts.specs.declared.journal.Journal.{Journal};
@@ -13,7 +13,8 @@ ghost use Rattle.call_office.specs.declared.office.Office.{Office};
 ghost use Rattle.call_office.specs.Duties.{begun, new_care, owed, told_care, told_of};
 ghost use Rattle.call_office.specs.Showing.{Shows, ShowsIn, shown_in};
 ghost use Rattle.call_office.specs.Steps.{Begins, Forgets, Hears, ToldOf};
-ghost use Rattle.call_office.specs.Waiting.{IsWaiting, Touches};
+ghost use Rattle.call_office.specs.Waiting.{IsWaiting, Settles, Touches};
+ghost use Rattle.call_office.specs.declared.worklist.Worklist.{Worklist};
 ghost use Rattle.call_office.specs.Example.{audited, cleared, creating, found_off};
 
 use agent_texts::Standing;
@@ -69,4 +70,8 @@ pub fn who_waits_has_examples()
     // Those that are settled now are the same.
     ensures settled { (was is : Office) → Touches 1 was is → is.worklist.settled ≡ was.worklist.settled }
     ensures settles_all { (was is : Office) → Touches 1 was is → is.worklist.settles_all ≡ was.worklist.settles_all }
+    // Those that waited are settled from then on, and nobody waits.
+    ensures begins { (was is : Worklist) → Settles was is → IsPermutation was.waiting.items is.settled.items }
+    ensures begins_all { (was is : Worklist) → Settles was is →
+        (is.settles_all ≡ was.is_all) × (is.waiting.items ≡ []) × (is.is_all ≡ false) }
 {}

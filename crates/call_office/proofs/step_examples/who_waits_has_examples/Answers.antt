@@ -26,3 +26,9 @@ returns-clause-settled c = λ was is touches. ap (λ (list : Worklist). list.set
 
 pub returns-clause-settles_all : goal.returns-clause-settles_all
 returns-clause-settles_all c = λ was is touches. ap (λ (list : Worklist). list.settles_all) touches.others.1
+
+pub returns-clause-begins : goal.returns-clause-begins
+returns-clause-begins c = λ was is settles. settles.settled
+
+pub returns-clause-begins_all : goal.returns-clause-begins_all
+returns-clause-begins_all c = λ was is settles. (settles.all, settles.none_waits, settles.not_all)
