@@ -1,7 +1,7 @@
 //! Worked examples of what it is to a board that something comes from a gateway, as theorems.
 #![tactic(auto, unfolding(crate::proofs::Computing::on_examples))]
 
-ghost use Rattle.std.specs.Prelude.{◌≡◌, [], ◌∷◌, ℕ, true, false, List, Option, Some, None, Ok, Err, codes, option_map};
+ghost use Rattle.std.specs.Prelude.{◌≡◌, [], ◌∷◌, ℕ, true, false, List, Option, Some, None, Ok, Err, codes, option_map, slice_get};
 ghost use Rattle.std.specs.Global.{Box};
 ghost use Rattle.mgcp_text.specs.Reading.{read_text, takes_memory};
 ghost use Rattle.endpoint_names.specs.declared.name.NameFault.TheVariants.{Unknown};
@@ -14,9 +14,11 @@ ghost use Rattle.call_office.specs.declared.office.Office.{Office};
 ghost use Rattle.switchboard.specs.declared.switchboard.Switchboard.{Switchboard};
 ghost use Rattle.call_office.specs.declared.worklist.Worklist.{Worklist};
 ghost use Rattle.switchboard.specs.Ended.{first_ended, still_flying};
-ghost use Rattle.switchboard.specs.GivingUp.{ended_in, Ends, ForgetsFlight, ForgetsFor};
+ghost use Rattle.switchboard.specs.GivingUp.{ended_in, Ends, EndsAt, ForgetsFlight, ForgetsFor, GivesUp};
+ghost use Rattle.switchboard.specs.Boards.{SettlesIn};
 ghost use Rattle.switchboard.specs.Hearing.{announcement_counted, is_new_to, is_strange_at, line_meant, method_of, response_counted};
-ghost use Rattle.switchboard.specs.Hearing.{AnnouncesNew, AnnouncesWith, AnswersFor, AnswersIn, HearsText, HearsUnread, Notes, Waits};
+ghost use Rattle.switchboard.specs.Hearing.{AnnouncesNew, AnnouncesWith, AnswersFlight, AnswersFor, AnswersIn, HearsAnnouncement, HearsCommand};
+ghost use Rattle.switchboard.specs.Hearing.{HearsNotification, HearsResponse, HearsText, HearsUnread, Notes, NotesAt, Waits};
 ghost use Rattle.call_office.specs.Steps.{Forgets};
 ghost use Rattle.call_office.specs.Waiting.{Touches};
 ghost use Rattle.switchboard.specs.Steps.{AnnouncesTo, InOffice, OfOffice};
@@ -25,6 +27,7 @@ ghost use Rattle.call_office.specs.Example.{param};
 ghost use Rattle.switchboard.specs.Example.{flying};
 
 use endpoint_names::Pattern;
+use mgcp_text::Verb;
 
 /// Which command in flight is over.
 pub fn what_ends_has_examples()
@@ -86,6 +89,35 @@ pub fn what_is_heard_has_examples()
     ensures no_message { (board : Switchboard) (journal : Journal) → HearsText 0 [] board journal board journal }
     ensures unread { (text : List ℕ) (was is : Switchboard) (journal : Journal) → takes_memory (read_text text) ≡ true →
         HearsUnread was is → HearsText 0 text was journal is journal }
+{}
+
+/// What a text does to a board: of that no more changes than is said.
+pub fn what_a_text_does_has_examples()
+    // A response ends the command that it answers, and nothing else of a gateway; then its line is told.
+    ensures response { (was is : Switchboard) → HearsResponse 0 7 200 [] was is → (ended : Switchboard) × EndsAt 0 (Some (7, 200)) was ended
+        × AnswersFlight 0 (ended_in (Some (7, 200)) (slice_get was.gateways.items 0)) 200 [] ended is }
+    ensures ends_at { (was is : Switchboard) → EndsAt 0 (Some (7, 200)) was is → (is.office ≡ was.office) × (is.stations ≡ was.stations) }
+    // An announcement is noted, and told where it is new.
+    ensures announcement { (was is : Switchboard) → HearsAnnouncement 0 7 [] [] was is →
+        (is.stations ≡ was.stations) × (is.notifying ≡ was.notifying) }
+    ensures told_where_new { (was is : Switchboard) → HearsAnnouncement 0 7 (codes "x") [] was is → (noted : Switchboard)
+        × NotesAt 0 7 was noted
+        × AnnouncesNew (is_new_to 7 (slice_get was.gateways.items 0)) (codes "restart") (codes "x") (slice_get noted.gateways.items 0)
+        noted.office is.office }
+    // A notification lets its line wait to be taken; any other command is nothing to a board.
+    ensures notification { (was is : Switchboard) → HearsNotification 0 [] was is →
+        (is.office ≡ was.office) × (is.gateways ≡ was.gateways) × (is.stations ≡ was.stations) }
+    ensures notifies { (was is : Switchboard) → HearsCommand Verb.Ntfy 0 7 [] [] was is → HearsNotification 0 [] was is }
+    ensures announces { (was is : Switchboard) → HearsCommand Verb.Rsip 0 7 [] [] was is → HearsAnnouncement 0 7 [] [] was is }
+    ensures creates { (was is : Switchboard) → HearsCommand Verb.Crcx 0 7 [] [] was is → is ≡ was }
+    ensures audits { (was is : Switchboard) → HearsCommand Verb.Auep 0 7 [] [] was is → is ≡ was }
+    // What is given up is over, and its line is told.
+    ensures gives_up { (was is : Switchboard) → GivesUp 0 was is → (ended : Switchboard) × EndsAt 0 None was ended
+        × ForgetsFlight (ended_in None (slice_get was.gateways.items 0)) ended.office is.office }
+    ensures gives_up_alone { (was is : Switchboard) → GivesUp 0 was is → (is.stations ≡ was.stations) × (is.notifying ≡ was.notifying) }
+    // Those lines that waited are settled from then on; nothing else of the exchange changes.
+    ensures settles { (was is : Box Office) → SettlesIn (Some was) (Some is) → (is.value.cares ≡ was.value.cares)
+        × (is.value.exchange ≡ was.value.exchange) × (is.value.worklist.waiting.items ≡ []) }
 {}
 
 /// What is taken of a line.
