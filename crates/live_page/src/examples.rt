@@ -101,8 +101,8 @@ pub fn who_comes_has_examples()
         → (visitor.may_read ≡ true) × (visitor.may_write ≡ true) × (visitor.has_turn ≡ true) }
     ensures asks_for_nothing { (host : Ipv4Addr) (visitor : Visitor) → IsNew host 5 visitor
         → (calls_of visitor ≡ []) × ((config_of visitor.connection).max_body_len ≡ 1024) }
-    ensures held { (host : Ipv4Addr) (visitor : Visitor) → IsNew host 5 visitor → ((config_of visitor.connection).limits.max_head_len ≡ 8192)
-        × ((config_of visitor.connection).max_pending ≡ 65536) }
+    ensures held { (host : Ipv4Addr) (visitor : Visitor) → IsNew host 5 visitor
+        → ((config_of visitor.connection).limits.max_head_len ≡ 8192) × ((config_of visitor.connection).max_pending ≡ 65536) }
     ensures told_readable { (was : Visitor) → was.may_read ≡ false → ((noted readable was).may_read ≡ true)
         × ((noted readable was).has_turn ≡ true) }
     ensures told_writable { (was : Visitor) → was.may_write ≡ false → ((noted writable was).may_write ≡ true)
