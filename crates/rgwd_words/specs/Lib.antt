@@ -2,3 +2,4 @@ pub mod Statuses
 pub mod Parting
 pub mod Texts
 pub mod Names
+pub mod Asking

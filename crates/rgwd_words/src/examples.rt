@@ -1,9 +1,11 @@
 //! Worked examples of the definitions, as theorems.
 #![tactic(auto, unfolding(crate::proofs::Computing::on_examples))]
 
-ghost use Rattle.std.specs.Prelude.{◌≡◌, ℕ, List, codes, true, false, [], ◌∷◌, ◌++◌, map, Ok, Err, Some, None};
+ghost use Rattle.std.specs.Prelude.{◌≡◌, ℕ, Bool, List, Option, codes, true, false, [], ◌∷◌, ◌++◌, map, option_map, Ok, Err, Some, None};
 ghost use Rattle.std.specs.Borrow.{Bor};
+ghost use Rattle.std.specs.Net.Grammar.{IsSocketV4Text};
 ghost use Rattle.std.specs.Net.Text.{socket_v4_text};
+ghost use Rattle.std.specs.Str.Parse.{digits_value, without_leading_plus};
 ghost use Rattle.std.specs.declared.io.ErrorKind.{ErrorKind};
 ghost use Rattle.std.specs.declared.net.socket_addr.SocketAddrV4.{SocketAddrV4};
 ghost use Rattle.live_ends.specs.declared.ending.About.{About};
@@ -11,8 +13,13 @@ ghost use Rattle.live_ends.specs.declared.ending.FileNames.{FileNames};
 ghost use Rattle.live_ends.specs.declared.ending.CommonEnding.{CommonEnding};
 ghost use Rattle.live_ends.specs.declared.ending.CommonEnding.TheVariants.{Unreadable, Unwritable};
 ghost use Rattle.live_ends.specs.Ending.{status_of as common_status, is_asked as is_commonly_asked, ending_text as common_text};
+ghost use Rattle.clap.specs.Matches.{first_value, one_text};
+ghost use Rattle.clap.specs.declared.parser.matches.Found.{Found};
 ghost use Rattle.live_outlets.specs.Reasons.{reason_of};
 ghost use Rattle.rgwd_words.specs.declared.ending.Ending.TheVariants.{Common, Checked, BadAgents, BadHosts, BadSize, BadFiles, AnyAddress, BadFirst, BadSpread, NoTimeOfDay, Replayed, Differs, NoTrace, Answered, NoAnswer};
+ghost use Rattle.rgwd_words.specs.declared.words.Settings.{Settings};
+ghost use Rattle.rgwd_words.specs.declared.words.Sockets.{Sockets};
+ghost use Rattle.rgwd_words.specs.Asking.{usual_listen, usual_phones, spoiling_read, IsAt, IsBehind, IsRead, IsMoment, SaysFlag, AsksSockets, Asks};
 ghost use Rattle.rgwd_words.specs.Names.{name_of, Says};
 ghost use Rattle.rgwd_words.specs.Parting.{parting_of};
 ghost use Rattle.rgwd_words.specs.Statuses.{status_of, is_asked};
@@ -69,4 +76,35 @@ pub fn an_ending_names_the_file_that_fails()
     // A file that isn't asked for has no name.
     ensures no_file { name_of None ≡ [] }
     ensures file { (name : Bor (List ℕ)) → name_of (Some name) ≡ name.now }
+{}
+
+/// Each sentence at an example.
+pub fn what_stands_behind_words_is_meant()
+    // An address is what the text behind its word says, or none, or a usual one, and a word stands there or doesn't.
+    ensures nothing { IsBehind None None }
+    ensures something { (text : List ℕ) → IsBehind (Some text) None → ⊥ }
+    ensures address { (text : List ℕ) (address : SocketAddrV4) → IsSocketV4Text text address → IsBehind (Some text) (Some address) }
+    ensures listen { (address : SocketAddrV4) → IsAt usual_listen None address → IsSocketV4Text (codes "127.0.0.1:2427") address }
+    ensures phones { (address : SocketAddrV4) → IsAt usual_phones None address → IsSocketV4Text (codes "127.0.0.1:2428") address }
+    ensures said { (text : List ℕ) (address : SocketAddrV4) → IsAt usual_listen (Some text) address → IsSocketV4Text text address }
+    ensures no_flag { (flag : Bool) → SaysFlag None flag → flag ≡ false }
+    ensures flag { (flag : Bool) → SaysFlag (Some (codes "true")) flag → flag ≡ true }
+    ensures flag_not { (flag : Bool) → SaysFlag (Some (codes "false")) flag → flag ≡ false }
+    // What is read of a text is what it says, and it says something; of no text nothing is.
+    ensures unread { (found : Option ℕ) → IsRead (λ text. Some 7) None found → found ≡ None }
+    ensures read { (text : List ℕ) (found : Option ℕ) → IsRead (λ text. Some 7) (Some text) found → found ≡ Some 7 }
+    ensures unreadable { (text : List ℕ) (found : Option ℕ) → IsRead (λ text. None) (Some text) found → ⊥ }
+    ensures no_moment { (moment : Option ℕ) → IsMoment None moment → moment ≡ None }
+    ensures moment { (ms : ℕ) (text : List ℕ) → IsMoment (Some text) (Some ms) → ms ≡ digits_value 10 (without_leading_plus text) }
+    // Of who speaks, and of other machines' telephones, only what the words say counts.
+    ensures speakers { (found : Found) (sockets : Sockets) → AsksSockets found sockets → first_value found (codes "agents") ≡ None
+        → option_map (λ text. text.now) sockets.agents ≡ None }
+    ensures telephones { (found : Found) (sockets : Sockets) → AsksSockets found sockets → one_text found (codes "phones-open") ≡ None
+        → sockets.phones_open ≡ false }
+    ensures site { (found : Found) (sockets : Sockets) → AsksSockets found sockets
+        → IsBehind (first_value found (codes "http")) sockets.http }
+    ensures trace { (found : Found) (settings : Settings) → Asks found settings → one_text found (codes "trace") ≡ None
+        → settings.trace ≡ false }
+    ensures network { (found : Found) (settings : Settings) → Asks found settings
+        → IsRead spoiling_read (first_value found (codes "network")) settings.network }
 {}

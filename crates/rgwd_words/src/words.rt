@@ -1,9 +1,13 @@
 //! What the words of the command line ask for.
-ghost use Rattle.std.specs.Prelude.{◌≡◌, ◌≢◌, ◌⊎◌, Some, None, IfOk, IfErr, codes, option_map};
-ghost use Rattle.clap.specs.Matches.{found_of, first_value};
+ghost use Rattle.std.specs.Prelude.{◌≡◌, ◌≢◌, ◌⊎◌, Some, None, IfOk, IfErr, codes, is_some, option_copied, option_map};
+ghost use Rattle.std.specs.Net.Grammar.{IsSocketV4Text};
+ghost use Rattle.clap.specs.Matches.{found_of, first_value, one_text};
+ghost use Rattle.new_start.specs.Words.{first_in as first_read, spread_in as spread_read};
 ghost use Rattle.page_access.specs.Naming.{names_in, names_of};
 ghost use Rattle.surroundings.specs.Speaking.{admitted_by, admitted_in};
+ghost use Rattle.rgwd_words.specs.Asking.{spoiling_read, IsAt, IsBehind, IsRead, IsMoment, AsksSockets, Asks};
 ghost use Rattle.rgwd_words.specs.Names.{name_of, HasNames};
+ghost use Rattle.rgwd_words.specs.Parting.{parting_of};
 
 use crate::ending::Ending;
 use crate::help::{LISTEN, PHONES};
@@ -144,20 +148,57 @@ pub fn unless_help<'w>(word: &'w str) -> Result<&'w str, Ending>
     Ok(word)
 }
 
+// The address that this text is, of a socket that a word asks for.
+fn address_of(word: AddressWord, text: &str) -> Result<SocketAddrV4, Ending>
+    ensures { IfOk result (λ address. IsSocketV4Text text.now address) }
+{
+    match address_in(word, text) {
+        Ok(address) => Ok(address),
+        Err(ending) => Err(Ending::Common(ending)),
+    }
+}
+
+// The address behind a word, or else a usual one.
+fn address_at(
+    matches: &ArgMatches<'_>,
+    name: &str,
+    word: AddressWord,
+    usual: &str,
+) -> Result<SocketAddrV4, Ending>
+    ensures { IfOk result (λ address. IsAt usual.now (first_value (found_of matches.now) name.now) address) }
+{
+    match matches.get_str(name) {
+        Some(text) => address_of(word, text),
+        None => address_of(word, usual),
+    }
+}
+
+// The address behind a word, if one stands there.
+fn address_behind(
+    matches: &ArgMatches<'_>,
+    name: &str,
+    word: AddressWord,
+) -> Result<Option<SocketAddrV4>, Ending>
+    ensures { IfOk result (λ found. IsBehind (first_value (found_of matches.now) name.now) found) }
+{
+    match matches.get_str(name) {
+        Some(text) => match address_in(word, text) {
+            Ok(address) => Ok(Some(address)),
+            Err(ending) => Err(Ending::Common(ending)),
+        },
+        None => Ok(None),
+    }
+}
+
 // The address of the site, if that stands there: one of the machine's, since the page answers only those who name its address; or where
 // it has further names, any. What says these, if that stands there, does say names.
-fn site_in(alloc: Global, matches: &ArgMatches<'_>) -> Result<Option<SocketAddrV4>, Ending> {
+fn site_in(alloc: Global, matches: &ArgMatches<'_>) -> Result<Option<SocketAddrV4>, Ending>
+    ensures { IfOk result (λ site. IsBehind (first_value (found_of matches.now) (codes "http")) site) }
+{
     let names = matches.get_str("http-host");
-    let site = match matches.get_str("http") {
-        Some(text) => {
-            let Ok(address) = address_in(AddressWord::Http, text) else {
-                return Err(Ending::Common(CommonEnding::BadAddress {
-                    word: AddressWord::Http,
-                }));
-            };
-            Some(address)
-        }
-        None => None,
+    let site = match address_behind(matches, "http", AddressWord::Http) {
+        Ok(site) => site,
+        Err(ending) => return Err(ending),
     };
     if names.is_none() && matches!(site, Some(address) if address.ip().is_unspecified()) {
         return Err(Ending::AnyAddress);
@@ -202,39 +243,88 @@ pub fn hosts_in(alloc: Global, text: &str) -> Result<HostNames, ListFault>
 }
 
 // The bytes of a text, if that stands there.
-fn bytes_in<'m>(matches: &'m ArgMatches<'_>, word: &str) -> Option<&'m [u8]> {
+fn bytes_in<'m>(matches: &'m ArgMatches<'_>, word: &str) -> Option<&'m [u8]>
+    ensures { option_copied result ≡ first_value (found_of matches.now) word.now }
+{
     match matches.get_str(word) {
         Some(text) => Some(text.as_bytes()),
         None => None,
     }
 }
 
+// Whether a text stands there.
+fn stands(matches: &ArgMatches<'_>, word: &str) -> bool
+    ensures { result ≡ is_some (first_value (found_of matches.now) word.now) }
+{
+    match matches.get_str(word) {
+        Some(_) => true,
+        None => false,
+    }
+}
+
+// How the capture is parted, where there is one.
+fn parting_in(matches: &ArgMatches<'_>) -> Result<Option<Parting>, Ending>
+    ensures { result ≡ parting_of (is_some (first_value (found_of matches.now) (codes "capture")))
+        (first_value (found_of matches.now) (codes "capture-size")) (first_value (found_of matches.now) (codes "capture-files")) }
+{
+    let has_capture = stands(matches, "capture");
+    let size = bytes_in(matches, "capture-size");
+    parting_of(has_capture, size, bytes_in(matches, "capture-files"))
+}
+
+// How a network spoils datagrams, if that stands there and says that.
+fn spoiling_in(matches: &ArgMatches<'_>) -> Result<Option<Spoiling>, Ending>
+    ensures { IfOk result (λ network. IsRead spoiling_read (first_value (found_of matches.now) (codes "network")) network) }
+{
+    match network_in(matches.get_str("network")) {
+        Ok(network) => Ok(network),
+        Err(ending) => Err(Ending::Common(ending)),
+    }
+}
+
 // The number with which ids begin, if that stands there and is one.
-fn first_in(matches: &ArgMatches<'_>) -> Option<FirstNumber> {
-    FirstNumber::read(matches.get_str("first")?.as_bytes())
+fn first_in(matches: &ArgMatches<'_>) -> Result<Option<FirstNumber>, Ending>
+    ensures { IfOk result (λ first. IsRead first_read (first_value (found_of matches.now) (codes "first")) first) }
+{
+    let Some(text) = matches.get_str("first") else {
+        return Ok(None);
+    };
+    match FirstNumber::read(text.as_bytes()) {
+        Some(first) => Ok(Some(first)),
+        None => Err(Ending::BadFirst),
+    }
 }
 
 // How long it waits at most before its clock begins, if that stands there and is a time that a start may wait.
-fn longest_wait_in(matches: &ArgMatches<'_>) -> Option<u32> {
-    spread_in(matches.get_str("spread")?.as_bytes())
+fn longest_wait_in(matches: &ArgMatches<'_>) -> Result<Option<u32>, Ending>
+    ensures { IfOk result (λ spread. IsRead spread_read (first_value (found_of matches.now) (codes "spread")) spread) }
+{
+    let Some(text) = matches.get_str("spread") else {
+        return Ok(None);
+    };
+    match spread_in(text.as_bytes()) {
+        Some(spread) => Ok(Some(spread)),
+        None => Err(Ending::BadSpread),
+    }
 }
 
-fn sockets_in<'a>(alloc: Global, matches: &ArgMatches<'a>) -> Result<Sockets<'a>, Ending> {
-    let Ok(listen) = address_in(
-        AddressWord::Listen,
-        matches.get_str("listen").unwrap_or(LISTEN),
-    ) else {
-        return Err(Ending::Common(CommonEnding::BadAddress {
-            word: AddressWord::Listen,
-        }));
+// The moment at which it ends, in ms, if that stands there.
+fn end_in(matches: &ArgMatches<'_>) -> Option<u64>
+    ensures { IsMoment (one_text (found_of matches.now) (codes "stop-after")) result }
+{
+    matches.get_one::<u64>("stop-after")
+}
+
+fn sockets_in<'a>(alloc: Global, matches: &ArgMatches<'a>) -> Result<Sockets<'a>, Ending>
+    ensures { IfOk result (λ sockets. AsksSockets (found_of matches.now) sockets) }
+{
+    let listen = match address_at(matches, "listen", AddressWord::Listen, LISTEN) {
+        Ok(listen) => listen,
+        Err(ending) => return Err(ending),
     };
-    let Ok(phones) = address_in(
-        AddressWord::Phones,
-        matches.get_str("phones").unwrap_or(PHONES),
-    ) else {
-        return Err(Ending::Common(CommonEnding::BadAddress {
-            word: AddressWord::Phones,
-        }));
+    let phones = match address_at(matches, "phones", AddressWord::Phones, PHONES) {
+        Ok(phones) => phones,
+        Err(ending) => return Err(ending),
     };
     let agents = matches.get_str("agents");
     if let Some(text) = agents {
@@ -257,44 +347,44 @@ fn sockets_in<'a>(alloc: Global, matches: &ArgMatches<'a>) -> Result<Sockets<'a>
     })
 }
 
-// What the program is asked to do with this configuration and these sockets. It stands in a box: whoever holds it, or may have an
-// ending in its place, holds little.
+// What the program is asked to do with this configuration, these sockets, and ids that begin so. It stands in a box: whoever holds it,
+// or may have an ending in its place, holds little.
 fn settings_with<'a>(
     alloc: Global,
     matches: &ArgMatches<'a>,
     config: &'a str,
+    first: Option<FirstNumber>,
     sockets: Sockets<'a>,
 ) -> Result<Box<Settings<'a>>, Ending>
-    ensures config { IfOk result (λ settings. settings.value.config.now ≡ config.now) }
-    ensures capture { IfOk result (λ settings.
-        first_value (found_of matches.now) (codes "capture") ≡ option_map (λ name. name.now) settings.value.capture) }
+    requires config { first_value (found_of matches.now) (codes "config") ≡ Some config.now }
+    requires first { IsRead first_read (first_value (found_of matches.now) (codes "first")) first }
+    requires sockets { AsksSockets (found_of matches.now) sockets }
+    ensures { IfOk result (λ settings. Asks (found_of matches.now) settings.value) }
 {
-    let capture = matches.get_str("capture");
-    let size = bytes_in(matches, "capture-size");
-    let parting = match parting_of(capture.is_some(), size, bytes_in(matches, "capture-files")) {
+    let parting = match parting_in(matches) {
         Ok(parting) => parting,
         Err(ending) => return Err(ending),
     };
-    let network = match network_in(matches.get_str("network")) {
+    let network = match spoiling_in(matches) {
         Ok(network) => network,
-        Err(ending) => return Err(Ending::Common(ending)),
+        Err(ending) => return Err(ending),
     };
-    let spread = longest_wait_in(matches);
-    if spread.is_none() && matches.get_str("spread").is_some() {
-        return Err(Ending::BadSpread);
-    }
+    let spread = match longest_wait_in(matches) {
+        Ok(spread) => spread,
+        Err(ending) => return Err(ending),
+    };
     let settings = Settings {
         config,
         check: matches.get_flag("check"),
         sockets,
         trace: matches.get_flag("trace"),
         log: matches.get_flag("log"),
-        capture,
+        capture: matches.get_str("capture"),
         parting,
         network,
-        first: first_in(matches),
+        first,
         spread,
-        stop_after: matches.get_one::<u64>("stop-after"),
+        stop_after: end_in(matches),
     };
     match boxed(alloc, settings) {
         Ok(settings) => Ok(settings),
@@ -308,15 +398,17 @@ pub fn settings_in<'a>(alloc: Global, matches: &ArgMatches<'a>) -> Result<Box<Se
         first_value (found_of matches.now) (codes "config") ≡ Some settings.value.config.now) }
     ensures capture { IfOk result (λ settings.
         first_value (found_of matches.now) (codes "capture") ≡ option_map (λ name. name.now) settings.value.capture) }
+    ensures asks { IfOk result (λ settings. Asks (found_of matches.now) settings.value) }
 {
     let Some(config) = matches.get_str("config") else {
         return Err(Ending::Common(CommonEnding::Usage));
     };
-    if first_in(matches).is_none() && matches.get_str("first").is_some() {
-        return Err(Ending::BadFirst);
-    }
+    let first = match first_in(matches) {
+        Ok(first) => first,
+        Err(ending) => return Err(ending),
+    };
     match sockets_in(alloc, matches) {
-        Ok(sockets) => settings_with(alloc, matches, config, sockets),
+        Ok(sockets) => settings_with(alloc, matches, config, first, sockets),
         Err(ending) => Err(ending),
     }
 }
