@@ -12,6 +12,7 @@ mod loading;
 mod recorder;
 mod serving;
 mod session;
+pub mod turn_examples;
 mod wire;
 
 pub use crate::loading::{LoadEnding, load_agent, load_over};
