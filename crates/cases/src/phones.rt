@@ -52,7 +52,7 @@ fn read(
 ) -> Result<(), ScriptFault> {
     let name = text_of(alloc, b"script")?;
     reader.begin(name, text_of(alloc, script.as_bytes())?)?;
-    for _ in 0..u64::MAX {
+    for _ in 0..u16::MAX {
         match reader.go_on()? {
             Wanted::File { .. } => reader.give(text_of(alloc, brought.as_bytes())?)?,
             Wanted::Nothing => return Ok(()),
