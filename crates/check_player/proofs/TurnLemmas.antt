@@ -1,6 +1,7 @@
 -- What a turn makes of a check.
-use Rattle.std.proofs.Common.{◌≡◌, ℕ, suc, ◌+◌, true, false, Option, Some, None, refl, sym, ap, ◌∙◌, subst, inl, inr, ⊎_elim, arith}
-use Rattle.std.specs.Prelude.{is_some}
+use Rattle.std.proofs.Common.{◌≡◌, ℕ, suc, ◌+◌, true, false, Option, Some, None, refl, sym, ap, ◌∙◌, subst, inl, inr, ⊎_elim, true≢false, arith}
+use Rattle.std.specs.Prelude.{is_none, is_some}
+use Rattle.std.specs.Option.{unwrap_or}
 use Rattle.check_matching.specs.declared.step.Step.{Step}
 use Rattle.check_matching.specs.declared.unasked.Unasked.{Unasked}
 use Rattle.check_matching.specs.Hearing.{response_to}
@@ -81,3 +82,21 @@ further_memory now was is turn further kept =
     further.5
     in
     ap (λ (player : Player). player.is_refused) (sym further.3.7) ∙ further.4.3 left
+
+-- A turn plays the step that waits
+
+pub turn_over : (now : ℕ) (was is : Player) (turn : Option Turn) → PlaysStep now was is turn → was.step ≡ None
+    → (is ≡ was) × (turn ≡ Some turns.Over)
+turn_over now was is turn plays none =
+    ⊎_elim (λ over. (over.1, over.2)) (λ played. absurd (true≢false (ap (λ (o : Option Step). is_none o) (sym none ∙ played.1)))) plays
+
+pub turn_played : (now : ℕ) (was is : Player) (turn : Option Turn) (step : Step) → PlaysStep now was is turn → was.step ≡ Some step
+    → ComesTo was is turn (outcome_of was step now) × Leaves was is turn step × Waits was is turn step now × TellsStep was is step now
+turn_played now was is turn step plays some =
+    ⊎_elim
+    (λ over. absurd (true≢false (ap (λ (o : Option Step). is_none o) (sym over.0 ∙ some))))
+    (λ played.
+    subst
+    (λ (s : Step). ComesTo was is turn (outcome_of was s now) × Leaves was is turn s × Waits was is turn s now × TellsStep was is s now)
+    (ap (λ (o : Option Step). unwrap_or o step) (sym played.1 ∙ some)) (played.2, played.3, played.4, played.5))
+    plays

@@ -1,5 +1,6 @@
 -- What a step leaves beside its outcome: what goes out, what is to be done, which answers and names there are then.
-use Rattle.std.specs.Prelude.{◌≡◌, ℕ, Bool, false, if◌then◌else◌, codes, bytes_eq, slice_get, remove, option_to_list, List, ◌++◌, Option, Some, None}
+use Rattle.std.specs.Prelude.{◌≡◌, ℕ, Bool, false, if◌then◌else◌, codes, bytes_eq, slice_get, remove, option_to_list, List, ◌++◌}
+use Rattle.std.specs.Prelude.{Option, Some, None}
 use Rattle.mgcp_text.specs.Reading.{read_text}
 use Rattle.gateway_checks.specs.Naming.{filled, id_in, names_kept, kept_with}
 use Rattle.gateway_checks.specs.Sending.{datagram}

@@ -1,5 +1,6 @@
 -- What comes of a step that is played, by what it expects and what came: it waits on, or it is done, with this fault or none.
-use Rattle.std.specs.Prelude.{◌≡◌, ℕ, ◌-◌, Bool, true, false, not, ◌&&◌, ◌||◌, ◌==◌, nat_le, nat_lt, if◌then◌else◌, bytes_eq, vec_len, unwrap_or, is_some, option_map, List, Option, Some, None}
+use Rattle.std.specs.Prelude.{◌≡◌, ℕ, ◌-◌, Bool, true, false, not, ◌&&◌, ◌||◌, ◌==◌, nat_le, nat_lt, if◌then◌else◌, bytes_eq}
+use Rattle.std.specs.Prelude.{vec_len, unwrap_or, is_some, option_map, List, Option, Some, None}
 use Rattle.mgcp_text.specs.Reading.{Outcome, read_text}
 use Rattle.check_matching.specs.declared.gaps.Gaps.{Gaps}
 use Rattle.check_matching.specs.declared.inbox.Arrived.{Arrived}

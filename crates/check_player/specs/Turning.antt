@@ -1,12 +1,12 @@
 -- Which step of a check is played, and what a turn makes of it.
-use Rattle.std.specs.Prelude.{◌≡◌, ◌<◌, ◌⊎◌, ℕ, zero, suc, Bool, true, false, not, ◌&&◌, ◌||◌, ◌==◌, if◌then◌else◌, is_some, is_none, vec_len, option_to_list, List, ◌++◌, length, Option, Some, None}
+use Rattle.std.specs.Prelude.{◌≡◌, ◌<◌, ◌⊎◌, ℕ, zero, suc, Bool, true, false, not, ◌&&◌, ◌||◌, ◌==◌, if◌then◌else◌, is_some}
+use Rattle.std.specs.Prelude.{is_none, vec_len, option_to_list, List, ◌++◌, length, Option, Some, None}
 use Rattle.gateway_checks.specs.declared.judging.Fault.{Fault}
 use Rattle.check_matching.specs.declared.step.Step.{Step}
 use Rattle.check_matching.specs.declared.unasked.Unasked.{Unasked}
 use Rattle.check_matching.specs.Hearing.{response_to}
 use Rattle.check_matching.specs.Steps.{before, behind, line_end, IsStepOf}
 use Rattle.check_player.specs.declared.player.Player.{Player}
-use Rattle.check_player.specs.declared.player.TheConstants.{MOST_STEPS}
 use Rattle.check_player.specs.declared.player.Turn.{Turn}
 use Rattle.check_player.specs.declared.player.Turn.TheVariants as turns
 use Rattle.check_player.specs.Awaiting.{Waits}
@@ -101,9 +101,13 @@ abbrev pub FurtherTimes : ℕ → ℕ → Player → Player → Type 0
 FurtherTimes now zero was is = is ≡ was
 FurtherTimes now (suc count) was is = (between : Player) × FurtherTimes now count was between × Further now between is None
 
+-- no check has more steps, those that undo it among them
+abbrev pub most_steps : ℕ
+most_steps = 1000
+
 -- at a moment steps are played one behind the other, up to one that waits or the end; no check has more than the most, and is over
 -- behind them
 abbrev pub Plays : ℕ → Player → Player → Turn → Type 0
 Plays now was is turn =
     ((count : ℕ) × (between : Player) × FurtherTimes now count was between × Further now between is (Some turn))
-    ⊎ ((count : ℕ) × FurtherTimes now count was is × (count ≡ MOST_STEPS) × (turn ≡ turns.Over))
+    ⊎ ((count : ℕ) × FurtherTimes now count was is × (count ≡ most_steps) × (turn ≡ turns.Over))

@@ -23,7 +23,8 @@ pub fn what_waits_on_has_examples()
     ensures begun { (is : Player) (turn : Option Turn) → WaitsOn is turn None (turns.Wait 2500) (Some 2500) (Some 500)
         → is.is_refused ≡ false → is.begun ≡ Some 500 }
     // What is done asks for nothing, and for no time.
-    ensures is_done { (is : Player) (turn : Option Turn) (fault : Option Fault) → WaitsOn is turn (Some fault) (turns.Wait 2500) (Some 2500) None
+    ensures is_done { (is : Player) (turn : Option Turn) (fault : Option Fault)
+        → WaitsOn is turn (Some fault) (turns.Wait 2500) (Some 2500) None
         → is.is_refused ≡ false → turn ≡ None }
     // So long from the moment on at which it began.
     ensures begins { (was is : Player) (turn : Option Turn) → WaitsFor was is turn None 500 1000 → was.until ≡ None

@@ -20,7 +20,8 @@ ghost use Rattle.check_matching.specs.Unasked.{announced_by};
 ghost use Rattle.check_player.specs.declared.player.Player.{Player};
 ghost use Rattle.check_player.specs.declared.player.Turn.{Turn};
 ghost use Rattle.check_player.specs.declared.player.Turn.TheVariants as turns;
-ghost use Rattle.check_player.specs.Leaving.{OnlyWaits, bytes_sent, Sends, AsksFor, TakesAnswer, TakesCopy, found_at, left_found, NamesFound};
+ghost use Rattle.check_player.specs.Leaving.{OnlyWaits, bytes_sent, Sends, AsksFor, TakesAnswer, TakesCopy, found_at, left_found};
+ghost use Rattle.check_player.specs.Leaving.{NamesFound};
 ghost use Rattle.check_player.specs.Leaving.{found_in, named_at_once, KeepsValue, leaves_by, Leaves};
 ghost use Rattle.check_player.specs.Playing.{answer_in, like_at, notice_due};
 ghost use Rattle.check_player.specs.Responding.{is_left_to_steps, response_as, responses_from};
@@ -178,5 +179,6 @@ pub fn each_kind_of_step_leaves_something()
         → AsksFor was is turn was.line.now }
     ensures unknown { (was is : Player) (turn : Option Turn) (step : Step) → leaves_by steps.Unknown was is turn step
         → KeepsValue was is step }
-    ensures by_its_kind { (was is : Player) (turn : Option Turn) (step : Step) → Leaves was is turn step → leaves_by step.asks was is turn step }
+    ensures by_its_kind { (was is : Player) (turn : Option Turn) (step : Step) → Leaves was is turn step
+        → leaves_by step.asks was is turn step }
 {}

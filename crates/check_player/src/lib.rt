@@ -10,5 +10,6 @@ pub mod laws;
 pub mod leaving_examples;
 mod player;
 pub mod telling_examples;
+pub mod turning_examples;
 
 pub use crate::player::{Player, Turn};

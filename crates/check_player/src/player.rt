@@ -5,6 +5,7 @@ ghost use Rattle.std.specs.Str.Lossy.{utf8_lossy};
 ghost use Rattle.piggyback.specs.Parts.{parts_of};
 ghost use Rattle.check_matching.specs.declared.socket.Socket.TheVariants.{First};
 ghost use Rattle.check_matching.specs.Hearing.{came_as, awaits_answer, kept_of, kept_in};
+ghost use Rattle.gateway_checks.specs.Checks.{is_open, hears, announces};
 ghost use Rattle.gateway_checks.specs.Judging.{verdict_of};
 ghost use Rattle.check_matching.specs.Matching.{last_text, left_for};
 ghost use Rattle.gateway_checks.specs.Naming.{id_in, names_kept, kept_with};
@@ -135,6 +136,7 @@ impl<'a> Player<'a> {
         ensures nothing_said { (result.mailbox.waiting.items ≡ []) × (result.mailbox.heard.items ≡ []) }
         ensures nothing_told { (string_bytes result.said ≡ []) × (string_bytes result.due ≡ []) × (came_in result ≡ []) }
         ensures nothing_sent { (result.sent.items ≡ []) × (result.from ≡ First) }
+        ensures needs { (result.is_open ≡ is_open check.now) × (result.hears ≡ hears check.now) × (result.announces ≡ announces check.now) }
         ensures names { result.names ≡ names.entry }
     {
         Player {
@@ -522,7 +524,8 @@ impl<'a> Player<'a> {
         ensures waits { is_met ≡ true → WaitsFor self.old self.new result (passed_by (until_in self.old.until ms now) now) ms now }
         ensures waits_for_it { is_met ≡ false → WaitsFor self.old self.new result (due_until (until_in self.old.until ms now) now) ms now }
         ensures tells { is_met ≡ true → Tells self.old self.new (passed_by (until_in self.old.until ms now) now) [] (came_in self.old) }
-        ensures tells_of_it { is_met ≡ false → Tells self.old self.new (due_until (until_in self.old.until ms now) now) [] (came_in self.old) }
+        ensures tells_of_it { is_met ≡ false
+            → Tells self.old self.new (due_until (until_in self.old.until ms now) now) [] (came_in self.old) }
     {
         let until = self.deadline(ms, now);
         if now < until {

@@ -12,7 +12,8 @@ ghost use Rattle.check_matching.specs.declared.step.Asks.TheVariants as steps;
 ghost use Rattle.check_matching.specs.declared.step.Step.{Step};
 ghost use Rattle.check_player.specs.declared.player.Player.{Player};
 ghost use Rattle.check_player.specs.Playing.{outcome_of};
-ghost use Rattle.check_player.specs.Telling.{shown, told_line, told_unless, sent_mark, came_mark, came_in, came_behind, came_since, act_told};
+ghost use Rattle.check_player.specs.Telling.{shown, told_line, told_unless, sent_mark, came_mark, came_in, came_behind, came_since};
+ghost use Rattle.check_player.specs.Telling.{act_told};
 ghost use Rattle.check_player.specs.Telling.{silence_told, is_first_fault, is_first_by, due_in, due_line, due_after, TellsDue, Tells};
 ghost use Rattle.check_player.specs.Telling.{told_by, came_by, TellsStep};
 
@@ -109,7 +110,8 @@ pub fn each_kind_of_step_tells_its_own()
     ensures keep { (was is : Player) (step : Step) (outcome : Option (Option Fault)) → told_by steps.Keep was is step outcome ≡ [] }
     ensures differ { (was is : Player) (step : Step) (outcome : Option (Option Fault)) → told_by steps.Differ was is step outcome ≡ [] }
     ensures notified { (was is : Player) (step : Step) (outcome : Option (Option Fault)) → told_by steps.Notified was is step outcome ≡ [] }
-    ensures announced { (was is : Player) (step : Step) (outcome : Option (Option Fault)) → told_by steps.Announced was is step outcome ≡ [] }
+    ensures announced { (was is : Player) (step : Step) (outcome : Option (Option Fault))
+        → told_by steps.Announced was is step outcome ≡ [] }
     ensures again { (was is : Player) (step : Step) (outcome : Option (Option Fault)) → told_by steps.Again was is step outcome ≡ [] }
     ensures slower { (was is : Player) (step : Step) (outcome : Option (Option Fault)) → told_by steps.Slower was is step outcome ≡ [] }
     ensures quiet { (was is : Player) (step : Step) (outcome : Option (Option Fault)) → told_by steps.Quiet was is step outcome
