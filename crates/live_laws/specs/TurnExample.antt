@@ -30,7 +30,7 @@ use Rattle.live_gateway.specs.Ending.{EndsWith}
 use Rattle.live_gateway.specs.Exchanging.{Becomes, HandsOver}
 use Rattle.live_gateway.specs.Leaving.{Leaves}
 use Rattle.live_gateway.specs.Noting.{with_looked}
-use Rattle.live_gateway.specs.Turning.{Tries, TriesFound, LooksForOne}
+use Rattle.live_gateway.specs.Turning.{Tries, TriesFound, LooksForOne, DoesNext}
 
 -- a datagram of 5 bytes from 10.0.0.9:2727
 abbrev pub one : SocketAddrV4 × ℕ
@@ -52,6 +52,14 @@ comes_to this before longest outcome after = outcome ≡ this
 abbrev pub LeavesLong : ℕ → Turn → Option (Box ℕ) → Option (Box ℕ) → Desk ℕ ℕ → Desk ℕ ℕ → Type 0
 LeavesLong now turn visitors left was is =
     Leaves {V = ℕ} (λ around. untold) (λ around time. ⊤) (λ around told. ⊤) tells_long (λ v s b at w t c. ⊤) now turn visitors left was is
+
+-- such a turn was had by a desk over surroundings that tell 7 for the time of day, and nothing else
+abbrev pub DoesNextAnywhere : Desk ℕ ℕ → Option (Box ℕ) → Desk ℕ ℕ → Option (Box ℕ) → Type 0
+DoesNextAnywhere was visitors is left =
+    DoesNext {S = ℕ} {T = ℕ} {V = ℕ} (λ told. None) (λ around. untold) (λ around. []) (λ around clock. ⊤) (λ around time. time ≡ 7)
+    (λ around told. ⊤) (λ before longest outcome after. ⊤) (λ before outcome room after. ⊤) (λ before to bytes sent after. ⊤)
+    (λ before found room after. ⊤) (λ before sender text after. ⊤) (λ visitors around moment ready. ⊤) (λ visitors deadline. ⊤)
+    (λ v s b at w t c. ⊤) was visitors is left
 
 -- a desk looked for a datagram, where nobody looks for one
 abbrev pub LooksNowhere : Desk ℕ ℕ → Desk ℕ ℕ → Type 0

@@ -14,7 +14,7 @@ ghost use Rattle.live_gateway.specs.declared.exchange.Exchange.{Exchange};
 ghost use Rattle.live_gateway.specs.Admitting.{is_heard};
 ghost use Rattle.live_gateway.specs.Answering.{IsActAnswer};
 ghost use Rattle.live_gateway.specs.Ending.{is_record_refused, IsCounted, WritesLast, OnlyEnds};
-ghost use Rattle.live_laws.specs.TurnExample.{one, lost_one, once, failed, CanFreely, TriesNowhere, TriesOffHook, LeavesLong, tells_long, comes_to, LooksNowhere, FindsNothing, SendsNowhere, HandsAnywhere, HandsNowhere, HandsWith, EndsSaying, CountsStranger, ActsAnywhere};
+ghost use Rattle.live_laws.specs.TurnExample.{one, lost_one, once, failed, CanFreely, TriesNowhere, TriesOffHook, DoesNextAnywhere, LeavesLong, tells_long, comes_to, LooksNowhere, FindsNothing, SendsNowhere, HandsAnywhere, HandsNowhere, HandsWith, EndsSaying, CountsStranger, ActsAnywhere};
 ghost use Rattle.live_laws.specs.TurnExample.{writes_any, writes_never};
 ghost use Rattle.live_gateway.specs.Exchanging.{heard_in, mark_of, is_lost, faults_by, faultless, with_unreceived, unsent_in};
 ghost use Rattle.live_gateway.specs.Exchanging.{IsTold, OnlySends, OnlyWrites, NotesTaken, NotesRefused, LosesOver, TakesOver};
@@ -47,6 +47,7 @@ ghost use Rattle.live_outlets.specs.declared.record.RecordState.TheVariants.{Off
 ghost use Rattle.live_gateway.specs.Turning.{ready_at, RunsTurns};
 ghost use Rattle.surroundings.specs.Sending.{untold};
 ghost use Rattle.surroundings.specs.declared.surroundings.Fault.{Fault};
+ghost use Rattle.turns.specs.Schedule.{next_of};
 ghost use Rattle.turns.specs.declared.turn.Turn.TheVariants.{Look, Wait};
 ghost use Rattle.surroundings.specs.Speaking.{anybody, nobody};
 ghost use Rattle.std.specs.Global.{Box};
@@ -169,6 +170,23 @@ pub fn what_a_wait_comes_to_has_examples()
         → LeavesLong 500 (Wait 1200) visitors left was is → is.exchange.around ≡ 700 }
     ensures looks { (visitors left : Option (Box ℕ)) (was is : Desk ℕ ℕ) → was.exchange.is_offering ≡ false
         → LeavesLong 500 Look visitors left was is → is.exchange.around ≡ 0 }
+{}
+
+/// A turn is what comes next by the schedule, as things stand, at the moment to which ticks have come, with the time of day that was told.
+/// Before it only its clocks, faults and schedule change, and behind it what is around the desk, and who watches.
+pub fn what_comes_next_has_examples()
+    ensures next { (was is : Desk ℕ ℕ) (visitors left : Option (Box ℕ)) (does : DoesNextAnywhere was visitors is left)
+        → (does.turn, is.schedule) ≡ next_of was.schedule does.at }
+    ensures clock { (was is : Desk ℕ ℕ) (visitors left : Option (Box ℕ)) (does : DoesNextAnywhere was visitors is left)
+        → does.begun.exchange.now.clock ≡ does.at.ticked }
+    ensures dated { (was is : Desk ℕ ℕ) (visitors left : Option (Box ℕ)) (does : DoesNextAnywhere was visitors is left)
+        → does.begun.exchange.now.time ≡ 7 }
+    ensures faults { (was is : Desk ℕ ℕ) (visitors left : Option (Box ℕ)) (does : DoesNextAnywhere was visitors is left)
+        → does.begun.exchange.faults ≡ faults_by does.situation.clock was.exchange.faults }
+    ensures before { (was is : Desk ℕ ℕ) (visitors left : Option (Box ℕ)) (does : DoesNextAnywhere was visitors is left)
+        → does.begun.lines ≡ was.lines }
+    ensures behind { (was is : Desk ℕ ℕ) (visitors left : Option (Box ℕ)) (does : DoesNextAnywhere was visitors is left)
+        → (is.play ≡ does.done.play) × (is.lines ≡ does.done.lines) × (is.exchange.faults ≡ does.done.exchange.faults) }
 {}
 
 /// Where a gateway takes an event nothing is read, nor counted as refused; and of a desk at which an act was asked for the end stays. A
