@@ -9,7 +9,9 @@ use Rattle.surroundings.specs.Sending.{untold, Traffic}
 use Rattle.surroundings.specs.declared.surroundings.Fault.{Fault}
 use Rattle.live_outlets.specs.declared.written.Written.{Written}
 use Rattle.switchboard.specs.declared.switchboard.Switchboard.{Switchboard}
+use Rattle.turns.specs.declared.schedule.Schedule.{Schedule}
 use Rattle.live_agent.specs.declared.wire.Wire.{Wire}
+use Rattle.live_agent.specs.Turning.{DoesNext}
 
 abbrev pub no_traffic : ℕ → Traffic
 no_traffic around = untold
@@ -56,6 +58,12 @@ writes_any before journal time after left = ⊤
 
 abbrev pub writes_nothing : ℕ → Journal → ℕ → ℕ → Journal → Type 0
 writes_nothing before journal time after left = left ≡ journal
+
+-- a turn was had over surroundings that tell 7 for the time of day, and nothing else
+abbrev pub DoesNextAnywhere : Switchboard → Switchboard → Wire ℕ → Wire ℕ → Schedule → Schedule → Type 0
+DoesNextAnywhere board now was is schedule next =
+    DoesNext no_traffic no_sockets sends_any (λ around clock. ⊤) (λ around time. time ≡ 7) (λ around told. ⊤) sleeps_long receives_any hears_any
+    answers_any board now was is schedule next
 
 -- a bench of which nothing is asked
 abbrev pub becomes_any : Bench → Bench → Type 0

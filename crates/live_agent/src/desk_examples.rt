@@ -31,6 +31,8 @@ ghost use Rattle.load_bench.specs.declared.settings.LoadFault.TheVariants as fau
 ghost use Rattle.surroundings.specs.Sending.{Traffic};
 ghost use Rattle.surroundings.specs.declared.surroundings.Fault.{Fault};
 ghost use Rattle.transmission.specs.declared.output.OutDatagram.{OutDatagram};
+ghost use Rattle.turns.specs.Runs.{is_end};
+ghost use Rattle.turns.specs.Schedule.{next_of};
 ghost use Rattle.turns.specs.declared.schedule.Schedule.{Schedule};
 ghost use Rattle.turns.specs.declared.turn.Pause.{Pause};
 ghost use Rattle.mg_bytes.specs.Lines.{cut, line_of};
@@ -41,6 +43,8 @@ ghost use Rattle.live_agent.specs.declared.loading.LoadEnding.TheVariants as loa
 ghost use Rattle.live_agent.specs.declared.session.Request.TheVariants as requests;
 ghost use Rattle.switchboard.specs.declared.switchboard.Switchboard.{Switchboard};
 ghost use Rattle.live_agent.specs.declared.wire.Wire.{Wire};
+ghost use Rattle.live_agent.specs.AnyAround.{DoesNextAnywhere};
+ghost use Rattle.live_agent.specs.Clock.{is_behind};
 ghost use Rattle.live_agent.specs.AnyAround.{no_sockets, no_traffic, sends_any, sleeps_long, sleeps_so, receives_any, hears_any, answers_any, answers_more, answers_never, asks_at, asks_in_order, becomes_any, ends_any, serves_any, serves_never, writes_any, writes_nothing};
 ghost use Rattle.live_agent.specs.Clock.{milliseconds};
 ghost use Rattle.live_agent.specs.Datagrams.{with_stranger, DealsIf, HearsBy, HearsDatagram, HearsOne, HearsPacket, HearsTexts, SettlesIf, StepsAt, TakesEach, TakesElse, TakesFound, TakesLooked, TakesNext, TakesReceived};
@@ -431,6 +435,20 @@ pub fn how_a_desk_serves_has_examples()
     // It stops where the clock fails, and not where it tells a moment.
     ensures fails { (fault : Fault) (board : Switchboard) (wire : Wire ℕ) (schedule : Schedule) →
         StopsAt (λ around outcome. outcome ≡ Ok 5) (λ around told. ⊥) (Err fault) 3 board wire schedule → ⊥ }
+{}
+
+/// A turn is what comes next by the schedule, as things stand, with the time of day that was told; behind it what was recorded is written.
+pub fn what_comes_next_has_examples()
+    ensures next { (board now : Switchboard) (was is : Wire ℕ) (schedule after : Schedule)
+        (does : DoesNextAnywhere board now was is schedule after) → after ≡ (next_of schedule does.at).1 }
+    ensures goes_on { (board now : Switchboard) (was is : Wire ℕ) (schedule after : Schedule)
+        (does : DoesNextAnywhere board now was is schedule after) → is_end (next_of schedule does.at).0 ≡ false }
+    ensures dated { (board now : Switchboard) (was is : Wire ℕ) (schedule after : Schedule)
+        (does : DoesNextAnywhere board now was is schedule after) → does.begun.now.time ≡ 7 }
+    ensures begins { (board now : Switchboard) (was is : Wire ℕ) (schedule after : Schedule)
+        (does : DoesNextAnywhere board now was is schedule after) → (does.begun.journal ≡ was.journal) × (does.begun.lines ≡ was.lines) }
+    ensures behind_time { (board now : Switchboard) (was is : Wire ℕ) (schedule after : Schedule)
+        (does : DoesNextAnywhere board now was is schedule after) → does.begun.is_behind ≡ is_behind does.at.moment does.at.ticked }
 {}
 
 /// What a command does that was typed.
