@@ -83,7 +83,7 @@ abbrev pub TakesEach : {S : Type 0} → (S → SocketAddrV4 → List ℕ → Res
 TakesEach sends place zero board was now is = (now ≡ board) × (is ≡ was)
 TakesEach {S} sends place (suc index) board was now is =
     (taken : Switchboard) × (sent : Wire S) × TakesEach sends place index board was taken sent
-        × TakesNext sends place index taken sent now is
+    × TakesNext sends place index taken sent now is
 
 -- of those lines of the gateway at this place whose notifications came
 pub record TakesAll {S : Type 0} (sends : S → SocketAddrV4 → List ℕ → Result ⊤ Fault → S → Type 0) (place : ℕ) (board : Switchboard)

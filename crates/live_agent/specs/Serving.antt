@@ -39,7 +39,7 @@ pub record TurnsOnce {S W : Type 0}
     (receives : S → Result (Option (SocketAddrV4 × ℕ)) Fault → List ℕ → S → Type 0)
     (hears : S → Option (SocketAddr × ℕ) → List ℕ → S → Type 0) (answers : S → SocketAddr → List ℕ → S → Type 0)
     (writes : W → Journal → ℕ → W → Journal → Type 0) (board : Switchboard) (was : Wire S) (schedule : Schedule) (now : Switchboard)
-        (is : Wire S) (next : Schedule)
+    (is : Wire S) (next : Schedule)
     : Type 0 where
   pub done : Wire S
   pub asks : AsksNext passes tells board was schedule true next

@@ -179,7 +179,7 @@ abbrev pub made_by : Option LoadFault → Bench → LoadEnding
 made_by (Some fault) bench = Unmade fault
 made_by None bench =
     Made (is_success bench.course.value.settings.success bench.tally.value.all.value.numbers.at_rest
-        bench.tally.value.all.value.numbers.attempts)
+    bench.tally.value.all.value.numbers.attempts)
 
 abbrev pub load_ending : Bench → LoadEnding
 load_ending bench = made_by bench.course.value.fault bench

@@ -35,7 +35,7 @@ pub record TicksOne {S : Type 0} (sends : S → SocketAddrV4 → List ℕ → Re
   pub went_on : Bool
   pub took : AtPlace place (λ before behind. IfOk outputs (λ sent.
       AgentTook before.agent.value (hears (tick (tick_to before.ticked to))) behind.agent.value sent)) board.gateways.items
-          now.gateways.items
+      now.gateways.items
   pub stays : AtPlace place (λ before behind. OnErr outputs (AgentStays before.agent.value behind.agent.value)) board.gateways.items
       now.gateways.items
   pub ends : AtPlace place (λ before behind. Refuses (tick (tick_to before.ticked to)) (result_err outputs) before)

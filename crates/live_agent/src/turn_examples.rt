@@ -35,7 +35,7 @@ pub fn what_settles_has_examples()
     // Those that waited are settled from then on: all are shown, then all are sent what they are to be sent.
     ensures begins { (board now : Switchboard) (was is : Wire ℕ) (settles : SettlesNow sends_any board was now is) →
         SettlesIn board.office settles.begun.office × ShowsEach (settling_in settles.begun.office) settles.begun was settles.shown
-            settles.told }
+        settles.told }
     ensures sends { (board now : Switchboard) (was is : Wire ℕ) (settles : SettlesNow sends_any board was now is) →
         SendsEach sends_any (settling_in settles.begun.office) settles.shown settles.told now is }
     // Of a gateway all that is given up by now is, and all that is sent again by now is.
@@ -48,7 +48,7 @@ pub fn what_settles_has_examples()
     // At a tick the clocks come first, then what is given up, then what is woken; then lines are settled.
     ensures ticks { (board now : Switchboard) (was is : Wire ℕ) (ticks : TicksAll sends_any 900 700 board was now is) →
         TicksEach sends_any 700 (length board.gateways.items) board (record was { now = record was.now { clock = 700 } }) ticks.ticked
-            ticks.said }
+        ticks.said }
     ensures ticks_then { (board now : Switchboard) (was is : Wire ℕ) (ticks : TicksAll sends_any 900 700 board was now is) →
         WakesEach (length ticks.given.gateways.items) ticks.given ticks.woken × SettlesAll sends_any ticks.woken ticks.told now is }
 {}
