@@ -11,7 +11,7 @@ returns-clause-by_its_clock c = λ gateway clock flights.
     ∙ ap (λ (list : List Flight). first_ended (Some (8, 200)) 100 list) flights
 
 pub returns-clause-sent : goal.returns-clause-sent
-returns-clause-sent c = λ was is forgets. forgets
+returns-clause-sent c = λ was is forgets touches. (forgets, touches)
 
 pub returns-clause-nothing_else : goal.returns-clause-nothing_else
 unfolding on_examples
