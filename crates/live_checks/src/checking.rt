@@ -1,10 +1,17 @@
 //! Plays all checks at a gateway, and reports.
-ghost use Rattle.std.specs.Prelude.{◌≡◌, [], ◌++◌, true, false, None, Some, Err, codes, string_bytes, IsOk, IfOk, IfSome};
-ghost use Rattle.gateway_checks.specs.Reporting.{with_verdict};
+ghost use Rattle.std.specs.Prelude.{◌≡◌, [], ◌∷◌, ◌++◌, true, false, None, Some, Err, codes, is_some, map, string_bytes};
+ghost use Rattle.std.specs.Prelude.{IsOk, IfOk, OnOk, IfSome};
+ghost use Rattle.std.specs.List.{flat_map};
+ghost use Rattle.std.specs.Str.Lossy.{utf8_lossy};
+ghost use Rattle.gateway_checks.specs.Checks.{written, checks_in, all_checks, check_named};
+ghost use Rattle.gateway_checks.specs.Junit.{case_text};
+ghost use Rattle.gateway_checks.specs.Reporting.{with_verdict, rule_line, check_report, tally_line as tally_told};
 ghost use Rattle.live_outlets.specs.Backlog.{is_kept};
 ghost use Rattle.live_outlets.specs.declared.backlog.TheConstants.{TEXT_ROOM};
-ghost use Rattle.live_checks.specs.Checking.{IsBegun, base_behind, verdict_in, is_among, is_named, MayLeaveOut, is_each_possible};
-ghost use Rattle.live_checks.specs.Checking.{CountsOne, CountsEach, Rests, status_of, IsStatusOf};
+ghost use Rattle.live_checks.specs.Checking.{other_of, IsBegun, base_behind, is_known, are_known, is_among, is_named, can_restart};
+ghost use Rattle.live_checks.specs.Checking.{is_possible, is_wanted};
+ghost use Rattle.live_checks.specs.Checking.{verdict_in, with_case, told_played, told_unplayed, told_in, CountsOne, CountsEach, Rests};
+ghost use Rattle.live_checks.specs.Checking.{status_of, junit_of, IsOutcomeOf, IsStatusOf, IsListOfAll};
 ghost use Rattle.live_checks.specs.Checking.{IsObjectLine, report_data};
 ghost use Rattle.live_checks.specs.Report.{tally_data};
 
@@ -15,7 +22,7 @@ use crate::telephone::Telephone;
 use check_player::Player;
 use gateway_checks::{
     Check, IN_USE, Names, Places, SERVES, Tally, UNKNOWN, Verdict, all_checks, check_named,
-    check_of, put_case, put_check, put_entry, put_suite, put_tally,
+    check_of, first_check, put_case, put_check, put_entry, put_suite, put_tally,
 };
 use live_ends::time_of_day;
 use live_outlets::{Outlet, boxed};
@@ -126,19 +133,35 @@ fn is_among(names: &str, name: &str) -> bool
     names.split(',').any(|other| other.trim() == name)
 }
 
+// Whether who works the line's telephone can start the gateway anew.
+fn can_restart(telephone: Option<Telephone<'_>>) -> bool
+    ensures { result ≡ can_restart telephone.entry }
+{
+    match telephone {
+        Some(telephone) => telephone.is_hook,
+        None => false,
+    }
+}
+
 // Whether the means are there that a check needs: another line, the address of the gateway's call agent, someone at the
 // telephone, and who starts the gateway anew.
 fn is_possible(settings: &CheckSettings<'_>, check: &Check<'_>) -> bool
-    ensures { is_each_possible settings.now ≡ true → result ≡ true }
+    ensures { result ≡ is_possible settings.now check.now }
 {
-    let has_hook = match settings.telephone {
-        Some(telephone) => telephone.is_hook,
-        None => false,
-    };
     (settings.other.is_some() || !check.needs_other_line())
         && (settings.own.port() > 0 || !check.hears())
         && (settings.telephone.is_some() || !check.needs_telephone())
-        && (has_hook || !check.needs_restart())
+        && (can_restart(settings.telephone) || !check.needs_restart())
+}
+
+// The name of another line; empty where there is none.
+fn other_of<'a>(settings: &CheckSettings<'a>) -> &'a str
+    ensures { result.now ≡ other_of settings.now.other }
+{
+    match settings.other {
+        Some(other) => other,
+        None => "",
+    }
 }
 
 // The player of a check at a line, whose two sockets have these names, with the ids from behind this number on.
@@ -156,7 +179,7 @@ fn player_of<'a>(
     let places = Places {
         domain: settings.domain,
         local: line,
-        other: settings.other.unwrap_or(""),
+        other: other_of(settings),
         here: names.here.as_str(),
         there: names.there.as_str(),
     };
@@ -173,12 +196,12 @@ fn is_named(settings: &CheckSettings<'_>, check: &Check<'_>) -> bool
     }
 }
 
-// Whether a check is played: one that takes long is asked for, by its name or with all that do.
+// Whether a check that isn't left out by its name is played: one that takes long is asked for, by its name or with all that do.
 fn is_wanted(settings: &CheckSettings<'_>, check: &Check<'_>) -> bool
-    ensures { result ≡ false → MayLeaveOut settings.now }
+    ensures { result ≡ is_wanted settings.now check.now }
 {
-    let is_asked = settings.only.is_some() || settings.is_slow || !check.is_slow();
-    is_asked && is_possible(settings, check)
+    (settings.only.is_some() || settings.is_slow || !check.is_slow())
+        && is_possible(settings, check)
 }
 
 // The line that a text is.
@@ -213,7 +236,48 @@ fn tally_line(alloc: Global, tally: &Tally) -> Result<String, OutOfMemory>
     line_of(text)
 }
 
-// The report of a check, of which this was said, this was due, and this came. Where JUnit's XML is wanted its case is put there, too.
+// Puts a check's case, where JUnit's XML is wanted.
+fn keep_case(
+    settings: &CheckSettings<'_>,
+    cases: &mut String,
+    check: &Check<'_>,
+    verdict: Option<Verdict>,
+    due: &str,
+    said: &str,
+) -> Result<(), OutOfMemory>
+    ensures { OnOk result (string_bytes cases.new
+        ≡ with_case settings.now.is_junit (case_text check.now verdict due.now said.now) (string_bytes cases.old)) }
+{
+    if settings.is_junit {
+        return put_case(cases, check, verdict, due, said);
+    }
+    Ok(())
+}
+
+// A check's report, of which this was said, this was due, and this came: as JSON, or for people.
+fn line_told(
+    alloc: Global,
+    settings: &CheckSettings<'_>,
+    check: &Check<'_>,
+    verdict: Option<Verdict>,
+    said: &str,
+    due: &str,
+    came: &[Vec<u8>],
+) -> Result<String, OutOfMemory>
+    ensures reports { settings.now.is_json ≡ true → IfOk result (λ line.
+        IsObjectLine (report_data check.now verdict said.now due.now came.now) (string_bytes line)) }
+    ensures people { settings.now.is_json ≡ false → IfOk result (λ line.
+        string_bytes line ≡ utf8_lossy (check_report check.now verdict said.now)) }
+{
+    if settings.is_json {
+        return check_line(alloc, check, verdict, said, due, came);
+    }
+    let mut text = String::new(alloc);
+    put_check(&mut text, check, verdict, said)?;
+    Ok(text)
+}
+
+// The same. Where JUnit's XML is wanted its case is put there, too.
 fn report_of(
     alloc: Global,
     settings: &CheckSettings<'_>,
@@ -224,18 +288,15 @@ fn report_of(
     due: &str,
     came: &[Vec<u8>],
 ) -> Result<String, OutOfMemory>
-    ensures { settings.now.is_json ≡ true → IfOk result (λ line.
+    ensures reports { settings.now.is_json ≡ true → IfOk result (λ line.
         IsObjectLine (report_data check.now verdict said.now due.now came.now) (string_bytes line)) }
+    ensures people { settings.now.is_json ≡ false → IfOk result (λ line.
+        string_bytes line ≡ utf8_lossy (check_report check.now verdict said.now)) }
+    ensures cases { IfOk result (λ line. string_bytes cases.new
+        ≡ with_case settings.now.is_junit (case_text check.now verdict due.now said.now) (string_bytes cases.old)) }
 {
-    if settings.is_junit {
-        put_case(cases, check, verdict, due, said)?;
-    }
-    if settings.is_json {
-        return check_line(alloc, check, verdict, said, due, came);
-    }
-    let mut text = String::new(alloc);
-    put_check(&mut text, check, verdict, said)?;
-    Ok(text)
+    keep_case(settings, cases, check, verdict, due, said)?;
+    line_told(alloc, settings, check, verdict, said, due, came)
 }
 
 impl<'a> Checking<'a> {
@@ -263,6 +324,10 @@ impl<'a> Checking<'a> {
         ensures reports { self.old.settings.now.is_json ≡ true → IfOk result (λ line. IsObjectLine
             (report_data check.now (Some (verdict_in self.old.player.value)) (string_bytes self.old.player.value.said)
             (string_bytes self.old.player.value.due) self.old.player.value.came.items) (string_bytes line)) }
+        ensures people { self.old.settings.now.is_json ≡ false → IfOk result (λ line. string_bytes line ≡ utf8_lossy
+            (check_report check.now (Some (verdict_in self.old.player.value)) (string_bytes self.old.player.value.said))) }
+        ensures told { IfOk result (λ line.
+            told_in self.new ≡ told_played self.old.settings.now check.now self.old.player.value (told_in self.old)) }
         ensures rest { self.new ≡ record self.old { tally = self.new.tally; cases = self.new.cases } }
     {
         let player = &*self.player;
@@ -285,6 +350,9 @@ impl<'a> Checking<'a> {
         ensures counts { self.new.tally ≡ with_verdict self.old.tally None }
         ensures reports { self.old.settings.now.is_json ≡ true → IfOk result (λ line.
             IsObjectLine (report_data check.now None [] [] []) (string_bytes line)) }
+        ensures people { self.old.settings.now.is_json ≡ false → IfOk result (λ line.
+            string_bytes line ≡ utf8_lossy (check_report check.now None [])) }
+        ensures told { IfOk result (λ line. told_in self.new ≡ told_unplayed self.old.settings.now check.now (told_in self.old)) }
         ensures rest { self.new ≡ record self.old { tally = self.new.tally; cases = self.new.cases } }
     {
         self.tally.count(None);
@@ -300,9 +368,39 @@ impl<'a> Checking<'a> {
         )
     }
 
+    // The same, and says it: what fails, if anything does.
+    fn tell_played<F: Write + Drop>(
+        &mut self,
+        out: &mut Outlet<F>,
+        check: &Check<'_>,
+    ) -> Option<CheckFault>
+        ensures told { result ≡ None
+            → told_in self.new ≡ told_played self.old.settings.now check.now self.old.player.value (told_in self.old) }
+        ensures rest { self.new ≡ record self.old { tally = self.new.tally; cases = self.new.cases } }
+    {
+        let text = self.report_played(check);
+        put_out(out, text)
+    }
+
+    // The same of one that wasn't played.
+    fn tell_unplayed<F: Write + Drop>(
+        &mut self,
+        out: &mut Outlet<F>,
+        check: &Check<'_>,
+    ) -> Option<CheckFault>
+        ensures told { result ≡ None → told_in self.new ≡ told_unplayed self.old.settings.now check.now (told_in self.old) }
+        ensures rest { self.new ≡ record self.old { tally = self.new.tally; cases = self.new.cases } }
+    {
+        let text = self.report_unplayed(check);
+        put_out(out, text)
+    }
+
     // How many checks have come to what.
     fn counts(&self) -> Result<String, OutOfMemory>
-        ensures { self.now.settings.now.is_json ≡ true → IfOk result (λ line. IsObjectLine (tally_data self.now.tally) (string_bytes line)) }
+        ensures reports { self.now.settings.now.is_json ≡ true
+            → IfOk result (λ line. IsObjectLine (tally_data self.now.tally) (string_bytes line)) }
+        ensures people { self.now.settings.now.is_json ≡ false
+            → IfOk result (λ line. string_bytes line ≡ utf8_lossy (tally_told self.now.tally)) }
     {
         if self.settings.is_json {
             return tally_line(self.alloc, &self.tally);
@@ -312,21 +410,32 @@ impl<'a> Checking<'a> {
         Ok(text)
     }
 
+    // The report as JUnit's XML; empty where none is wanted.
+    fn junit(&self) -> Result<String, OutOfMemory>
+        ensures { IfOk result (λ text. string_bytes text ≡ junit_of self.now.settings.now.is_junit (told_in self.now)) }
+    {
+        if !self.settings.is_junit {
+            return Ok(String::new(self.alloc));
+        }
+        let mut text = String::new(self.alloc);
+        put_suite(&mut text, self.cases.as_str(), &self.tally)?;
+        Ok(text)
+    }
+
     // What came of all checks, where nothing has failed.
     fn outcome(&self, fault: Option<CheckFault>) -> Result<Checked, CheckFault>
         ensures status { IfOk result (λ checked. checked.status ≡ status_of self.now.tally) }
+        ensures junit { IfOk result (λ checked.
+            string_bytes checked.junit ≡ junit_of self.now.settings.now.is_junit (told_in self.now)) }
         ensures faultless { IfOk result (λ checked. fault ≡ None) }
         ensures fault { IfSome fault (λ why. result ≡ Err why) }
     {
         if let Some(fault) = fault {
             return Err(fault);
         }
-        let mut junit = String::new(self.alloc);
-        if self.settings.is_junit
-            && put_suite(&mut junit, self.cases.as_str(), &self.tally).is_err()
-        {
+        let Ok(junit) = self.junit() else {
             return Err(CheckFault::OutOfMemory);
-        }
+        };
         Ok(Checked {
             status: self.tally.status(),
             junit,
@@ -422,9 +531,23 @@ fn find_lines<R: Net + Clock>(checking: &mut Checking<'_>, ends: &mut Ends<'_, R
     }
 }
 
-// Plays a check, where it is asked for, and reports what came of it. Behind one that has the gateway started anew it is waited for:
-// what it announces is answered meanwhile, so that the checks behind aren't refused with 405. One that doesn't serve then shows in
-// these.
+// Behind a check that has the gateway started anew it is waited for, where nothing has failed: what it announces is answered meanwhile,
+// so that the checks behind aren't refused with 405. One that doesn't serve then shows in these.
+fn find_anew<R: Net + Clock>(
+    checking: &mut Checking<'_>,
+    ends: &mut Ends<'_, R>,
+    check: &Check<'static>,
+)
+    ensures still { ends.new.fault ≡ None → ends.old.fault ≡ None }
+    ensures rest { checking.new ≡ record checking.old { player = checking.new.player; base = checking.new.base } }
+{
+    if ends.fault().is_none() && check.needs_restart() {
+        find(checking, ends);
+        ends.forgive();
+    }
+}
+
+// Plays a check, where it is asked for, and reports what came of it.
 #[tactic(auto, using(crate::proofs::CountLemmas::counts_one))]
 fn check_one<R: Net + Clock, F: Write + Drop>(
     out: &mut Outlet<F>,
@@ -433,7 +556,7 @@ fn check_one<R: Net + Clock, F: Write + Drop>(
     check: &Check<'static>,
 )
     ensures counts { ends.new.fault ≡ None
-        → CountsOne checking.old.settings.now checking.old.names.now check.now checking.old.tally checking.new.tally }
+        → CountsOne checking.old.settings.now checking.old.names.now check.now (told_in checking.old) (told_in checking.new) }
     ensures still { ends.new.fault ≡ None → ends.old.fault ≡ None }
     ensures rest { Rests checking.old checking.new }
 {
@@ -445,18 +568,15 @@ fn check_one<R: Net + Clock, F: Write + Drop>(
         return;
     }
     if !is_wanted(settings, check) {
-        return ends.keep(put_out(out, checking.report_unplayed(check)));
+        return ends.keep(checking.tell_unplayed(out, check));
     }
     checking.begin(check, settings.line);
     ends.play(&mut checking.player);
     if ends.fault().is_some() {
         return;
     }
-    ends.keep(put_out(out, checking.report_played(check)));
-    if check.needs_restart() && ends.fault().is_none() {
-        find(checking, ends);
-        ends.forgive();
-    }
+    ends.keep(checking.tell_played(out, check));
+    find_anew(checking, ends, check);
 }
 
 // Plays those of these checks that are asked for, one behind the other.
@@ -467,7 +587,7 @@ fn check_each<R: Net + Clock, F: Write + Drop>(
     checks: &[Check<'static>],
 )
     ensures counts { ends.new.fault ≡ None
-        → CountsEach checking.old.settings.now checking.old.names.now checks.now checking.old.tally checking.new.tally }
+        → CountsEach checking.old.settings.now checking.old.names.now checks.now (told_in checking.old) (told_in checking.new) }
     ensures rest { Rests checking.old checking.new }
 {
     for check in checks {
@@ -483,7 +603,8 @@ fn check_all<R: Net + Clock, F: Write + Drop>(
     checks: &[Check<'static>],
 )
     ensures counts { ends.new.fault ≡ None
-        → CountsEach checking.old.settings.now checking.old.names.now checks.now checking.old.tally checking.new.tally }
+        → CountsEach checking.old.settings.now checking.old.names.now checks.now (told_in checking.old) (told_in checking.new) }
+    ensures rest { Rests checking.old checking.new }
 {
     find(checking, ends);
     find_lines(checking, ends);
@@ -493,16 +614,32 @@ fn check_all<R: Net + Clock, F: Write + Drop>(
     }
 }
 
+// Puts a check behind others.
+fn put_behind(checks: &mut Vec<Check<'static>>, check: Check<'static>) -> Result<(), OutOfMemory>
+    ensures { OnOk result (map written checks.new.items ≡ map written checks.old.items ++ written check.entry ∷ []) }
+{
+    checks.push(check)?;
+    Ok(())
+}
+
 // Puts the checks of a text behind others.
-fn read_text(checks: &mut Vec<Check<'static>>, text: &'static str) -> Result<(), OutOfMemory> {
-    for block in text.split("\n= ").skip(1) {
-        checks.push(check_of(block))?;
+#[tactic(auto, using(crate::proofs::CountLemmas::reads_text))]
+fn read_text(checks: &mut Vec<Check<'static>>, text: &'static str) -> Result<(), OutOfMemory>
+    ensures { OnOk result (map written checks.new.items ≡ map written checks.old.items ++ checks_in text.now) }
+{
+    let mut rest = text;
+    while let Some((check, behind)) = first_check(rest) {
+        put_behind(checks, check)?;
+        rest = behind;
     }
     Ok(())
 }
 
 // All checks, in their order.
-fn checks_read(alloc: Global) -> Result<Vec<Check<'static>>, OutOfMemory> {
+#[tactic(auto, using(crate::proofs::CountLemmas::reads_all), unfolding(gateway_checks::specs::Checks::all_checks))]
+fn checks_read(alloc: Global) -> Result<Vec<Check<'static>>, OutOfMemory>
+    ensures { IfOk result (λ checks. map written checks.items ≡ all_checks) }
+{
     let mut checks = Vec::new(alloc);
     let texts = all_checks();
     for text in texts.iter() {
@@ -520,7 +657,8 @@ fn check_from<'a, R: Net + Clock, F: Write + Drop>(
     ends: &mut Ends<'_, R>,
     out: &mut Outlet<F>,
 ) -> Result<Checked, CheckFault>
-    ensures { IfOk result (λ checked. IsStatusOf settings.now checked.status) }
+    ensures outcome { IfOk result (λ checked. IsOutcomeOf settings.now checked.status (string_bytes checked.junit)) }
+    ensures status { IfOk result (λ checked. IsStatusOf settings.now checked.status) }
 {
     let Ok(checks) = checks_read(alloc) else {
         return Err(CheckFault::OutOfMemory);
@@ -530,6 +668,7 @@ fn check_from<'a, R: Net + Clock, F: Write + Drop>(
     let Ok(player) = boxed(alloc, player) else {
         return Err(CheckFault::OutOfMemory);
     };
+    let cases = String::new(alloc);
     let mut checking = Checking {
         alloc,
         settings,
@@ -537,7 +676,7 @@ fn check_from<'a, R: Net + Clock, F: Write + Drop>(
         base,
         tally: Tally::NONE,
         names,
-        cases: String::new(alloc),
+        cases,
     };
     check_all(out, &mut checking, ends, checks.as_slice());
     checking.outcome(ends.fault())
@@ -563,7 +702,8 @@ fn check_by<R: AllocGlobal + Net + Clock, F: Write + Drop>(
     ends: &mut Ends<'_, R>,
     out: &mut Outlet<F>,
 ) -> Result<Checked, CheckFault>
-    ensures { IfOk result (λ checked. IsStatusOf settings.now checked.status) }
+    ensures outcome { IfOk result (λ checked. IsOutcomeOf settings.now checked.status (string_bytes checked.junit)) }
+    ensures status { IfOk result (λ checked. IsStatusOf settings.now checked.status) }
 {
     let alloc = rt.alloc();
     let Ok(names) = socket_names(alloc, settings.own, ends.second_port()) else {
@@ -579,7 +719,8 @@ pub fn check_gateway<R: AllocGlobal + Net + Clock, F: Write + Drop>(
     settings: &CheckSettings<'_>,
     out: &mut Outlet<F>,
 ) -> Result<Checked, CheckFault>
-    ensures { IfOk result (λ checked. IsStatusOf settings.now checked.status) }
+    ensures outcome { IfOk result (λ checked. IsOutcomeOf settings.now checked.status (string_bytes checked.junit)) }
+    ensures status { IfOk result (λ checked. IsStatusOf settings.now checked.status) }
 {
     let telephone = settings.telephone;
     match Ends::open(rt, rt.alloc(), settings.gateway, settings.own, telephone) {
@@ -588,17 +729,45 @@ pub fn check_gateway<R: AllocGlobal + Net + Clock, F: Write + Drop>(
     }
 }
 
-/// All checks, a line each: the name, the sections of its rule, and the rule.
-pub fn check_list(alloc: Global) -> Result<String, OutOfMemory> {
-    let mut out = String::new(alloc);
-    let checks = checks_read(alloc)?;
-    for check in checks.iter() {
-        put_entry(&mut out, check)?;
+// Puts these checks in a list, a line each.
+fn put_list(out: &mut String, checks: &[Check<'static>]) -> Result<(), OutOfMemory>
+    ensures { OnOk result (string_bytes out.new
+        ≡ string_bytes out.old ++ flat_map (λ check. utf8_lossy (rule_line check)) checks.now) }
+{
+    for check in checks {
+        put_entry(out, check)?;
     }
+    Ok(())
+}
+
+/// All checks, a line each: the name, the sections of its rule, and the rule.
+#[tactic(auto, using(crate::proofs::CountLemmas::lists_all))]
+pub fn check_list(alloc: Global) -> Result<String, OutOfMemory>
+    ensures { IfOk result (λ list. IsListOfAll (string_bytes list)) }
+{
+    let checks = checks_read(alloc)?;
+    let mut out = String::new(alloc);
+    put_list(&mut out, checks.as_slice())?;
     Ok(out)
 }
 
 /// Whether there is a check with this name.
-pub fn is_check(name: &str) -> bool {
+pub fn is_check(name: &str) -> bool
+    ensures { result ≡ is_some (check_named name.now) }
+{
     check_named(name).is_some()
+}
+
+// Whether a text is the name of a check; blanks around it don't count.
+fn is_known(text: &str) -> bool
+    ensures { result ≡ is_known text.now }
+{
+    is_check(text.trim())
+}
+
+/// Whether each of these names, which have commas between them, is that of a check.
+pub fn are_known(names: &str) -> bool
+    ensures { result ≡ are_known names.now }
+{
+    names.split(',').all(|name| is_known(name))
 }

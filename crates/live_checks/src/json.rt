@@ -5,7 +5,8 @@ ghost use Rattle.std.specs.Str.Lines.{lines};
 ghost use Rattle.serde_json.specs.Data.{string, array, put as with_member};
 ghost use Rattle.serde_json.specs.View.{view, members_view, items_of};
 ghost use Rattle.serde_json.specs.Written.{IsInOrder};
-ghost use Rattle.live_checks.specs.Report.{lines_data, message_data, messages_of, with_text, with_count, check_data, tally_data, fault_data};
+ghost use Rattle.live_checks.specs.Report.{lines_data, message_data, messages_of, with_text, with_count, check_data, tally_data};
+ghost use Rattle.live_checks.specs.Report.{fault_data};
 
 use gateway_checks::{Check, Tally, Verdict, word_of};
 use mg_bytes::OutOfMemory;

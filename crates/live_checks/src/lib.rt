@@ -16,7 +16,7 @@ pub mod report_examples;
 mod telephone;
 
 pub use crate::check_fault::CheckFault;
-pub use crate::checking::{CheckSettings, Checked, check_gateway, check_list, is_check};
+pub use crate::checking::{CheckSettings, Checked, are_known, check_gateway, check_list, is_check};
 pub use crate::json::fault_text;
 pub use crate::phones::{Played, play_phones};
 pub use crate::telephone::Telephone;

@@ -8,7 +8,8 @@ ghost use Rattle.serde_json.specs.Data.{Data, number, unsigned, string, array, i
 ghost use Rattle.gateway_checks.specs.declared.check.Check.{Check};
 ghost use Rattle.gateway_checks.specs.declared.judging.Verdict.TheVariants.{Failed};
 ghost use Rattle.gateway_checks.specs.declared.report.Tally.{Tally};
-ghost use Rattle.live_checks.specs.Report.{lines_data, message_data, messages_of, check_data, with_text, with_count, tally_data, fault_data};
+ghost use Rattle.live_checks.specs.Report.{lines_data, message_data, messages_of, check_data, with_text, with_count, tally_data};
+ghost use Rattle.live_checks.specs.Report.{fault_data};
 
 /// What a report has of what was said, and of what came.
 pub fn what_a_report_tells_has_examples()

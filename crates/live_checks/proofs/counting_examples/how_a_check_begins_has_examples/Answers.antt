@@ -36,3 +36,19 @@ returns-clause-unanswered c = λ check settings names player begun. (begun.13, b
 pub returns-clause-unheard : goal.returns-clause-unheard
 unfolding IsBegun
 returns-clause-unheard c = λ check settings names player begun. (begun.15, begun.16)
+
+pub returns-clause-other : goal.returns-clause-other
+unfolding IsBegun
+returns-clause-other c = λ check settings names player begun. begun.17
+
+pub returns-clause-needs : goal.returns-clause-needs
+unfolding IsBegun
+returns-clause-needs c = λ check settings names player begun. (begun.18, begun.19, begun.20)
+
+pub returns-clause-waits_not : goal.returns-clause-waits_not
+unfolding IsBegun
+returns-clause-waits_not c = λ check settings names player begun. (begun.21, begun.22)
+
+pub returns-clause-nothing_said : goal.returns-clause-nothing_said
+unfolding IsBegun
+returns-clause-nothing_said c = λ check settings names player begun. (begun.23, begun.24, begun.25)
