@@ -222,4 +222,4 @@ pub record DoesNext {S : Type 0}
   pub begins : begun ≡ record was { now = record was.now { time = begun.now.time }; is_behind = is_behind at.moment at.ticked }
   pub dated : dates was.around begun.now.time
   pub settles : SettlesAll sends board begun settled sent
-  pub does : DoesTurn traffic sockets sends receives hears answers at.moment (next_of schedule at).0 settled now sent is
+  pub does : DoesTurn traffic sockets sleeps sends receives hears answers at.moment (next_of schedule at).0 settled now sent is
