@@ -197,12 +197,7 @@ impl Switchboard {
     }
 
     // Adds the gateways of a configuration, and opens an exchange for their lines where calls are routed.
-    fn fill(
-        &mut self,
-        config: &AgentConfig,
-        is_routed: bool,
-        time: u64,
-    ) -> Result<(), OutOfMemory>
+    fn fill(&mut self, config: &AgentConfig, is_routed: bool, time: u64) -> Result<(), OutOfMemory>
         ensures gateways { OnOk result (map known_as self.new.gateways.items
             ≡ map known_as self.old.gateways.items ++ map configured_as config.now.gateways.items) }
         ensures office { OnOk result (self.old.office ≡ None → is_some self.new.office ≡ (is_routed && is_some config.now.map)) }

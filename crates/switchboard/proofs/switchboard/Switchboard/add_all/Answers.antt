@@ -3,7 +3,7 @@ use Rattle.switchboard.proofs.OpeningLemmas.{added_all, added_one}
 use Rattle.switchboard.proofs.switchboard.Switchboard.add_all.Goals as goal
 
 pub loop-gateway-init : goal.loop-gateway-init
-loop-gateway-init c = record { gateways = refl; office = refl; }
+loop-gateway-init c = record { gateways = refl; office = refl }
 
 pub loop-gateway-preserved : goal.loop-gateway-preserved
 loop-gateway-preserved c = record {
