@@ -1,12 +1,13 @@
 -- What is counted of looks for datagrams.
-use Rattle.std.proofs.Common.{inr, ◌≡◌, ℕ, Bool, true, false, cond, List, Option, None, Some, ◌∙◌, sym, ap, subst}
-use Rattle.std.specs.Prelude.{Result, is_some}
+use Rattle.std.proofs.Common.{inr, ◌≡◌, ℕ, Bool, true, false, cond, List, Option, None, Some, ◌∙◌, refl, sym, ap, subst}
+use Rattle.std.specs.Prelude.{⊤, Result, Ok, Err, is_err, is_some}
 use Rattle.std.specs.declared.net.socket_addr.SocketAddrV4.{SocketAddrV4}
+use Rattle.message_counts.specs.declared.reporting.Faults.{Faults}
 use Rattle.surroundings.specs.declared.surroundings.Fault.{Fault}
 use Rattle.live_gateway.specs.declared.admission.Admission.{Admission}
 use Rattle.live_gateway.specs.declared.exchange.Exchange.{Exchange}
 use Rattle.live_gateway.specs.Admitting.{is_heard}
-use Rattle.live_gateway.specs.Exchanging.{LooksOnce, heard_in, CountsReceived}
+use Rattle.live_gateway.specs.Exchanging.{LooksOnce, heard_in, faults_behind, with_unreceived, CountsReceived}
 
 -- nothing was counted behind it, and nothing else was asked of the surroundings
 pub looked_before : {S : Type 0} (receives : S → Result (Option (SocketAddrV4 × ℕ)) Fault → List ℕ → S → Type 0) (was mid is : Exchange S)
@@ -35,3 +36,13 @@ heard_given admission found may = sym (ap (λ (b : Bool). cond b (Some found) No
 
 pub strange_kept : (admission : Admission) (found : SocketAddrV4 × ℕ) → is_heard admission found.0 ≡ false → None ≡ heard_in admission (Some found)
 strange_kept admission found other = sym (ap (λ (b : Bool). cond b (Some found) None) other)
+
+-- a wait that failed counts, and no other one
+
+pub fault_counts : (outcome : Result ⊤ Fault) (faults : Faults) → is_err outcome ≡ true → with_unreceived faults ≡ faults_behind outcome faults
+fault_counts (Ok waited) faults failed = absurd cc
+fault_counts (Err fault) faults failed = refl
+
+pub nothing_counts : (outcome : Result ⊤ Fault) (faults : Faults) → is_err outcome ≡ false → faults ≡ faults_behind outcome faults
+nothing_counts (Ok waited) faults went = refl
+nothing_counts (Err fault) faults went = absurd cc
