@@ -1,6 +1,6 @@
 -- What a turn does, from what its calls say.
 use Rattle.std.proofs.Common.{◌≡◌, ◌⊎◌, inl, inr, ℕ, ◌+◌, ◌<◌, ◌≤◌, ◌^◌, [], sym, ◌∙◌, ap, subst, arith}
-use Rattle.std.specs.Prelude.{⊤, Bool, not, is_ok, Result, Ok, Err, OnOk, OnErr, List, true}
+use Rattle.std.specs.Prelude.{⊤, Bool, not, is_ok, Result, Ok, Err, OnOk, OnErr, List}
 use Rattle.std.specs.Result.{result_err}
 use Rattle.std.specs.declared.net.socket_addr.SocketAddrV4.{SocketAddrV4}
 use Rattle.gateway_core.specs.Stands.{Stands}

@@ -1,4 +1,4 @@
-use Rattle.std.proofs.Common.{◌≡◌, inr, refl, ◌∙◌, ap}
+use Rattle.std.proofs.Common.{◌≡◌, inr, refl, ap}
 use Rattle.plain_machine.specs.Event.{phone}
 use Rattle.surroundings.specs.Speaking.{admitted_by}
 use Rattle.traces.specs.Writing.{Input, typed}

@@ -1,4 +1,4 @@
-use Rattle.std.proofs.Common.{false, true, None, Some, refl, sym, ap}
+use Rattle.std.proofs.Common.{false, true, Some, refl, sym, ap}
 use Rattle.std.specs.Prelude.{⊤, Ok, Err}
 use Rattle.std.specs.Box.{with_value}
 use Rattle.bad_network.specs.declared.fate.Fate.{Fate}

@@ -1,5 +1,5 @@
-use Rattle.std.proofs.Common.{None, Some, refl}
-use Rattle.std.specs.Prelude.{Ok, Err}
+use Rattle.std.proofs.Common.{Some, refl}
+use Rattle.std.specs.Prelude.{Ok}
 use Rattle.std.specs.Box.{with_value}
 use Rattle.bad_network.specs.declared.fate.Fate.TheVariants.{Once}
 use Rattle.live_gateway.proofs.SendingLemmas.{offers_so, lacks_so, sent_over, sent_directly}
