@@ -6,7 +6,8 @@ use Rattle.rgca_words.specs.declared.phone_words.PhoneWordFault.TheVariants as p
 use Rattle.rgca_words.specs.declared.load_words.LoadWordFault.{LoadWordFault}
 use Rattle.rgca_words.specs.declared.load_words.LoadWordFault.TheVariants as number_faults
 use Rattle.rgca_words.specs.declared.ending.Ending.{Ending}
-use Rattle.rgca_words.specs.declared.ending.Ending.TheVariants.{Common, OfCheck, OfPhones, OfLoads, BadNumber, BadGateway, BadLine, SameLine, NoCheck}
+use Rattle.rgca_words.specs.declared.ending.Ending.TheVariants.{Common, OfCheck, OfPhones, OfLoads, BadNumber, BadGateway, BadLine}
+use Rattle.rgca_words.specs.declared.ending.Ending.TheVariants.{SameLine, NoCheck}
 
 abbrev pub word_ending : WordFault → Ending
 word_ending (faults.Common ending) = Common ending

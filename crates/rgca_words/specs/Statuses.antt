@@ -2,7 +2,10 @@
 use Rattle.std.specs.Prelude.{ℕ, Bool, false, if◌then◌else◌}
 use Rattle.live_ends.specs.Ending.{status_of as common_status, is_asked as is_commonly_asked}
 use Rattle.rgca_words.specs.declared.ending.Ending.{Ending}
-use Rattle.rgca_words.specs.declared.ending.Ending.TheVariants.{Common, OfCheck, OfPhones, OfLoads, Checked, Played, Loaded, Unexpected, Unplayed, BadScript, BadGateway, BadNumber, Untold, NoLines, BadLine, SameLine, NoCheck, Config, NoAnswer, NotServing, NoSuchLine, InUse, System}
+use Rattle.rgca_words.specs.declared.ending.Ending.TheVariants.{Common, OfCheck, OfPhones, OfLoads, Checked, Played, Loaded}
+use Rattle.rgca_words.specs.declared.ending.Ending.TheVariants.{Unexpected, Unplayed, BadScript, BadGateway, BadNumber, Untold}
+use Rattle.rgca_words.specs.declared.ending.Ending.TheVariants.{NoLines, BadLine, SameLine, NoCheck, Config, NoAnswer, NotServing}
+use Rattle.rgca_words.specs.declared.ending.Ending.TheVariants.{NoSuchLine, InUse, System}
 
 -- of a load, by whether enough of its calls came to rest
 abbrev pub load_status : Bool → ℕ

@@ -9,7 +9,10 @@ use Rattle.load_bench.specs.declared.settings.LoadNumber.TheVariants.{Rate, Leng
 use Rattle.rgca_words.specs.declared.ending.Abouts.{Abouts}
 use Rattle.rgca_words.specs.declared.ending.Named.{Named}
 use Rattle.rgca_words.specs.declared.ending.Ending.{Ending}
-use Rattle.rgca_words.specs.declared.ending.Ending.TheVariants.{Common, OfCheck, OfPhones, OfLoads, Checked, Played, Loaded, Unexpected, Unplayed, BadScript, BadGateway, BadNumber, Untold, NoLines, BadLine, SameLine, NoCheck, Config, NoAnswer, NotServing, NoSuchLine, InUse, System}
+use Rattle.rgca_words.specs.declared.ending.Ending.TheVariants.{Common, OfCheck, OfPhones, OfLoads, Checked, Played, Loaded}
+use Rattle.rgca_words.specs.declared.ending.Ending.TheVariants.{Unexpected, Unplayed, BadScript, BadGateway, BadNumber, Untold}
+use Rattle.rgca_words.specs.declared.ending.Ending.TheVariants.{NoLines, BadLine, SameLine, NoCheck, Config, NoAnswer, NotServing}
+use Rattle.rgca_words.specs.declared.ending.Ending.TheVariants.{NoSuchLine, InUse, System}
 
 -- the word that names the line to be checked, or the other one
 abbrev pub line_word : Bool → List ℕ

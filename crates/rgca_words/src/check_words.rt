@@ -1,6 +1,7 @@
 //! Reads the words behind `check`.
-ghost use Rattle.std.specs.Prelude.{◌≡◌, [], Some, is_some, IfOk, codes, option_map};
+ghost use Rattle.std.specs.Prelude.{◌≡◌, [], true, Some, is_some, IfOk, IfSome, codes, option_map};
 ghost use Rattle.clap.specs.Matches.{found_of, first_value, one_text};
+ghost use Rattle.live_checks.specs.Checking.{are_known};
 ghost use Rattle.rgca_words.specs.Names.{name_of, HasNames};
 ghost use Rattle.rgca_words.specs.Words.{IsBehind, SaysFlag, IsWorked};
 
@@ -9,7 +10,7 @@ use crate::help::CHECK_USAGE;
 use crate::words::{WordFault, address_behind};
 use clap::{ArgMatches, Command};
 use command_words::{Kind, matches_in};
-use live_checks::{CheckSettings, Telephone, is_check};
+use live_checks::{CheckSettings, Telephone, are_known};
 use live_ends::{AddressWord, CommonEnding};
 use live_outlets::{Outlet, boxed};
 use std::alloc::Global;
@@ -87,24 +88,15 @@ fn other_in<'a>(matches: &ArgMatches<'a>, line: &str) -> Result<Option<&'a str>,
     Ok(Some(text))
 }
 
-// Whether each of these names, which have commas between them, is that of a check.
-fn are_checks(names: &str) -> bool {
-    for name in names.split(',') {
-        if !is_check(name.trim()) {
-            return false;
-        }
-    }
-    true
-}
-
 // The names behind `--only`, each of which is that of a check.
 fn names_in<'a>(matches: &ArgMatches<'a>) -> Result<Option<&'a str>, WordFault>
-    ensures { IfOk result (λ only. first_value (found_of matches.now) (codes "only") ≡ option_map (λ names. names.now) only) }
+    ensures said { IfOk result (λ only. first_value (found_of matches.now) (codes "only") ≡ option_map (λ names. names.now) only) }
+    ensures known { IfOk result (λ only. IfSome only (λ names. are_known names.now ≡ true)) }
 {
     let Some(names) = matches.get_str("only") else {
         return Ok(None);
     };
-    if are_checks(names) {
+    if are_known(names) {
         Ok(Some(names))
     } else {
         Err(WordFault::NoCheck)
@@ -171,11 +163,13 @@ fn settings_of<'a>(
         first_value (found_of matches.now) (codes "more-lines") ≡ option_map (λ name. name.now) words.value.settings.other) }
     ensures only { IfOk result (λ words.
         first_value (found_of matches.now) (codes "only") ≡ option_map (λ names. names.now) words.value.settings.only) }
+    ensures known { IfOk result (λ words. IfSome words.value.settings.only (λ names. are_known names.now ≡ true)) }
     ensures gateway { IfOk result (λ words.
         IsBehind (first_value (found_of matches.now) (codes "address")) (Some words.value.settings.gateway)) }
     ensures own { IfOk result (λ words. IsBehind (first_value (found_of matches.now) (codes "own")) (Some words.value.settings.own)) }
-    ensures telephone { IfOk result (λ words. IsWorked line.now (first_value (found_of matches.now) (codes "phones"))
-        (first_value (found_of matches.now) (codes "hook")) words.value.settings.telephone) }
+    ensures telephone { IfOk result (λ words. IsWorked words.value.settings.line.now
+        (first_value (found_of matches.now) (codes "phones")) (first_value (found_of matches.now) (codes "hook"))
+        words.value.settings.telephone) }
     ensures slow { IfOk result (λ words. SaysFlag (one_text (found_of matches.now) (codes "slow")) words.value.settings.is_slow) }
     ensures json { IfOk result (λ words. SaysFlag (one_text (found_of matches.now) (codes "json")) words.value.settings.is_json) }
     ensures kept { IfOk result (λ words. words.value.settings.is_junit ≡ is_some words.value.junit) }
@@ -232,6 +226,17 @@ fn settings_in<'a>(
     ensures gateway { IfOk result (λ words.
         IsBehind (first_value (found_of matches.now) (codes "address")) (Some words.value.settings.gateway)) }
     ensures own { IfOk result (λ words. IsBehind (first_value (found_of matches.now) (codes "own")) (Some words.value.settings.own)) }
+    ensures other { IfOk result (λ words.
+        first_value (found_of matches.now) (codes "more-lines") ≡ option_map (λ name. name.now) words.value.settings.other) }
+    ensures only { IfOk result (λ words.
+        first_value (found_of matches.now) (codes "only") ≡ option_map (λ names. names.now) words.value.settings.only) }
+    ensures known { IfOk result (λ words. IfSome words.value.settings.only (λ names. are_known names.now ≡ true)) }
+    ensures telephone { IfOk result (λ words. IsWorked words.value.settings.line.now
+        (first_value (found_of matches.now) (codes "phones")) (first_value (found_of matches.now) (codes "hook"))
+        words.value.settings.telephone) }
+    ensures slow { IfOk result (λ words. SaysFlag (one_text (found_of matches.now) (codes "slow")) words.value.settings.is_slow) }
+    ensures json { IfOk result (λ words. SaysFlag (one_text (found_of matches.now) (codes "json")) words.value.settings.is_json) }
+    ensures kept { IfOk result (λ words. words.value.settings.is_junit ≡ is_some words.value.junit) }
 {
     let (Some(domain), Some(line)) = (matches.get_str("domain"), matches.get_str("line")) else {
         return Err(WordFault::Common(CommonEnding::Usage));

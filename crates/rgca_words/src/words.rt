@@ -108,6 +108,10 @@ fn settings_in<'a>(alloc: Global, matches: &ArgMatches<'a>) -> Result<Box<Settin
         IsBehind (first_value (found_of matches.now) (codes "listen")) settings.value.listen) }
     ensures route { IfOk result (λ settings. SaysFlag (one_text (found_of matches.now) (codes "route")) settings.value.route) }
     ensures log { IfOk result (λ settings. SaysFlag (one_text (found_of matches.now) (codes "log")) settings.value.log) }
+    ensures whole { IfOk result (λ settings.
+        first_value (found_of matches.now) (codes "network") ≡ None → settings.value.network ≡ None) }
+    ensures goes_on { IfOk result (λ settings.
+        one_text (found_of matches.now) (codes "stop-after") ≡ None → settings.value.stop_after ≡ None) }
 {
     let Some(config) = matches.get_str("config") else {
         return Err(WordFault::Common(CommonEnding::Usage));
