@@ -1,5 +1,6 @@
 use Rattle.std.proofs.Common.{◌≡◌, Bool, true, false, refl, sym, subst, rules}
 use Rattle.live_agent.specs.Serving.{has_served, EndsServed}
+use Rattle.live_agent.specs.declared.loading.LoadEnding.TheVariants.{Common}
 use Rattle.live_agent.proofs.loading.serve_load.Goals as goal
 
 pub returns-then-not-has_served : goal.returns-then-not-has_served
@@ -9,8 +10,8 @@ returns-then-not-has_served g c =
       c.serve_config-served.result,
       c.serve_config-served.ensures,
       subst
-          (λ (b : Bool). EndsServed g.S.Surroundings.answers g.W.Recorder.writes b c.serve_config-served.result c.serve_config-served.new.wire _
-          c.serve_config-served.new.wire)
+          (λ (b : Bool). EndsServed g.S.Surroundings.answers g.W.Recorder.writes b c.serve_config-served.result c.serve_config-served.new.wire
+          (Common c.serve_config-served.result) c.serve_config-served.new.wire)
           (sym not_served) (refl, refl),
     )
 
