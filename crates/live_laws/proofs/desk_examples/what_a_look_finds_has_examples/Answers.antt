@@ -1,4 +1,4 @@
-use Rattle.std.proofs.Common.{ℕ, Option, ◌∙◌, ap}
+use Rattle.std.proofs.Common.{ℕ, Option, ◌∙◌, sym, ap, true≢false}
 use Rattle.std.specs.Prelude.{Result}
 use Rattle.std.specs.declared.net.socket_addr.SocketAddrV4.{SocketAddrV4}
 use Rattle.surroundings.specs.declared.surroundings.Fault.{Fault}
@@ -20,7 +20,7 @@ pub returns-clause-directly : goal.returns-clause-directly
 returns-clause-directly c = nothing_received
 
 pub returns-clause-unsent : goal.returns-clause-unsent
-returns-clause-unsent c = λ fault failed. failed
+returns-clause-unsent c = λ fault failed. true≢false (sym failed)
 
 pub returns-clause-stranger : goal.returns-clause-stranger
 returns-clause-stranger c = λ was is notes. (notes.tally, notes.rest.0, notes.rest.1)
