@@ -1,10 +1,11 @@
 -- What counts where a datagram is sent.
-use Rattle.std.proofs.Common.{◌≡◌, Bool, true, false, Option, Some, None, subst}
-use Rattle.std.specs.Prelude.{is_some}
+use Rattle.std.proofs.Common.{◌≡◌, Bool, true, false, Option, Some, None, refl, subst}
+use Rattle.std.specs.Prelude.{⊤, is_err, is_some, Result, Ok, Err}
 use Rattle.agent_texts.specs.declared.tally.Tally.{Tally}
 use Rattle.agent_texts.specs.Counts.{with_handed_out}
 use Rattle.bad_network.specs.declared.network.BadNetwork.{BadNetwork}
-use Rattle.live_agent.specs.Tallying.{CountsLeaving, CountsOffer, CountsSent}
+use Rattle.surroundings.specs.declared.surroundings.Fault.{Fault}
+use Rattle.live_agent.specs.Tallying.{waited_counted, with_receive_fault, CountsLeaving, CountsOffer, CountsSent}
 
 -- no network spoils it, and it is put onto the machine's
 pub left_so : (is_repeat : Bool) (network : Option BadNetwork) (was sent offered is : Tally) → sent ≡ with_handed_out is_repeat was
@@ -19,3 +20,13 @@ pub offered_so : (is_repeat : Bool) (network : Option BadNetwork) (was sent is :
 offered_so is_repeat None was sent is sent_is some offers = absurd cc
 offered_so is_repeat (Some network) was sent is sent_is some offers =
     subst (λ (tally : Tally). CountsOffer (Some network) tally is) sent_is offers
+
+-- a wait that failed counts, and no other one
+
+pub fault_counts : (outcome : Result ⊤ Fault) (tally : Tally) → is_err outcome ≡ true → with_receive_fault tally ≡ waited_counted outcome tally
+fault_counts (Ok waited) tally failed = absurd cc
+fault_counts (Err fault) tally failed = refl
+
+pub nothing_counts : (outcome : Result ⊤ Fault) (tally : Tally) → is_err outcome ≡ false → tally ≡ waited_counted outcome tally
+nothing_counts (Ok waited) tally went = refl
+nothing_counts (Err fault) tally went = absurd cc
