@@ -99,7 +99,9 @@ pub fn a_check_ends_so()
         → ending ≡ Common (Unwritable kind) }
     ensures unkept_memory { (ending : Ending) → Unkept kinds.OutOfMemory ending → ending ≡ Common CommonEnding.OutOfMemory }
     // That status is what was found at the gateway, or it can't be checked.
-    ensures found { (words : CheckWords) (status : ℕ) → CheckEnds words (Checked status) → IsStatusOf words.settings status }
+    ensures found { (words : CheckWords) (ending : Ending) → CheckEnds words ending
+        → ((status : ℕ) × IsStatusOf words.settings status × ReportEnds status words.junit ending)
+        ⊎ ((fault : CheckFault) × Unchecked words.settings.gateway words.settings.own fault ending) }
     ensures unchecked { (words : CheckWords) (fault : CheckFault) (ending : Ending)
         → Unchecked words.settings.gateway words.settings.own fault ending → CheckEnds words ending }
     // Words that are refused are told by the usage of checks.
