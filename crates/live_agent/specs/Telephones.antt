@@ -13,6 +13,7 @@ use Rattle.load_bench.specs.Success.{is_success}
 use Rattle.load_bench.specs.declared.settings.LoadFault.{LoadFault}
 use Rattle.load_bench.specs.declared.settings.LoadFault.TheVariants.{OutOfMemory}
 use Rattle.live_ends.specs.declared.ending.CommonEnding.{CommonEnding}
+use Rattle.live_ends.specs.declared.ending.CommonEnding.TheVariants as endings
 use Rattle.live_agent.specs.declared.loading.Load.{Load}
 use Rattle.live_agent.specs.declared.loading.TheConstants.{ROOM}
 use Rattle.live_agent.specs.declared.loading.LoadEnding.{LoadEnding}
@@ -154,12 +155,14 @@ abbrev pub SaysTo : {S : Type 0} → (S → SocketAddr → List ℕ → S → Ty
 SaysTo answers before asked after None = ⊥
 SaysTo answers before asked after (Some load) = SaysAll answers before asked after load.value.bench.value × (vec_len load.value.room ≡ ROOM)
 
--- A load is made over a wire, which ends with it: its telephones are asked what it has to ask them. Or it ends at once, and none is made.
+-- A load is made over a wire, which ends with it: its telephones are asked what it has to ask them. Or it ends at once, and none is made:
+-- the clock failed, or memory was refused.
 abbrev pub BeginsLoad : {S : Type 0} → (S → SocketAddr → List ℕ → S → Type 0) → Option CommonEnding → Wire S → Wire S → Type 0
 BeginsLoad answers None was is =
     (asked : Bench) × SaysTo answers was.around asked is.around is.load × (is.end ≡ None)
     × (is ≡ record was { around = is.around; journal = is.journal; load = is.load; end = is.end })
-BeginsLoad answers (Some ending) was is = is ≡ record was { around = is.around }
+BeginsLoad answers (Some ending) was is =
+    ((ending ≡ endings.Clock) ⊎ (ending ≡ endings.OutOfMemory)) × (is ≡ record was { around = is.around })
 
 -- nobody is to tell anything more, by the clock by which commands were counted, and what is to be said for that is said
 abbrev pub SaysEnded : {S : Type 0} → (S → SocketAddr → List ℕ → S → Type 0) → ℕ → S → S → Bench → Bench → Type 0

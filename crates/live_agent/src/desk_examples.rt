@@ -329,6 +329,7 @@ pub fn what_telephones_are_told_has_examples()
     // A load begins with its wire's end, and its report changes nothing that was counted.
     ensures begins { (was is : Wire ℕ) → BeginsLoad answers_any None was is → is.end ≡ None }
     ensures begins_none { (ending : CommonEnding) (was is : Wire ℕ) → BeginsLoad answers_any (Some ending) was is → is.load ≡ was.load }
+    ensures begins_unserved { (was is : Wire ℕ) → BeginsLoad answers_any (Some CommonEnding.Served) was is → ⊥ }
     ensures reports { (was is : Bench) → Reports was is → is.tally ≡ was.tally }
     ensures unmade_for { (bench : Bench) → bench.course.value.fault ≡ Some faults.NoLines →
         load_ending bench ≡ loads.Unmade faults.NoLines }

@@ -63,7 +63,7 @@ pub returns-clause-begins : goal.returns-clause-begins
 returns-clause-begins c = λ was is begins. begins.2
 
 pub returns-clause-begins_none : goal.returns-clause-begins_none
-returns-clause-begins_none c = λ ending was is none. ap (λ (wire : Wire ℕ). wire.load) none
+returns-clause-begins_none c = λ ending was is none. ap (λ (wire : Wire ℕ). wire.load) none.1
 
 pub returns-clause-reports : goal.returns-clause-reports
 returns-clause-reports c = λ was is reports. ap (λ (bench : Bench). bench.tally) reports.1
