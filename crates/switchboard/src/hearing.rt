@@ -1,0 +1,296 @@
+//! What a board hears from its gateways: answers, announcements, notifications; and what lines have told is taken of them.
+ghost use Rattle.std.specs.Prelude.{◌≡◌, true, false, IfSome, slice_get};
+ghost use Rattle.agent_texts.specs.Counts.{with_notification, with_strange_name};
+ghost use Rattle.switchboard.specs.Boards.{taking_in};
+ghost use Rattle.switchboard.specs.Hearing.{is_new_to, is_strange, AnnouncesWith, AnswersAt, NotesAt};
+ghost use Rattle.switchboard.specs.Hearing.{announcement_counted, command_counted, message_counted, response_counted};
+ghost use Rattle.switchboard.specs.Hearing.{HearsAnnouncement, HearsCommand, HearsMessage, HearsNotification, HearsResponse, HearsText};
+ghost use Rattle.call_office.specs.Steps.{HearsSome};
+ghost use Rattle.switchboard.specs.Steps.{AnnouncesTo, OfOffice, WaitsIn};
+ghost use Rattle.switchboard.specs.Taking.{first_of, taken_place, TakesOf, TakesTold};
+ghost use Rattle.switchboard.specs.Tallying.{counted_if};
+ghost use Rattle.call_office.specs.Waiting.{Settles};
+
+use crate::announcing::announce_all;
+use crate::naming::{is_unknown, line_meant, method_of};
+use crate::orders::answer_at;
+use crate::switchboard::Switchboard;
+use crate::taking::take_from;
+use agent_texts::Journal;
+use endpoint_names::read_name;
+use mg_bytes::same_no_case;
+use mgcp_text::{Message, Param, TextFault, TransactionId, Verb, read_message};
+
+impl Switchboard {
+    // The exchange's command to a line of the gateway at this place was answered.
+    fn answer(&mut self, place: usize, line: usize, code: u16, text: &[u8])
+        ensures { AnswersAt place line code text.now self.old self.new }
+    {
+        let Some(gateway) = self.gateways.get_mut(place) else {
+            return;
+        };
+        let Some(office) = &mut self.office else {
+            return;
+        };
+        answer_at(self.alloc, gateway, &mut **office, line, code, text);
+    }
+
+    // A response came from the gateway at this place.
+    fn hear_response(
+        &mut self,
+        journal: &mut Journal,
+        place: usize,
+        id: TransactionId,
+        code: u16,
+        text: &[u8],
+    )
+        ensures hears { HearsResponse place id code text.now self.old self.new }
+        ensures tally { journal.new.tally ≡ response_counted id code (slice_get self.old.gateways.items place) journal.old.tally }
+        ensures rest { journal.new ≡ record journal.old { tally = journal.new.tally; told = journal.new.told } }
+    {
+        let Some(flight) = self.ended(place, Some((id, code))) else {
+            return;
+        };
+        journal.tell_answer(flight.pending.text(), text);
+        let Some(line) = flight.line else {
+            return;
+        };
+        self.answer(place, line, code, text);
+    }
+
+    // The lines of a gateway that a name means are there again, or lost their agent.
+    fn announce(&mut self, place: usize, name: &[u8], is_restart: bool)
+        ensures office { AnnouncesTo is_restart name.now (slice_get self.old.gateways.items place) self.old.office self.new.office }
+        ensures rest { self.new ≡ record self.old { office = self.new.office } }
+    {
+        let Some(gateway) = self.gateways.get(place) else {
+            return;
+        };
+        let Ok(pattern) = read_name(name, gateway.domain.as_bytes(), gateway.lines) else {
+            return;
+        };
+        if let Some(office) = &mut self.office {
+            announce_all(
+                &mut **office,
+                pattern,
+                gateway.first,
+                gateway.lines,
+                is_restart,
+            );
+        }
+    }
+
+    // An announcement came under this id: whether that is new to the gateway at this place.
+    fn is_new_at(&mut self, place: usize, id: TransactionId) -> bool
+        ensures new { result ≡ is_new_to id (slice_get self.old.gateways.items place) }
+        ensures noted { NotesAt place id self.old self.new }
+    {
+        match self.gateways.get_mut(place) {
+            Some(gateway) => gateway.announces(id),
+            None => false,
+        }
+    }
+
+    // The lines of a gateway that a name means are announced by this word.
+    fn announce_as(&mut self, place: usize, name: &[u8], method: &[u8])
+        ensures office { AnnouncesWith method.now name.now (slice_get self.old.gateways.items place) self.old.office self.new.office }
+        ensures rest { self.new ≡ record self.old { office = self.new.office } }
+    {
+        if same_no_case(method, b"restart") {
+            self.announce(place, name, true);
+        } else if same_no_case(method, b"disconnected") {
+            self.announce(place, name, false);
+        }
+    }
+
+    // An announcement came (RFC 3435, 2.3.12).
+    fn hear_announcement(
+        &mut self,
+        journal: &mut Journal,
+        place: usize,
+        id: TransactionId,
+        name: &[u8],
+        params: &[Param<'_>],
+    )
+        ensures hears { HearsAnnouncement place id name.now params.now self.old self.new }
+        ensures tally { journal.new.tally ≡ announcement_counted id (slice_get self.old.gateways.items place) journal.old.tally }
+        ensures rest { journal.new ≡ record journal.old { tally = journal.new.tally; told = journal.new.told } }
+    {
+        if !self.is_new_at(place, id) {
+            return;
+        }
+        let method = method_of(params);
+        journal.tell_announcement(name, method);
+        self.announce_as(place, name, method);
+    }
+
+    // A notification came: what the agent took of it is to be taken of its line.
+    fn hear_notification(&mut self, place: usize, name: &[u8])
+        ensures { HearsNotification place name.now self.old self.new }
+    {
+        let Some(gateway) = self.gateways.get(place) else {
+            return;
+        };
+        let domain = gateway.domain.as_bytes();
+        if let Some(line) = line_meant(name, domain, gateway.lines, gateway.first) {
+            self.notifying.put(line);
+        }
+    }
+
+    // A command came from the gateway at this place.
+    fn hear_command(
+        &mut self,
+        journal: &mut Journal,
+        place: usize,
+        verb: Verb,
+        id: TransactionId,
+        name: &[u8],
+        params: &[Param<'_>],
+    )
+        ensures hears { HearsCommand verb place id name.now params.now self.old self.new }
+        ensures tally { journal.new.tally ≡ command_counted verb id (slice_get self.old.gateways.items place) journal.old.tally }
+        ensures rest { journal.new ≡ record journal.old { tally = journal.new.tally; told = journal.new.told } }
+    {
+        match verb {
+            Verb::Rsip => self.hear_announcement(journal, place, id, name, params),
+            Verb::Ntfy => self.hear_notification(place, name),
+            Verb::Epcf | Verb::Rqnt | Verb::Crcx | Verb::Mdcx | Verb::Dlcx => {}
+            Verb::Auep | Verb::Aucx | Verb::Other => {}
+        }
+    }
+
+    // A message came from the gateway at this place, which this text is.
+    fn hear_message(
+        &mut self,
+        journal: &mut Journal,
+        place: usize,
+        message: &Message<'_>,
+        text: &[u8],
+    )
+        ensures hears { HearsMessage message.now place text.now self.old self.new }
+        ensures tally { journal.new.tally ≡ message_counted message.now (slice_get self.old.gateways.items place) journal.old.tally }
+        ensures rest { journal.new ≡ record journal.old { tally = journal.new.tally; told = journal.new.told } }
+    {
+        match message {
+            Message::Response { code, id, .. } => {
+                self.hear_response(journal, place, *id, *code, text);
+            }
+            Message::Command {
+                verb,
+                id,
+                name,
+                params,
+                ..
+            } => self.hear_command(
+                journal,
+                place,
+                *verb,
+                *id,
+                name.as_slice(),
+                params.as_slice(),
+            ),
+        }
+    }
+
+    // Tells of a command whose name isn't of the gateway at this place.
+    fn tell_strange(&self, journal: &mut Journal, place: usize, message: &Message<'_>, text: &[u8])
+        ensures tally { journal.new.tally ≡ counted_if (is_strange message.now (slice_get self.now.gateways.items place)) with_strange_name
+            journal.old.tally }
+        ensures rest { journal.new ≡ record journal.old { tally = journal.new.tally; told = journal.new.told } }
+    {
+        let Message::Command { name, .. } = message else {
+            return;
+        };
+        let Some(gateway) = self.gateways.get(place) else {
+            return;
+        };
+        if is_unknown(name.as_slice(), gateway.domain.as_bytes(), gateway.lines) {
+            journal.tell_strange(text);
+        }
+    }
+
+    /// A text came from the gateway at this place, of which its agent has heard.
+    pub fn hear(&mut self, journal: &mut Journal, place: usize, text: &[u8])
+        ensures hears { HearsText place text.now self.old journal.old self.new journal.new }
+        ensures rest { journal.new ≡ record journal.old { tally = journal.new.tally; told = journal.new.told } }
+    {
+        match read_message(self.alloc, text) {
+            Ok(message) => {
+                self.tell_strange(journal, place, &message, text);
+                self.hear_message(journal, place, &message, text);
+            }
+            // It may have been a notification of any line.
+            Err(TextFault::OutOfMemory) => self.notifying.put_all(),
+            Err(TextFault::NoHeader) => {}
+            Err(TextFault::BadVersion { .. } | TextFault::BadBody { .. }) => {}
+        }
+    }
+
+    /// The lines are taken from now on whose notifications came from the gateway at this place: how many they are.
+    pub fn begin_taking(&mut self, place: usize) -> usize
+        ensures count { result ≡ taking_in (slice_get self.old.gateways.items place) self.new.notifying }
+        ensures settles { Settles self.old.notifying self.new.notifying }
+        ensures rest { self.new ≡ record self.old { notifying = self.new.notifying } }
+    {
+        self.notifying.begin();
+        match self.gateways.get(place) {
+            Some(gateway) => self.notifying.len(usize::from(gateway.lines)),
+            None => 0,
+        }
+    }
+
+    // The place of the first line of the gateway at this place.
+    fn first_of(&self, place: usize) -> usize
+        ensures { result ≡ first_of (slice_get self.now.gateways.items place) }
+    {
+        match self.gateways.get(place) {
+            Some(gateway) => gateway.first,
+            None => 0,
+        }
+    }
+
+    /// Takes what the line that is so many behind the first of these has told and wasn't taken yet: whether there was anything. Then the
+    /// line waits to be settled.
+    pub fn take(&mut self, journal: &mut Journal, place: usize, index: usize) -> bool
+        ensures takes { TakesOf place (taken_place index (slice_get self.old.gateways.items place) self.old.notifying) result
+            self.old self.new }
+        ensures waits { result ≡ true → IfSome (taken_place index (slice_get self.old.gateways.items place) self.old.notifying)
+            (λ line. WaitsIn line self.new.office) }
+        ensures tally { journal.new.tally ≡ counted_if result with_notification journal.old.tally }
+        ensures rest { self.new ≡ record self.old { stations = self.new.stations; office = self.new.office } }
+        ensures journal { journal.new ≡ record journal.old { tally = journal.new.tally; told = journal.new.told } }
+    {
+        match self.notifying.at(self.first_of(place), index) {
+            Some(line) => self.take_of(journal, place, line),
+            None => false,
+        }
+    }
+
+    // Takes what a line has told and wasn't taken yet: whether there was anything.
+    fn take_of(&mut self, journal: &mut Journal, place: usize, line: usize) -> bool
+        ensures takes { TakesTold line (slice_get self.old.gateways.items place) (slice_get self.old.stations.items line) result
+            self.old self.new }
+        ensures told { result ≡ true → OfOffice (HearsSome line) self.old.office self.new.office }
+        ensures waits { result ≡ true → WaitsIn line self.new.office }
+        ensures nothing { result ≡ false → self.new.office ≡ self.old.office }
+        ensures tally { journal.new.tally ≡ counted_if result with_notification journal.old.tally }
+        ensures rest { self.new ≡ record self.old { stations = self.new.stations; office = self.new.office } }
+        ensures journal { journal.new ≡ record journal.old { tally = journal.new.tally; told = journal.new.told } }
+    {
+        let Some(gateway) = self.gateways.get(place) else {
+            return false;
+        };
+        let Some(station) = self.stations.get_mut(line) else {
+            return false;
+        };
+        take_from(
+            self.alloc,
+            &self.dialling.plan,
+            gateway,
+            station,
+            &mut self.office,
+            journal,
+            line,
+        )
+    }
+}
