@@ -1,6 +1,6 @@
 -- A line that waits goes on to wait where another one is put behind it.
 use Rattle.std.proofs.Common.{◌≡◌, ℕ, Bool, true, false, List, [], ◌∷◌, ◌++◌, ◌∙◌, Option, Some, None, refl, ap, ⊎_elim, eq-eqb}
-use Rattle.std.specs.Prelude.{◌||◌, ◌==◌, IfSome}
+use Rattle.std.specs.Prelude.{◌==◌, IfSome}
 use Rattle.std.specs.List.{list_any}
 use Rattle.std.proofs.lemmas.Bool.{cases_Bool}
 use Rattle.call_routing.specs.Exchange.{phase_of}

@@ -1,5 +1,5 @@
 -- What the network that spoils what goes over a wire hands over, packet by packet.
-use Rattle.std.proofs.Common.{◌≡◌, ℕ, ◌+◌, suc, Bool, true, false, List, [], ◌∷◌, ◌++◌, length, Option, Some, None, Result, Ok, Err, inl, inr, refl, sym, ap, subst, ◌∙◌, arith}
+use Rattle.std.proofs.Common.{◌≡◌, ℕ, ◌+◌, true, false, List, [], ◌∷◌, ◌++◌, length, Option, Some, None, Result, Ok, Err, inl, inr, refl, sym, ap, subst, ◌∙◌, arith}
 use Rattle.std.specs.Prelude.{⊤}
 use Rattle.std.specs.declared.net.socket_addr.SocketAddrV4.{SocketAddrV4}
 use Rattle.agent_texts.specs.declared.tally.Tally.{Tally}
@@ -9,7 +9,7 @@ use Rattle.bad_network.specs.declared.packet.Way.{Way}
 use Rattle.bad_network.specs.declared.packet.Way.TheVariants.{In, Out}
 use Rattle.surroundings.specs.declared.surroundings.Fault.{Fault}
 use Rattle.live_agent.specs.declared.wire.Wire.{Wire}
-use Rattle.live_agent.specs.Handing.{comes_in, HandsFirst, HandsOver, HandsOut, Leaves, Offers, OffersTo, SendsEachOn, SendsOn}
+use Rattle.live_agent.specs.Handing.{comes_in, HandsFirst, Offers, OffersTo, SendsEachOn, SendsOn}
 use Rattle.live_agent.specs.Tallying.{leaving_counted, CountsLeaving}
 
 -- a datagram was put onto the machine's network

@@ -1,5 +1,5 @@
 -- What goes over a wire leaves the rest of it, however much that is.
-use Rattle.std.proofs.Common.{◌≡◌, ◌⊎◌, inl, inr, ℕ, Bool, true, false, List, [], ◌∷◌, Option, Some, None, Result, Ok, Err, refl, sym, ap, subst, ◌∙◌}
+use Rattle.std.proofs.Common.{◌≡◌, ◌⊎◌, inl, inr, ℕ, Bool, true, false, List, [], ◌∷◌, Option, Some, None, Result, Ok, Err, sym, ap, subst, ◌∙◌}
 use Rattle.std.specs.Prelude.{⊤, is_some}
 use Rattle.std.specs.declared.net.socket_addr.SocketAddr.{SocketAddr}
 use Rattle.std.specs.declared.net.socket_addr.SocketAddrV4.{SocketAddrV4}
@@ -15,7 +15,7 @@ use Rattle.bad_network.specs.declared.network.BadNetwork.{BadNetwork}
 use Rattle.bad_network.specs.declared.packet.Way.TheVariants.{Out}
 use Rattle.live_agent.specs.Clock.{is_behind}
 use Rattle.live_agent.specs.Handing.{Leaves, OffersTo}
-use Rattle.live_agent.specs.Sending.{GoesOut, SendsAll, SendsCommand, SendsOne, SendsOutputs, SendsOver}
+use Rattle.live_agent.specs.Sending.{GoesOut, SendsAll, SendsCommand, SendsOutputs, SendsOver}
 use Rattle.live_agent.specs.Settling.{SendsIssued}
 use Rattle.live_agent.specs.Tallying.{OnlyNotes}
 use Rattle.live_agent.specs.Telephones.{end_of, load_over, PassesLoad}

@@ -1,12 +1,11 @@
 -- What is said to telephones, and when a load is over.
-use Rattle.std.proofs.Common.{◌≡◌, ℕ, ◌+◌, ◌<◌, ◌≤◌, Bool, true, false, List, [], ◌∷◌, length, get_or, drop, Option, Some, None, refl, sym, ap, subst, ◌∙◌}
+use Rattle.std.proofs.Common.{◌≡◌, ℕ, ◌+◌, ◌<◌, ◌≤◌, Bool, true, false, List, [], length, get_or, drop, Option, Some, None, refl, sym, ap, subst, ◌∙◌}
 use Rattle.std.proofs.lemmas.List.{drop_more, at_drop_all}
 use Rattle.std.specs.Prelude.{◌&&◌, vec_len}
 use Rattle.std.specs.Global.{Box}
 use Rattle.std.specs.declared.net.socket_addr.SocketAddr.{SocketAddr}
 use Rattle.load_bench.specs.Over.{bench_over, given_up}
 use Rattle.load_bench.specs.declared.bench.Bench.{Bench}
-use Rattle.load_bench.specs.declared.bench.Course.{Course}
 use Rattle.load_bench.specs.declared.said.Said.{Said}
 use Rattle.load_bench.specs.declared.settings.LoadFault.TheVariants.{OutOfMemory}
 use Rattle.live_agent.specs.declared.loading.Load.{Load}

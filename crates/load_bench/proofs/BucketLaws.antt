@@ -1,5 +1,5 @@
 -- Each time has a bucket, a longer one no earlier one, and the greatest time of its bucket is close to it.
-use Rattle.std.proofs.Common.{◌≡◌, ℕ, ◌+◌, ◌-◌, ◌*◌, ◌/◌, ◌<◌, ◌≤◌, Bool, true, false, nat_lt, refl, sym, ap, ◌∙◌, arith, subst}
+use Rattle.std.proofs.Common.{◌≡◌, ℕ, ◌+◌, ◌-◌, ◌*◌, ◌/◌, ◌<◌, ◌≤◌, Bool, true, false, nat_lt, refl, ap, ◌∙◌, arith}
 use Rattle.std.proofs.lemmas.Bool.{lt-ltb, le-ltb, ltb-true, ltb-false}
 use Rattle.load_bench.specs.declared.buckets.TheConstants.{BUCKETS, LAST, LONGEST}
 use Rattle.load_bench.specs.Buckets.{bucket_of, greatest_in}

@@ -1,10 +1,10 @@
 -- A percentile is close to the value at its rank.
-use Rattle.std.proofs.Common.{◌≡◌, ℕ, ◌+◌, ◌-◌, ◌*◌, ◌<◌, ◌≤◌, suc, Bool, true, false, cond, nat_lt, nat_le, List, [], ◌∷◌, length, get_or, take, drop, refl, sym, ap, ◌∙◌, arith, subst, add-one}
-use Rattle.std.specs.Prelude.{min, max, ◌==◌, if◌then◌else◌, Some, None, fold, replicate, slice_set, slice_index_or, sum, sum_by, count_by, IsSomeAnd}
+use Rattle.std.proofs.Common.{◌≡◌, ℕ, ◌+◌, ◌-◌, ◌*◌, ◌<◌, ◌≤◌, suc, Bool, true, false, cond, nat_lt, nat_le, List, [], ◌∷◌, length, get_or, take, drop, refl, sym, ap, ◌∙◌, arith, subst}
+use Rattle.std.specs.Prelude.{min, max, ◌==◌, if◌then◌else◌, Some, fold, replicate, slice_set, slice_index_or, sum, sum_by, count_by, IsSomeAnd}
 use Rattle.std.specs.List.Sorted.{IsPermutation, IsNonDecreasingBy}
 use Rattle.std.proofs.lemmas.Bool.{lt-ltb, le-ltb, le-leb, lt-leb, ltb-true, ltb-false, leb-true, leb-false}
 use Rattle.std.proofs.lemmas.Bool.Decides.{nat_tests}
-use Rattle.std.proofs.lemmas.List.{length-set, length-replicate, length-take, length-take-le, take-set-le, take_all, take-append-drop, get_or-take, get_or-drop, get_or-replicate, length-drop}
+use Rattle.std.proofs.lemmas.List.{length-set, length-replicate, length-take, length-take-le, take-set-le, get_or-take, get_or-drop, length-drop}
 use Rattle.std.proofs.lemmas.List.Folds.{sum_by-replicate}
 use Rattle.std.proofs.lemmas.List.Sums.{sum_by-cons, sum_by-set, sum_by-take-drop, sum_by-take-le, get_or-le-sum_by, count_by-le-length}
 use Rattle.std.proofs.lemmas.List.Sorted.{sum_by-IsPermutation}
@@ -12,7 +12,7 @@ use Rattle.std.proofs.Math.Seq.{take-set-lt}
 use Rattle.load_bench.specs.declared.buckets.TheConstants.{BUCKETS, LAST, LONGEST}
 use Rattle.load_bench.specs.Buckets.{bucket_of, greatest_in}
 use Rattle.load_bench.specs.Ranks.{IsAtRank}
-use Rattle.load_bench.specs.Times.{TimesState, greatest_count, one_more, no_times, with_one, with_time, recorded, rank, place_from, time_at, percentile_of}
+use Rattle.load_bench.specs.Times.{TimesState, greatest_count, one_more, no_times, with_time, recorded, rank, place_from, time_at, percentile_of}
 use Rattle.load_bench.proofs.BucketLaws.{within, before_last, in_order, in_last, not_below, close}
 
 -- ---- the first place at which the counts up to it reach what is missing

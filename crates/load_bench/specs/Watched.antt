@@ -1,5 +1,5 @@
 -- What is known of a gateway whose telephones are watched.
-use Rattle.std.specs.Prelude.{ℕ, Bool, true, false, ◌+◌, ◌-◌, ◌^◌, max, nat_lt, ◌==◌, ◌&&◌, ◌||◌, if◌then◌else◌, Option, Some, None}
+use Rattle.std.specs.Prelude.{ℕ, Bool, true, false, ◌+◌, ◌-◌, ◌^◌, max, nat_lt, ◌==◌, ◌&&◌, if◌then◌else◌, Option, Some, None}
 use Rattle.load_bench.specs.declared.offset.Offset.{Offset}
 use Rattle.load_bench.specs.Offsets.{here_at as here_by}
 use Rattle.load_bench.specs.declared.phones.Phones.{Phones}

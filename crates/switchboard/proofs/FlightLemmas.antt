@@ -1,5 +1,5 @@
 -- What falls due of a command, step by step.
-use Rattle.std.proofs.Common.{◌≡◌, ℕ, suc, zero, Bool, true, false, Some, None, refl, sym, ap, ◌∙◌}
+use Rattle.std.proofs.Common.{◌≡◌, ℕ, suc, zero, true, false, Some, None, sym, ap, ◌∙◌}
 use Rattle.outbound.specs.declared.repeat.Repeat.TheVariants.{Sent, GivenUp}
 use Rattle.outbound.specs.Flight.{InFlight}
 use Rattle.switchboard.specs.Flights.{fallen, behind, goes_on, falls}

@@ -1,18 +1,13 @@
 -- What it is to a board that a text came, part by part.
-use Rattle.std.proofs.Common.{◌≡◌, ℕ, Bool, true, List, Option, Some, sym, subst, ap, ◌∙◌}
+use Rattle.std.proofs.Common.{◌≡◌, ℕ, Bool, List, Option, Some, subst}
 use Rattle.std.specs.Prelude.{codes, slice_get}
-use Rattle.std.specs.Global.{Box}
-use Rattle.mgcp_text.specs.declared.message.Message.{Message}
 use Rattle.mgcp_text.specs.declared.message.Param.{Param}
 use Rattle.mgcp_text.specs.declared.message.Verb.{Verb}
 use Rattle.mgcp_text.specs.Message.{param_at}
-use Rattle.agent_texts.specs.declared.tally.Tally.{Tally}
 use Rattle.switchboard.specs.declared.flight.Flight.{Flight}
-use Rattle.switchboard.specs.declared.gateway.Gateway.{Gateway}
-use Rattle.call_office.specs.declared.office.Office.{Office}
 use Rattle.switchboard.specs.declared.switchboard.Switchboard.{Switchboard}
 use Rattle.switchboard.specs.GivingUp.{ended_in, EndsAt}
-use Rattle.switchboard.specs.Hearing.{is_new_to, method_of, AnnouncesNew, AnnouncesWith, AnswersFlight, HearsAnnouncement, HearsCommand, HearsResponse, NotesAt}
+use Rattle.switchboard.specs.Hearing.{is_new_to, method_of, AnnouncesNew, AnswersFlight, HearsAnnouncement, HearsCommand, HearsResponse, NotesAt}
 
 -- the command that a response answers is over, if there is one, and was answered so
 pub heard_response : (place id code : ℕ) (text : List ℕ) (was ended is : Switchboard) (found : Option Flight)

@@ -1,5 +1,5 @@
 -- When something falls due next at the gateways of a board.
-use Rattle.std.specs.Prelude.{◌≡◌, ℕ, List, [], ◌∷◌, Option, Some, None, option_map}
+use Rattle.std.specs.Prelude.{◌≡◌, ℕ, List, [], ◌∷◌, Option, None, option_map}
 use Rattle.outbound.specs.Flight.{InFlight}
 use Rattle.turns.specs.Clock.{earlier}
 use Rattle.call_agent.specs.AgentStands.{AgentStands}

@@ -1,5 +1,5 @@
 -- That a command in flight is over: which one, and what it is to a board that it was given up.
-use Rattle.std.specs.Prelude.{◌≡◌, ℕ, List, Option, Some, None, slice_get}
+use Rattle.std.specs.Prelude.{◌≡◌, ℕ, Option, Some, None, slice_get}
 use Rattle.std.specs.Global.{Box}
 use Rattle.switchboard.specs.declared.flight.Flight.{Flight}
 use Rattle.switchboard.specs.declared.gateway.Gateway.{Gateway}

@@ -1,4 +1,4 @@
-use Rattle.std.proofs.Common.{◌≡◌, ◌+◌, List, refl, ap, arith}
+use Rattle.std.proofs.Common.{◌≡◌, ◌+◌, List, ap, arith}
 use Rattle.std.specs.Prelude.{slice_get}
 use Rattle.call_routing.specs.Exchange.{ExchangeState, line_of, phase_of}
 use Rattle.call_office.specs.declared.care.Care.{Care}

@@ -1,4 +1,4 @@
-use Rattle.std.proofs.Common.{◌≡◌, ℕ, refl, sym, subst, ap, ◌∙◌}
+use Rattle.std.proofs.Common.{ℕ, refl, sym, subst, ap, ◌∙◌}
 use Rattle.std.specs.Global.{Box, Vec}
 use Rattle.std.specs.Prelude.{vec_len}
 use Rattle.load_bench.specs.declared.bench.Bench.{Bench}

@@ -1,6 +1,5 @@
-use Rattle.std.proofs.Common.{◌≡◌, ◌-◌, ◌^◌, true, false, inl, inr, refl, sym, subst, arith, rules}
-use Rattle.std.specs.Prelude.{Err, Result}
-use Rattle.live_agent.specs.declared.wire.Wire.{Wire}
+use Rattle.std.proofs.Common.{◌≡◌, ◌-◌, true, false, inr, refl, arith, rules}
+use Rattle.std.specs.Prelude.{Err}
 use Rattle.live_agent.specs.Handing.{HandsTo}
 use Rattle.live_agent.specs.Serving.{TurnsOnce}
 use Rattle.live_agent.proofs.ServingLemmas.{runs_more, runs_so, stops_ended, stops_failed}

@@ -1,5 +1,4 @@
 use Rattle.std.proofs.Common.{ℕ, ap, refl}
-use Rattle.std.specs.Box.{with_value}
 use Rattle.live_agent.proofs.session.send_issued.Goals as goal
 
 pub returns : goal.returns

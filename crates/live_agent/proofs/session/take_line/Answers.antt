@@ -1,4 +1,4 @@
-use Rattle.std.proofs.Common.{refl, rules}
+use Rattle.std.proofs.Common.{refl}
 use Rattle.live_agent.specs.Handing.{HandsTo}
 use Rattle.live_agent.proofs.TypingLemmas.{line_answered, telephones_heard}
 use Rattle.live_agent.proofs.session.take_line.Goals as goal

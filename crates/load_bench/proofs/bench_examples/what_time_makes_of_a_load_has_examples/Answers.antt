@@ -1,7 +1,6 @@
-use Rattle.std.proofs.Common.{◌≡◌, ℕ, ◌/◌, Option, Some, None, if◌then◌else◌, ⊎_elim, inl, refl, sym, ap, subst}
+use Rattle.std.proofs.Common.{◌≡◌, ℕ, Option, Some, None, if◌then◌else◌, ⊎_elim, inl, refl, sym, ap, subst}
 use Rattle.std.specs.Prelude.{nat_le}
 use Rattle.load_bench.specs.declared.bench.Bench.{Bench}
-use Rattle.load_bench.specs.declared.bench.Course.{Course}
 use Rattle.load_bench.specs.Telephones.{BeginsBy, CountsCame, CountsSent, Ends, Hears, Passes}
 use Rattle.load_bench.proofs.bench_examples.what_time_makes_of_a_load_has_examples.Goals as goal
 

@@ -1,4 +1,4 @@
-use Rattle.std.proofs.Common.{◌≡◌, ℕ, true, arith, refl, subst}
+use Rattle.std.proofs.Common.{true, arith, refl, subst}
 use Rattle.std.specs.Prelude.{IfSome}
 use Rattle.endpoint_names.specs.declared.name.Pattern.TheVariants.{One}
 use Rattle.call_routing.specs.Exchange.{ExchangeState, phase_of}

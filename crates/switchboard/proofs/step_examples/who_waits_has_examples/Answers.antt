@@ -1,4 +1,4 @@
-use Rattle.std.proofs.Common.{◌≡◌, Bool, true, false, List, ℕ, [], ◌∷◌, refl, sym, ap, subst, ◌∙◌, true≢false}
+use Rattle.std.proofs.Common.{◌≡◌, Bool, true, false, List, ℕ, [], ◌∷◌, refl, sym, ap, ◌∙◌, true≢false}
 use Rattle.call_office.specs.Waiting.{waits}
 use Rattle.switchboard.proofs.step_examples.who_waits_has_examples.Goals as goal
 

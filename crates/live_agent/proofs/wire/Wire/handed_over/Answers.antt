@@ -1,4 +1,4 @@
-use Rattle.std.proofs.Common.{◌≡◌, ◌++◌, ◌∷◌, [], Some, None, inl, inr, refl, ◌∙◌, sym, arith}
+use Rattle.std.proofs.Common.{◌≡◌, ◌++◌, ◌∷◌, [], Some, inl, inr, refl, ◌∙◌, sym, arith}
 use Rattle.live_agent.specs.declared.wire.TheConstants.{MOST_AT_ONCE}
 use Rattle.live_agent.specs.Handing.{HandsTo}
 use Rattle.live_agent.proofs.HandingLemmas.{goes_in, goes_out, one_longer, sent_on}
