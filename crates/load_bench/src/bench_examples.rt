@@ -20,6 +20,11 @@ ghost use Rattle.load_bench.specs.Over.{given_up, is_at_end, is_past, last_momen
 ghost use Rattle.load_bench.specs.Telephones.{seconds_behind, BeginsBy, CountsCame, CountsSent, Ends, Hears, Passes, TellsProgress};
 ghost use Rattle.load_bench.specs.Planning.{due_after};
 ghost use Rattle.load_bench.specs.Success.{success_of, is_success};
+ghost use Rattle.load_bench.specs.declared.bench.TheConstants.{MOST_WAITED_FOR, LONGEST_OPENING};
+ghost use Rattle.load_bench.specs.declared.calling.TheConstants.{HOOK_AGAIN, MOST_BEGUN, MOST_STEPS};
+ghost use Rattle.load_bench.specs.declared.phones.TheConstants.{ASKED_AGAIN, RENEWAL};
+ghost use Rattle.load_bench.specs.declared.settings.TheConstants.{ALL, GREATEST_SEED, LONGEST_HOLD, LONGEST_LOAD, MOST_RATE, SHORTEST_LOAD};
+ghost use Rattle.load_bench.specs.declared.verbs.TheConstants.{CODES, FIRST_FINAL, LONGEST_WAY, SLOTS};
 
 /// A signal is heard as what it is, a lamp isn't heard, and the first that is heard counts.
 pub fn signals_are_heard()
@@ -91,6 +96,32 @@ pub fn success_is_told()
     ensures enough { is_success 9900 99 100 ≡ true }
     ensures too_few { is_success 9901 99 100 ≡ false }
     ensures nothing { is_success 0 0 0 ≡ false }
+{}
+
+/// So many, and so long: the numbers of a load of which no definition speaks.
+pub fn a_load_has_these_numbers()
+    // Gateways are asked so many at a time, and again so long afterwards; so long it is waited for all of them.
+    ensures waited_for { MOST_WAITED_FOR ≡ 32 }
+    ensures asked_again { ASKED_AGAIN ≡ 500 }
+    ensures renewal { RENEWAL ≡ 20000 }
+    ensures opening { LONGEST_OPENING ≡ 3000 }
+    // So many attempts are begun at once, a call goes on by so many steps at once, and a handset is asked again so long afterwards.
+    ensures begun { MOST_BEGUN ≡ 1000 }
+    ensures steps { MOST_STEPS ≡ 10 }
+    ensures hook_again { HOOK_AGAIN ≡ 1000 }
+    // So many commands to a gateway are known at a time, and one that is under way for so long at the end is given up. Return codes are
+    // less than this one, and end a command from that one on.
+    ensures slots { SLOTS ≡ 256 }
+    ensures way { LONGEST_WAY ≡ 10000 }
+    ensures codes { CODES ≡ 1000 }
+    ensures first_final { FIRST_FINAL ≡ 200 }
+    // Words ask for no more, and for no less.
+    ensures rate { MOST_RATE ≡ 10000000 }
+    ensures shortest { SHORTEST_LOAD ≡ 1000 }
+    ensures longest { LONGEST_LOAD ≡ 86400000 }
+    ensures hold { LONGEST_HOLD ≡ 3600000 }
+    ensures seed { GREATEST_SEED ≡ 999999999999999999 }
+    ensures all { ALL ≡ 10000 }
 {}
 
 /// When something is to be done.
