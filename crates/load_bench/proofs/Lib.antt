@@ -2,3 +2,4 @@ pub mod Computing
 pub mod BucketLaws
 pub mod RankLaws
 pub mod DueLemmas
+pub mod OpeningLemmas

@@ -17,4 +17,5 @@ pub mod Asked
 pub mod Success
 pub mod Due
 pub mod Over
+pub mod Opening
 pub mod Telephones

@@ -1,7 +1,9 @@
 //! A bench: its gateways and lines, from the first question to the end.
-ghost use Rattle.std.specs.Prelude.{◌≡◌, ◌⊎◌, [], true, is_some, Option, Some, None};
+ghost use Rattle.std.specs.Prelude.{◌≡◌, ◌⊎◌, [], ◌∷◌, ◌++◌, true, is_some, IfOk, OnOk, Option, Some, None};
+ghost use Rattle.load_bench.specs.Counting.{no_numbers};
 ghost use Rattle.load_bench.specs.Due.{behind_start, bench_due, due_at_line, sooner};
 ghost use Rattle.load_bench.specs.declared.settings.LoadFault.TheVariants.{OutOfMemory};
+ghost use Rattle.load_bench.specs.Opening.{fresh_line, lines_behind, unfailed, OpensAt};
 ghost use Rattle.load_bench.specs.Over.{bench_over, given_up};
 ghost use Rattle.load_bench.specs.Telephones.{BeginsBy, CountsCame, CountsSent, Ends, Passes, TellsProgress};
 ghost use Rattle.load_bench.specs.Success.{is_success};
@@ -126,7 +128,9 @@ impl Drop for Bench {
 }
 
 // How a load goes that is opened at this moment, in ms.
-fn course_of(alloc: Global, settings: LoadSettings, now: u64) -> Result<Box<Course>, OutOfMemory> {
+fn course_of(alloc: Global, settings: LoadSettings, now: u64) -> Result<Box<Course>, OutOfMemory>
+    ensures { IfOk result (λ course. OpensAt settings now course.value) }
+{
     let plan = Plan {
         rate: Rate::of(settings.rate),
         length: settings.length,
@@ -158,7 +162,11 @@ fn verbs_of(alloc: Global, is_routed: bool) -> Result<Option<Box<Verbs>>, OutOfM
 
 impl Bench {
     /// One without gateways, at this moment, in ms, in a box. An error is for want of memory.
-    pub fn new(alloc: Global, settings: LoadSettings, now: u64) -> Result<Box<Bench>, OutOfMemory> {
+    pub fn new(alloc: Global, settings: LoadSettings, now: u64) -> Result<Box<Bench>, OutOfMemory>
+        ensures course { IfOk result (λ bench. OpensAt settings now bench.value.course.value) }
+        ensures lines { IfOk result (λ bench. bench.value.lines.items ≡ []) }
+        ensures tally { IfOk result (λ bench. bench.value.tally.value.all.value.numbers ≡ no_numbers) }
+    {
         // By hand: a question mark is some twenty steps more, at each of which a check pays for all that stands there.
         let Ok(course) = course_of(alloc, settings, now) else {
             return Err(AllocError);
@@ -188,7 +196,11 @@ impl Bench {
         address: SocketAddrV4,
         number: u64,
         keys: &Text,
-    ) -> Result<(), OutOfMemory> {
+    ) -> Result<(), OutOfMemory>
+        ensures line { OnOk result (self.new.lines.items ≡ self.old.lines.items ++ fresh_line address number keys.now ∷ []) }
+        ensures course { self.new.course ≡ self.old.course }
+        ensures tally { self.new.tally ≡ self.old.tally }
+    {
         let Ok(keys) = Vec::from_slice(self.alloc, keys.as_bytes()) else {
             return Err(AllocError);
         };
@@ -215,7 +227,11 @@ impl Bench {
         commands: SocketAddrV4,
         telephones: SocketAddrV4,
         numbers: &[Text],
-    ) -> Result<(), OutOfMemory> {
+    ) -> Result<(), OutOfMemory>
+        ensures lines { OnOk result (self.new.lines.items ≡ self.old.lines.items ++ lines_behind telephones 0 numbers.now) }
+        ensures course { self.new.course ≡ self.old.course }
+        ensures tally { self.new.tally ≡ self.old.tally }
+    {
         let first = self.lines.len();
         let mut number: u64 = 0;
         for keys in numbers {
@@ -261,7 +277,10 @@ impl Bench {
 
     // This is to be said to telephones.
     pub(crate) fn say(&mut self, to: SocketAddrV4, order: Order)
-        ensures { self.new.course.value.started ≡ self.old.course.value.started }
+        ensures started { self.new.course.value.started ≡ self.old.course.value.started }
+        ensures course { unfailed self.new.course.value ≡ unfailed self.old.course.value }
+        ensures lines { self.new.lines ≡ self.old.lines }
+        ensures tally { self.new.tally ≡ self.old.tally }
     {
         if self.said.push(Said { to, order }).is_err() {
             self.refuse();
@@ -305,7 +324,10 @@ impl Bench {
     // Asks a gateway to tell what changes, where that is due, and one that isn't watched yet how its lines are, where it may be waited
     // for: whether it is now.
     fn ask_one(&mut self, place: usize, now: u64, may_wait: bool) -> bool
-        ensures { self.new.course.value.started ≡ self.old.course.value.started }
+        ensures started { self.new.course.value.started ≡ self.old.course.value.started }
+        ensures course { unfailed self.new.course.value ≡ unfailed self.old.course.value }
+        ensures lines { self.new.lines ≡ self.old.lines }
+        ensures tally { self.new.tally ≡ self.old.tally }
     {
         let Some(gateway) = self.gateways.get_mut(place) else {
             return false;
@@ -326,7 +348,10 @@ impl Bench {
     /// Asks gateways to tell what changes, and those that aren't watched yet how their lines are: those that never were asked, and those
     /// that were long ago; of the others few at a time, since the socket has room for few answers.
     pub fn ask(&mut self, now: u64)
-        ensures { self.new.course.value.started ≡ self.old.course.value.started }
+        ensures started { self.new.course.value.started ≡ self.old.course.value.started }
+        ensures course { unfailed self.new.course.value ≡ unfailed self.old.course.value }
+        ensures lines { self.new.lines ≡ self.old.lines }
+        ensures tally { self.new.tally ≡ self.old.tally }
     {
         let mut waited = self.waited_for(now);
         for place in 0..self.gateways.len() {

@@ -1,7 +1,7 @@
 //! Worked examples of the definitions, as theorems: each sentence of a definition has one that a slip in it breaks.
 #![tactic(auto, unfolding(crate::proofs::Computing::on_examples))]
 
-ghost use Rattle.std.specs.Prelude.{◌≡◌, ◌^◌, ◌-◌, ℕ, codes, [], ◌∷◌, map, true, false, is_some, Option, Some, None};
+ghost use Rattle.std.specs.Prelude.{◌≡◌, ◌^◌, ◌-◌, ℕ, codes, [], ◌∷◌, map, true, false, is_some, List, Option, Some, None};
 ghost use Rattle.std.specs.declared.net.socket_addr.SocketAddr.{SocketAddr};
 ghost use Rattle.std.specs.declared.net.socket_addr.SocketAddrV4.{SocketAddrV4};
 ghost use Rattle.connections.specs.declared.mode.Mode.TheVariants as modes;
@@ -16,9 +16,12 @@ ghost use Rattle.load_bench.specs.declared.bench.Course.{Course};
 ghost use Rattle.load_bench.specs.declared.stage.Stage.TheVariants as stages;
 ghost use Rattle.load_bench.specs.Due.{behind_start, due_among, due_begun, sooner};
 ghost use Rattle.load_bench.specs.declared.settings.LoadFault.TheVariants as faults;
+ghost use Rattle.load_bench.specs.Opening.{fresh_line, lines_behind, unfailed, BeginsWith, OpensAt};
+ghost use Rattle.load_bench.specs.declared.line.BenchLine.{BenchLine};
+ghost use Rattle.load_bench.specs.declared.settings.LoadSettings.{LoadSettings};
 ghost use Rattle.load_bench.specs.Over.{given_up, is_at_end, is_past, last_moment, bench_over};
 ghost use Rattle.load_bench.specs.Telephones.{seconds_behind, BeginsBy, CountsCame, CountsSent, Ends, Hears, Passes, TellsProgress};
-ghost use Rattle.load_bench.specs.Planning.{due_after};
+ghost use Rattle.load_bench.specs.Planning.{due_after, rate_of};
 ghost use Rattle.load_bench.specs.Success.{success_of, is_success};
 ghost use Rattle.load_bench.specs.declared.bench.TheConstants.{MOST_WAITED_FOR, LONGEST_OPENING};
 ghost use Rattle.load_bench.specs.declared.calling.TheConstants.{HOOK_AGAIN, MOST_BEGUN, MOST_STEPS};
@@ -122,6 +125,42 @@ pub fn a_load_has_these_numbers()
     ensures hold { LONGEST_HOLD ≡ 3600000 }
     ensures seed { GREATEST_SEED ≡ 999999999999999999 }
     ensures all { ALL ≡ 10000 }
+{}
+
+/// The bench with which a load begins.
+pub fn what_a_load_begins_with_has_examples()
+    // It goes as it is asked for, from the moment on at which it is opened.
+    ensures settings { (settings : LoadSettings) (course : Course) → OpensAt settings 700 course → course.settings ≡ settings }
+    ensures rate { (settings : LoadSettings) (course : Course) → OpensAt settings 700 course → course.plan.rate ≡ rate_of settings.rate }
+    ensures length { (settings : LoadSettings) (course : Course) → OpensAt settings 700 course → course.plan.length ≡ settings.length }
+    ensures opened { (settings : LoadSettings) (course : Course) → OpensAt settings 700 course → course.opened ≡ 700 }
+    // Nothing was done yet.
+    ensures planned { (settings : LoadSettings) (course : Course) → OpensAt settings 700 course → course.plan.begun ≡ 0 }
+    ensures idle { (settings : LoadSettings) (course : Course) → OpensAt settings 700 course → course.idle.lines.items ≡ [] }
+    ensures active { (settings : LoadSettings) (course : Course) → OpensAt settings 700 course → course.active ≡ 0 }
+    ensures started { (settings : LoadSettings) (course : Course) → OpensAt settings 700 course → course.started ≡ None }
+    ensures told { (settings : LoadSettings) (course : Course) → OpensAt settings 700 course → course.told ≡ 0 }
+    ensures counted { (settings : LoadSettings) (bench : Bench) → BeginsWith settings 700 [] bench →
+        bench.tally.value.all.value.numbers.at_rest ≡ 0 }
+    // Why it is given up is all that isn't said of it.
+    ensures given_up { (course : Course) → (unfailed course).fault ≡ None }
+    ensures not_given_up { (course : Course) → course.fault ≡ None → unfailed course ≡ course }
+    // It has a line for each number, which is at rest.
+    ensures fresh { (at : SocketAddrV4) → fresh_line at 2 (codes "22") ≡ record {
+      address = at;
+      number = 2;
+      keys = codes "22";
+      telephone = record { is_off_hook = false; signals = []; connections = [] };
+      changed = 0;
+      asked = None;
+      caller = None;
+    } }
+    ensures lines { (at : SocketAddrV4) → lines_behind at 0 (codes "21" ∷ codes "22" ∷ [])
+        ≡ fresh_line at 1 (codes "21") ∷ fresh_line at 2 (codes "22") ∷ [] }
+    ensures no_line { (at : SocketAddrV4) → lines_behind at 7 [] ≡ [] }
+    ensures last { (at : SocketAddrV4) → lines_behind at (2 ^ 64 - 1) (codes "21" ∷ []) ≡ fresh_line at (2 ^ 64 - 1) (codes "21") ∷ [] }
+    ensures these { (settings : LoadSettings) (lines : List BenchLine) (bench : Bench) → BeginsWith settings 700 lines bench →
+        bench.lines.items ≡ lines }
 {}
 
 /// When something is to be done.

@@ -1,6 +1,6 @@
 //! What is counted of a load: of all of it, and of intervals of one length, of which there are at most 600. Nothing of it grows with calls.
-ghost use Rattle.std.specs.Prelude.{◌≡◌};
-ghost use Rattle.load_bench.specs.Counting.{place_of, interval_seconds, interval_of};
+ghost use Rattle.std.specs.Prelude.{◌≡◌, IfOk};
+ghost use Rattle.load_bench.specs.Counting.{no_numbers, place_of, interval_seconds, interval_of};
 ghost use Rattle.load_bench.specs.Success.{success_of, is_success};
 
 use crate::boxing::boxed;
@@ -105,7 +105,9 @@ pub(crate) fn is_success(wanted: u64, at_rest: u32, attempts: u32) -> bool
 
 impl LoadTally {
     /// Nothing yet, of a load of so many seconds, in a box, since it is large. An error is for want of memory.
-    pub(crate) fn new(alloc: Global, seconds: u64) -> Result<Box<LoadTally>, OutOfMemory> {
+    pub(crate) fn new(alloc: Global, seconds: u64) -> Result<Box<LoadTally>, OutOfMemory>
+        ensures { IfOk result (λ tally. tally.value.all.value.numbers ≡ no_numbers) }
+    {
         let Ok(all) = Counts::new(alloc) else {
             return Err(AllocError);
         };
