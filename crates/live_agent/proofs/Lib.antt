@@ -8,3 +8,4 @@ pub mod ServingLemmas
 pub mod DatagramLemmas
 pub mod TelephoneLemmas
 pub mod TypedCommandLemmas
+pub mod OpeningLemmas

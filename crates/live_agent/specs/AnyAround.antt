@@ -19,6 +19,10 @@ no_traffic around = untold
 abbrev pub no_sockets : ℕ → List SocketAddrV4
 no_sockets around = []
 
+-- whose clock tells any moment
+abbrev pub passes_any : ℕ → Result ℕ Fault → Type 0
+passes_any around outcome = ⊤
+
 abbrev pub sends_any : ℕ → SocketAddrV4 → List ℕ → Result ⊤ Fault → ℕ → Type 0
 sends_any around to bytes outcome after = ⊤
 

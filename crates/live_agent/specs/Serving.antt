@@ -8,6 +8,7 @@ use Rattle.live_ends.specs.declared.ending.CommonEnding.{CommonEnding}
 use Rattle.live_ends.specs.declared.ending.CommonEnding.TheVariants.{Served, Help, Version, Usage, Told as AlreadyTold, BadAddress, BadNetwork, Unreadable, Unwritable, Unbound, Clock, Write, OutOfMemory}
 use Rattle.live_outlets.specs.declared.written.Written.{Written}
 use Rattle.load_bench.specs.declared.settings.LoadFault.TheVariants as faults
+use Rattle.load_bench.specs.declared.settings.LoadSettings.{LoadSettings}
 use Rattle.surroundings.specs.Sending.{Traffic}
 use Rattle.surroundings.specs.declared.surroundings.Fault.{Fault}
 use Rattle.surroundings.specs.declared.surroundings.Told.{Told}
@@ -162,9 +163,11 @@ ServesBegun {S} answers serves writes config is_routed was ending is =
 
 -- A load is made: it begins, it is served, and it ends. Or it ends at once as it begins, or memory is refused before that.
 abbrev pub LoadsOver :
-    {S W : Type 0} → (S → SocketAddr → List ℕ → S → Type 0) → (Result ⊤ Fault → Switchboard → Wire S → Switchboard → Wire S → Type 0)
-    → (W → Journal → ℕ → W → Journal → Type 0) → AgentConfig → Bool → Wire S → LoadEnding → Wire S → Type 0
-LoadsOver {S} answers serves writes config is_routed was ending is =
+    {S W : Type 0} → (S → SocketAddr → List ℕ → S → Type 0) → (S → Result ℕ Fault → Type 0)
+    → (Result ⊤ Fault → Switchboard → Wire S → Switchboard → Wire S → Type 0)
+    → (W → Journal → ℕ → W → Journal → Type 0) → AgentConfig → LoadSettings → Wire S → LoadEnding → Wire S → Type 0
+LoadsOver {S} answers passes serves writes config settings was ending is =
     ((ending ≡ Common OutOfMemory) × (is ≡ was))
-    ⊎ (((early : CommonEnding) × BeginsLoad answers (Some early) was is × (ending ≡ Common early))
-    ⊎ ((begun : Wire S) × BeginsLoad answers None was begun × ServesBegun answers serves writes config is_routed begun ending is))
+    ⊎ (((early : CommonEnding) × BeginsLoad answers passes config settings (Some early) was is × (ending ≡ Common early))
+    ⊎ ((begun : Wire S) × BeginsLoad answers passes config settings None was begun
+    × ServesBegun answers serves writes config settings.is_routed begun ending is))

@@ -1,19 +1,26 @@
 -- What a load makes of time, and of what its telephones say: what is said to them then, and whether it is over.
-use Rattle.std.specs.Prelude.{◌≡◌, ◌⊎◌, ℕ, Bool, true, false, ◌&&◌, if◌then◌else◌, is_some, vec_len, length, take, List, [], ◌∷◌, Option, Some, None}
+use Rattle.std.specs.Prelude.{◌≡◌, ◌⊎◌, ℕ, Bool, true, false, ◌&&◌, if◌then◌else◌, is_some, vec_len, length, take, List, [], ◌∷◌, ◌++◌, Option, Some, None, Result, Ok}
 use Rattle.std.specs.Global.{Box}
 use Rattle.std.specs.declared.net.socket_addr.SocketAddr.{SocketAddr}
 use Rattle.std.specs.declared.net.socket_addr.SocketAddr.TheVariants.{V4}
+use Rattle.std.specs.declared.net.socket_addr.SocketAddrV4.{SocketAddrV4}
+use Rattle.agent_config.specs.declared.config.AgentConfig.{AgentConfig}
+use Rattle.agent_config.specs.declared.config.GatewayConfig.{GatewayConfig}
 use Rattle.load_bench.specs.Asked.{order_text}
+use Rattle.load_bench.specs.Opening.{lines_behind, BeginsWith}
 use Rattle.load_bench.specs.Over.{bench_over, given_up}
 use Rattle.load_bench.specs.Telephones.{Ends as EndsThem, Hears as HearsThem, Passes as PassesBench, TellsProgress}
 use Rattle.load_bench.specs.declared.bench.Bench.{Bench}
 use Rattle.load_bench.specs.declared.bench.Course.{Course}
+use Rattle.load_bench.specs.declared.line.BenchLine.{BenchLine}
 use Rattle.load_bench.specs.declared.said.Said.{Said}
 use Rattle.load_bench.specs.Success.{is_success}
 use Rattle.load_bench.specs.declared.settings.LoadFault.{LoadFault}
 use Rattle.load_bench.specs.declared.settings.LoadFault.TheVariants.{OutOfMemory}
+use Rattle.load_bench.specs.declared.settings.LoadSettings.{LoadSettings}
 use Rattle.live_ends.specs.declared.ending.CommonEnding.{CommonEnding}
 use Rattle.live_ends.specs.declared.ending.CommonEnding.TheVariants as endings
+use Rattle.surroundings.specs.declared.surroundings.Fault.{Fault}
 use Rattle.live_agent.specs.declared.loading.Load.{Load}
 use Rattle.live_agent.specs.declared.loading.TheConstants.{ROOM}
 use Rattle.live_agent.specs.declared.loading.LoadEnding.{LoadEnding}
@@ -155,13 +162,27 @@ abbrev pub SaysTo : {S : Type 0} → (S → SocketAddr → List ℕ → S → Ty
 SaysTo answers before asked after None = ⊥
 SaysTo answers before asked after (Some load) = SaysAll answers before asked after load.value.bench.value × (vec_len load.value.room ≡ ROOM)
 
--- A load is made over a wire, which ends with it: its telephones are asked what it has to ask them. Or it ends at once, and none is made:
--- the clock failed, or memory was refused.
-abbrev pub BeginsLoad : {S : Type 0} → (S → SocketAddr → List ℕ → S → Type 0) → Option CommonEnding → Wire S → Wire S → Type 0
-BeginsLoad answers None was is =
-    (asked : Bench) × SaysTo answers was.around asked is.around is.load × (is.end ≡ None)
+-- the lines of a gateway that have telephones: all where it is known where these are, and none else
+abbrev pub lines_at : Option SocketAddrV4 → List (List ℕ) → List BenchLine
+lines_at None numbers = []
+lines_at (Some telephones) numbers = lines_behind telephones 0 numbers
+
+-- those of these gateways, one gateway behind another
+abbrev pub lines_of : List GatewayConfig → List BenchLine
+lines_of [] = []
+lines_of (gateway ∷ more) = lines_at gateway.phones gateway.numbers.items ++ lines_of more
+
+-- A load is made over a wire, which ends with it: it begins as it is asked for, at the moment that the clock tells, with the lines of a
+-- configuration that have telephones, and these are asked what it has to ask them. Or it ends at once, and none is made: the clock failed,
+-- or memory was refused.
+abbrev pub BeginsLoad :
+    {S : Type 0} → (S → SocketAddr → List ℕ → S → Type 0) → (S → Result ℕ Fault → Type 0) → AgentConfig → LoadSettings → Option CommonEnding
+    → Wire S → Wire S → Type 0
+BeginsLoad answers passes config settings None was is =
+    (now : ℕ) × (asked : Bench) × passes was.around (Ok now) × BeginsWith settings now (lines_of config.gateways.items) asked
+    × SaysTo answers was.around asked is.around is.load × (is.end ≡ None)
     × (is ≡ record was { around = is.around; journal = is.journal; load = is.load; end = is.end })
-BeginsLoad answers (Some ending) was is =
+BeginsLoad answers passes config settings (Some ending) was is =
     ((ending ≡ endings.Clock) ⊎ (ending ≡ endings.OutOfMemory)) × (is ≡ record was { around = is.around })
 
 -- nobody is to tell anything more, by the clock by which commands were counted, and what is to be said for that is said

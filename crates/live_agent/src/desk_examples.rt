@@ -28,6 +28,7 @@ ghost use Rattle.load_bench.specs.declared.bench.Course.{Course};
 ghost use Rattle.load_bench.specs.declared.said.Order.TheVariants as orders;
 ghost use Rattle.load_bench.specs.declared.said.Said.{Said};
 ghost use Rattle.load_bench.specs.declared.settings.LoadFault.TheVariants as faults;
+ghost use Rattle.load_bench.specs.declared.settings.LoadSettings.{LoadSettings};
 ghost use Rattle.surroundings.specs.Sending.{Traffic};
 ghost use Rattle.surroundings.specs.declared.surroundings.Fault.{Fault};
 ghost use Rattle.transmission.specs.declared.output.OutDatagram.{OutDatagram};
@@ -45,7 +46,7 @@ ghost use Rattle.switchboard.specs.declared.switchboard.Switchboard.{Switchboard
 ghost use Rattle.live_agent.specs.declared.wire.Wire.{Wire};
 ghost use Rattle.live_agent.specs.AnyAround.{DoesNextAnywhere};
 ghost use Rattle.live_agent.specs.Clock.{is_behind};
-ghost use Rattle.live_agent.specs.AnyAround.{no_sockets, no_traffic, sends_any, sleeps_long, sleeps_so, receives_any, hears_any, answers_any, answers_more, answers_never, asks_at, asks_in_order, becomes_any, ends_any, serves_any, serves_never, writes_any, writes_nothing};
+ghost use Rattle.live_agent.specs.AnyAround.{no_sockets, no_traffic, sends_any, sleeps_long, sleeps_so, receives_any, hears_any, answers_any, answers_more, answers_never, asks_at, asks_in_order, becomes_any, ends_any, passes_any, serves_any, serves_never, writes_any, writes_nothing};
 ghost use Rattle.live_agent.specs.Clock.{milliseconds};
 ghost use Rattle.live_agent.specs.Datagrams.{with_stranger, DealsIf, HearsBy, HearsDatagram, HearsOne, HearsPacket, HearsTexts, SettlesIf, StepsAt, TakesEach, TakesElse, TakesFound, TakesLooked, TakesNext, TakesReceived};
 ghost use Rattle.switchboard.specs.Hearing.{HearsText};
@@ -327,9 +328,12 @@ pub fn what_telephones_are_told_has_examples()
     ensures counts_for_none { (is : Option (Box Load)) → CountsFor becomes_any None is → is ≡ None }
     ensures counts_for_one { (load : Box Load) → CountsFor becomes_any (Some load) None → ⊥ }
     // A load begins with its wire's end, and its report changes nothing that was counted.
-    ensures begins { (was is : Wire ℕ) → BeginsLoad answers_any None was is → is.end ≡ None }
-    ensures begins_none { (ending : CommonEnding) (was is : Wire ℕ) → BeginsLoad answers_any (Some ending) was is → is.load ≡ was.load }
-    ensures begins_unserved { (was is : Wire ℕ) → BeginsLoad answers_any (Some CommonEnding.Served) was is → ⊥ }
+    ensures begins { (config : AgentConfig) (settings : LoadSettings) (was is : Wire ℕ) →
+        BeginsLoad answers_any passes_any config settings None was is → is.end ≡ None }
+    ensures begins_none { (config : AgentConfig) (settings : LoadSettings) (ending : CommonEnding) (was is : Wire ℕ) →
+        BeginsLoad answers_any passes_any config settings (Some ending) was is → is.load ≡ was.load }
+    ensures begins_unserved { (config : AgentConfig) (settings : LoadSettings) (was is : Wire ℕ) →
+        BeginsLoad answers_any passes_any config settings (Some CommonEnding.Served) was is → ⊥ }
     ensures reports { (was is : Bench) → Reports was is → is.tally ≡ was.tally }
     ensures unmade_for { (bench : Bench) → bench.course.value.fault ≡ Some faults.NoLines →
         load_ending bench ≡ loads.Unmade faults.NoLines }

@@ -1,6 +1,7 @@
 //! Makes a load: calls at a rate between the telephones of gateways, which another call agent serves, or this program's own exchange.
-ghost use Rattle.std.specs.Prelude.{◌≡◌, ◌≤◌, ◌&&◌, true, false, is_some, length, take, vec_len, IfOk};
+ghost use Rattle.std.specs.Prelude.{◌≡◌, ◌≤◌, ◌&&◌, ◌++◌, true, false, is_some, length, take, vec_len, IfOk, OnOk};
 ghost use Rattle.load_bench.specs.declared.settings.LoadFault.TheVariants.{OutOfMemory};
+ghost use Rattle.load_bench.specs.Opening.{BeginsWith};
 ghost use Rattle.load_bench.specs.Over.{bench_over};
 ghost use Rattle.load_bench.specs.Telephones.{CountsCame, CountsSent, Hears};
 ghost use Rattle.live_agent.specs.Clock.{milliseconds};
@@ -8,14 +9,15 @@ ghost use Rattle.live_agent.specs.Handing.{HandsTo};
 ghost use Rattle.live_agent.specs.Serving.{has_served, EndsReported, LoadsOver, Serves, ServesBegun, TurnsOnce};
 ghost use Rattle.live_agent.specs.declared.loading.LoadEnding.TheVariants.{Unmade};
 ghost use Rattle.live_agent.specs.declared.loading.TheConstants.{ROOM};
-ghost use Rattle.live_agent.specs.Telephones.{end_of, load_ending, BeginsLoad, CountsFor, EndsLoad, HearsOnce, HearsTelephones, KeepsRoom, PassesLoad, Reports};
+ghost use Rattle.live_agent.specs.Telephones.{end_of, lines_at, lines_of, load_ending, BeginsLoad, CountsFor, EndsLoad};
+ghost use Rattle.live_agent.specs.Telephones.{HearsOnce, HearsTelephones, KeepsRoom, PassesLoad, Reports};
 ghost use Rattle.live_agent.specs.Telephones.{SaysAll, SaysAndReports, SaysEach, SaysEnded, SaysOne, SaysPassed};
 ghost use Rattle.live_agent.specs.Wiring.{due_of, with_read, FallsDueOver};
 
 use crate::recorder::Recorder;
 use crate::serving::{MICROSECONDS, WireSettings, open_wire, serve_config};
 use crate::wire::Wire;
-use agent_config::AgentConfig;
+use agent_config::{AgentConfig, GatewayConfig};
 use exchange_log::peer_text;
 use live_ends::{AddressWord, CommonEnding, SocketWanted};
 use live_outlets::{Outlets, boxed};
@@ -364,19 +366,44 @@ impl<S: Surroundings + Drop> Wire<S> {
     }
 }
 
+// Adds a gateway, if it has telephones.
+fn add_telephones(bench: &mut Bench, gateway: &GatewayConfig) -> Result<(), OutOfMemory>
+    ensures lines { OnOk result (bench.new.lines.items
+        ≡ bench.old.lines.items ++ lines_at gateway.now.phones gateway.now.numbers.items) }
+    ensures course { bench.new.course ≡ bench.old.course }
+    ensures tally { bench.new.tally ≡ bench.old.tally }
+{
+    match gateway.phones {
+        Some(telephones) => {
+            bench.add_gateway(gateway.address, telephones, gateway.numbers.as_slice())
+        }
+        None => Ok(()),
+    }
+}
+
+// Adds the gateways of a configuration that have telephones.
+fn fill(bench: &mut Bench, config: &AgentConfig) -> Result<(), OutOfMemory>
+    ensures lines { OnOk result (bench.new.lines.items ≡ bench.old.lines.items ++ lines_of config.now.gateways.items) }
+    ensures course { bench.new.course ≡ bench.old.course }
+    ensures tally { bench.new.tally ≡ bench.old.tally }
+{
+    for gateway in config.gateways.iter() {
+        add_telephones(bench, gateway)?;
+    }
+    Ok(())
+}
+
 // The bench of a configuration's gateways that have telephones, which are asked at this moment, in ms.
 fn bench_of(
     alloc: Global,
     config: &AgentConfig,
     settings: LoadSettings,
     now: u64,
-) -> Result<Box<Bench>, OutOfMemory> {
+) -> Result<Box<Bench>, OutOfMemory>
+    ensures { IfOk result (λ bench. BeginsWith settings now (lines_of config.now.gateways.items) bench.value) }
+{
     let mut bench = Bench::new(alloc, settings, now)?;
-    for gateway in config.gateways.iter() {
-        if let Some(telephones) = gateway.phones {
-            bench.add_gateway(gateway.address, telephones, gateway.numbers.as_slice())?;
-        }
-    }
+    fill(&mut *bench, config)?;
     bench.ask(now);
     Ok(bench)
 }
@@ -403,7 +430,7 @@ fn begin<S: Surroundings + Drop>(
     settings: LoadSettings,
     wire: &mut Wire<S>,
 ) -> Option<CommonEnding>
-    ensures { BeginsLoad S.answers result wire.old wire.new }
+    ensures { BeginsLoad S.answers S.passes config.now settings result wire.old wire.new }
 {
     let Ok(now) = wire.around.moment() else {
         return Some(CommonEnding::Clock);
@@ -487,9 +514,9 @@ pub fn load_over<S: Surroundings + Drop, W: Recorder>(
     wire: &mut Wire<S>,
     recorder: &mut W,
 ) -> LoadEnding
-    ensures { LoadsOver S.answers
+    ensures { LoadsOver S.answers S.passes
         (Serves S.passes S.tells (TurnsOnce S.traffic S.sockets (HandsTo S.sends S.traffic) S.passes S.dates S.tells S.sleeps S.receives
-        S.hears S.answers W.writes)) W.writes config.now settings.is_routed wire.old result wire.new }
+        S.hears S.answers W.writes)) W.writes config.now settings wire.old result wire.new }
 {
     let Ok(agent) = peer_text(alloc, config.own) else {
         return LoadEnding::Common(CommonEnding::OutOfMemory);

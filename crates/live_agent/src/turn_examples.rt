@@ -1,10 +1,11 @@
 //! Worked examples of what the parts of a turn do, as theorems: of each relation what it says of its parts.
 #![tactic(auto)]
 
-ghost use Rattle.std.specs.Prelude.{◌≡◌, ⊤, [], ℕ, Bool, true, false, List, Option, Some, None, Result, is_some, length, not, slice_get, vec_len};
+ghost use Rattle.std.specs.Prelude.{◌≡◌, ⊤, [], ◌∷◌, ◌++◌, ℕ, Bool, true, false, List, Option, Some, None, Result, Ok, codes, is_some, length, not, slice_get, vec_len};
 ghost use Rattle.std.specs.declared.net.socket_addr.SocketAddrV4.{SocketAddrV4};
 ghost use Rattle.std.specs.Global.{Box};
 ghost use Rattle.agent_config.specs.declared.config.AgentConfig.{AgentConfig};
+ghost use Rattle.agent_config.specs.declared.config.GatewayConfig.{GatewayConfig};
 ghost use Rattle.call_office.specs.Waiting.{Settles};
 ghost use Rattle.surroundings.specs.declared.surroundings.Fault.{Fault};
 ghost use Rattle.surroundings.specs.declared.surroundings.Told.{Told};
@@ -19,12 +20,15 @@ ghost use Rattle.live_agent.specs.declared.loading.Load.{Load};
 ghost use Rattle.live_agent.specs.declared.loading.LoadEnding.{LoadEnding};
 ghost use Rattle.live_agent.specs.declared.loading.LoadEnding.TheVariants as loads;
 ghost use Rattle.live_agent.specs.declared.wire.Wire.{Wire};
-ghost use Rattle.live_agent.specs.AnyAround.{sends_any, receives_any, hears_any, answers_any, becomes_any, serves_never, writes_any};
+ghost use Rattle.live_agent.specs.AnyAround.{sends_any, receives_any, hears_any, answers_any, becomes_any, passes_any, serves_never, writes_any};
 ghost use Rattle.live_agent.specs.Datagrams.{DealsIf, HearsAt, StepsAt, TakesAll, TakesDatagram, TakesEach, TakesElse, TakesOver};
 ghost use Rattle.live_agent.specs.Sending.{SendsOutputs};
 ghost use Rattle.live_agent.specs.Serving.{has_served, LoadsOver};
 ghost use Rattle.live_agent.specs.Settling.{SendsEach, SettlesAll, SettlesNow, ShowsEach};
-ghost use Rattle.live_agent.specs.Telephones.{ending_in, CountsFor, EndsLoad, HearsIn, OfLoad};
+ghost use Rattle.live_agent.specs.Telephones.{ending_in, lines_at, lines_of, BeginsLoad, CountsFor, EndsLoad, HearsIn, OfLoad};
+ghost use Rattle.load_bench.specs.Opening.{fresh_line, BeginsWith};
+ghost use Rattle.load_bench.specs.declared.bench.Bench.{Bench};
+ghost use Rattle.load_bench.specs.declared.settings.LoadSettings.{LoadSettings};
 ghost use Rattle.live_agent.specs.Ticking.{GivesUpAll, GivesUpMany, TicksAll, TicksEach, WakesAll, WakesEach, WakesMany, WakesNext};
 ghost use Rattle.live_agent.specs.Wiring.{AsksNext, IsSituation};
 
@@ -93,6 +97,17 @@ pub fn what_a_load_does_has_examples()
     ensures clock { has_served CommonEnding.Clock ≡ false }
     ensures memory { has_served CommonEnding.OutOfMemory ≡ false }
     // A load is made only where its exchange served.
-    ensures never_made { (config : AgentConfig) (is_enough : Bool) (was is : Wire ℕ) →
-        LoadsOver answers_any serves_never writes_any config true was (loads.Made is_enough) is → ⊥ }
+    ensures never_made { (config : AgentConfig) (settings : LoadSettings) (is_enough : Bool) (was is : Wire ℕ) →
+        LoadsOver answers_any passes_any serves_never writes_any config settings was (loads.Made is_enough) is → ⊥ }
+    // Each line of a gateway calls whose telephones it is known where they are, and none of another gateway.
+    ensures unknown { lines_at None (codes "21" ∷ []) ≡ [] }
+    ensures known { (at : SocketAddrV4) → lines_at (Some at) (codes "21" ∷ codes "22" ∷ [])
+        ≡ fresh_line at 1 (codes "21") ∷ fresh_line at 2 (codes "22") ∷ [] }
+    ensures no_gateway { lines_of [] ≡ [] }
+    ensures gateways { (first next : GatewayConfig) → lines_of (first ∷ next ∷ [])
+        ≡ lines_at first.phones first.numbers.items ++ lines_at next.phones next.numbers.items ++ [] }
+    // It begins at the moment that the clock tells, with these lines, and by the settings that ask for it.
+    ensures opened { (config : AgentConfig) (settings : LoadSettings) (was is : Wire ℕ) →
+        BeginsLoad answers_any (λ around clock. clock ≡ Ok 700) config settings None was is →
+        (now : ℕ) × (bench : Bench) × (Ok now ≡ Ok 700) × BeginsWith settings now (lines_of config.gateways.items) bench }
 {}

@@ -60,10 +60,10 @@ pub returns-clause-ends : goal.returns-clause-ends
 returns-clause-ends c = λ was is hears. hears.ends
 
 pub returns-clause-begins : goal.returns-clause-begins
-returns-clause-begins c = λ was is begins. begins.2
+returns-clause-begins c = λ config settings was is begins. begins.5
 
 pub returns-clause-begins_none : goal.returns-clause-begins_none
-returns-clause-begins_none c = λ ending was is none. ap (λ (wire : Wire ℕ). wire.load) none.1
+returns-clause-begins_none c = λ config settings ending was is none. ap (λ (wire : Wire ℕ). wire.load) none.1
 
 pub returns-clause-reports : goal.returns-clause-reports
 returns-clause-reports c = λ was is reports. ap (λ (bench : Bench). bench.tally) reports.1

@@ -7,7 +7,10 @@ use Rattle.live_agent.proofs.loading.begin.Goals as goal
 
 pub returns : goal.returns
 returns g c = (
+  c.in-Ok.now,
   c.in-Ok-bench_of.bench.value,
+  c.in-Ok.ensures,
+  c.in-Ok-bench_of.ensures,
   (
     subst
         (λ (bench : Box Bench). SaysAll g.S.Surroundings.answers c.args.wire.now.around c.in-Ok-bench_of.bench.value c.say_all.new.around bench.value)
