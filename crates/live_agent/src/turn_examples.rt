@@ -1,7 +1,8 @@
 //! Worked examples of what the parts of a turn do, as theorems: of each relation what it says of its parts.
 #![tactic(auto)]
 
-ghost use Rattle.std.specs.Prelude.{◌≡◌, ⊤, [], ◌∷◌, ◌++◌, ℕ, Bool, true, false, List, Option, Some, None, Result, Ok, codes, is_some, length, not, slice_get, vec_len};
+ghost use Rattle.std.specs.Prelude.{◌≡◌, ⊤, [], ◌∷◌, ◌++◌, ℕ, Bool, true, false, List, Option, Some, None, Result, Ok};
+ghost use Rattle.std.specs.Prelude.{codes, is_some, length, not, slice_get, vec_len};
 ghost use Rattle.std.specs.declared.net.socket_addr.SocketAddrV4.{SocketAddrV4};
 ghost use Rattle.std.specs.Global.{Box};
 ghost use Rattle.agent_config.specs.declared.config.AgentConfig.{AgentConfig};
@@ -20,7 +21,8 @@ ghost use Rattle.live_agent.specs.declared.loading.Load.{Load};
 ghost use Rattle.live_agent.specs.declared.loading.LoadEnding.{LoadEnding};
 ghost use Rattle.live_agent.specs.declared.loading.LoadEnding.TheVariants as loads;
 ghost use Rattle.live_agent.specs.declared.wire.Wire.{Wire};
-ghost use Rattle.live_agent.specs.AnyAround.{sends_any, receives_any, hears_any, answers_any, becomes_any, passes_any, serves_never, writes_any};
+ghost use Rattle.live_agent.specs.AnyAround.{sends_any, receives_any, hears_any, answers_any, becomes_any, passes_any};
+ghost use Rattle.live_agent.specs.AnyAround.{serves_never, writes_any};
 ghost use Rattle.live_agent.specs.Datagrams.{DealsIf, HearsAt, StepsAt, TakesAll, TakesDatagram, TakesEach, TakesElse, TakesOver};
 ghost use Rattle.live_agent.specs.Sending.{SendsOutputs};
 ghost use Rattle.live_agent.specs.Serving.{has_served, LoadsOver};

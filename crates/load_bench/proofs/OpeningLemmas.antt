@@ -16,7 +16,7 @@ pub one_added : (address : SocketAddrV4) (before : ℕ) (numbers : List (List �
 one_added address before numbers place keys all so_far next within item next_is given =
     ap (λ (lines : List BenchLine). lines ++ lines_behind address (min (before + 1) greatest_moment) (drop (place + 1) numbers)) next_is
     ∙ append_assoc so_far (fresh_line address (min (before + 1) greatest_moment) keys ∷ [])
-        (lines_behind address (min (before + 1) greatest_moment) (drop (place + 1) numbers))
+    (lines_behind address (min (before + 1) greatest_moment) (drop (place + 1) numbers))
     ∙ ap (λ (one : List ℕ). so_far ++ lines_behind address before (one ∷ drop (place + 1) numbers)) item
     ∙ ap (λ (left : List (List ℕ)). so_far ++ lines_behind address before left) (sym (drop_more numbers place keys within))
     ∙ given
@@ -27,5 +27,5 @@ pub all_added : (address : SocketAddrV4) (before : ℕ) (numbers : List (List �
 all_added address before numbers place all so_far past given =
     let none : so_far ++ lines_behind address before (drop place numbers) ≡ so_far ++ []
     = ap (λ (left : List (List ℕ)). so_far ++ lines_behind address before left)
-        (at_drop_all (λ (left : List (List ℕ)). left) numbers place past) in
+    (at_drop_all (λ (left : List (List ℕ)). left) numbers place past) in
     sym (append-nil so_far) ∙ sym none ∙ given

@@ -1,11 +1,13 @@
--- Which gateways a board of a configuration has.
-use Rattle.std.proofs.Common.{◌≡◌, ℕ, ◌+◌, ◌<◌, ◌≤◌, List, [], ◌∷◌, ◌++◌, length, get_or, drop, sym, ap, subst, append_assoc, append-nil, ◌∙◌}
+-- Which gateways and lines a board of a configuration has.
+use Rattle.std.proofs.Common.{◌≡◌, ℕ, ◌+◌, ◌<◌, ◌≤◌, List, [], ◌∷◌, ◌++◌, length, get_or, drop, sym, ap, subst, ◌∙◌}
+use Rattle.std.proofs.Common.{append_assoc, append-nil, length-append}
 use Rattle.std.proofs.lemmas.List.{drop_more, at_drop_all, map-append}
-use Rattle.std.specs.Prelude.{map}
+use Rattle.std.specs.Prelude.{map, min}
 use Rattle.std.specs.declared.net.socket_addr.SocketAddrV4.{SocketAddrV4}
 use Rattle.agent_config.specs.declared.config.GatewayConfig.{GatewayConfig}
+use Rattle.agent_texts.specs.declared.station.Station.{Station}
 use Rattle.switchboard.specs.declared.gateway.Gateway.{Gateway}
-use Rattle.switchboard.specs.Opening.{configured_as, known_as}
+use Rattle.switchboard.specs.Opening.{configured_as, greatest_line, known_as, new_station, stations_behind, stations_from}
 
 abbrev Known : Type 0
 Known = SocketAddrV4 × List ℕ
@@ -53,3 +55,74 @@ added_all given config place all so_far same past before =
 pub board_has : (were are : List Gateway) (config : List GatewayConfig) → were ≡ []
     → map known_as are ≡ map known_as were ++ map configured_as config → map known_as are ≡ map configured_as config
 board_has were are config none all = all ∙ ap (λ (list : List Gateway). map known_as list ++ map configured_as config) none
+
+pub one_longer : (were are : List Gateway) (gateway : Gateway) → are ≡ were ++ gateway ∷ [] → length are ≡ length were + 1
+one_longer were are gateway more = ap (λ (all : List Gateway). length all) more ∙ length-append were (gateway ∷ [])
+
+-- Lines: one more of a gateway is put, for the digits whose turn it is
+
+pub put_one : (gateway : ℕ) (domain : List ℕ) (before : ℕ) (numbers : List (List ℕ)) (place : ℕ) (digits : List ℕ)
+    (all so_far next : List Station) → place < length numbers → digits ≡ get_or numbers place digits
+    → next ≡ so_far ++ new_station gateway domain (min (before + 1) greatest_line) digits ∷ []
+    → so_far ++ stations_behind gateway domain before (drop place numbers) ≡ all
+    → next ++ stations_behind gateway domain (min (before + 1) greatest_line) (drop (place + 1) numbers) ≡ all
+put_one gateway domain before numbers place digits all so_far next within item next_is given =
+    ap (λ (lines : List Station). lines ++ stations_behind gateway domain (min (before + 1) greatest_line) (drop (place + 1) numbers))
+    next_is
+    ∙ append_assoc so_far (new_station gateway domain (min (before + 1) greatest_line) digits ∷ [])
+    (stations_behind gateway domain (min (before + 1) greatest_line) (drop (place + 1) numbers))
+    ∙ ap (λ (one : List ℕ). so_far ++ stations_behind gateway domain before (one ∷ drop (place + 1) numbers)) item
+    ∙ ap (λ (left : List (List ℕ)). so_far ++ stations_behind gateway domain before left) (sym (drop_more numbers place digits within))
+    ∙ given
+
+-- all of a gateway are
+pub put_all : (gateway : ℕ) (domain : List ℕ) (before : ℕ) (numbers : List (List ℕ)) (place : ℕ) (all so_far : List Station)
+    → length numbers ≤ place → so_far ++ stations_behind gateway domain before (drop place numbers) ≡ all → so_far ≡ all
+put_all gateway domain before numbers place all so_far past given =
+    let none : so_far ++ stations_behind gateway domain before (drop place numbers) ≡ so_far ++ []
+    = ap (λ (left : List (List ℕ)). so_far ++ stations_behind gateway domain before left)
+    (at_drop_all (λ (left : List (List ℕ)). left) numbers place past) in
+    sym (append-nil so_far) ∙ sym none ∙ given
+
+-- those of the gateway whose turn it is are put, which gets the next place
+lined : (config : List GatewayConfig) (place : ℕ) (gateway : GatewayConfig) (domain : List ℕ) (many now : ℕ)
+    (all so_far next : List Station) → place < length config → gateway ≡ get_or config place gateway → domain ≡ gateway.domain → now ≡ many + 1
+    → next ≡ so_far ++ stations_behind many domain 0 gateway.numbers.items
+    → so_far ++ stations_from many (drop place config) ≡ all → next ++ stations_from now (drop (place + 1) config) ≡ all
+lined config place gateway domain many now all so_far next within item domain_is now_is next_is before =
+    ap (λ (at : ℕ). next ++ stations_from at (drop (place + 1) config)) now_is
+    ∙ ap (λ (lines : List Station). lines ++ stations_from (many + 1) (drop (place + 1) config)) next_is
+    ∙ ap
+    (λ (text : List ℕ).
+    (so_far ++ stations_behind many text 0 gateway.numbers.items) ++ stations_from (many + 1) (drop (place + 1) config)) domain_is
+    ∙ append_assoc so_far (stations_behind many gateway.domain 0 gateway.numbers.items) (stations_from (many + 1) (drop (place + 1) config))
+    ∙ ap (λ (one : GatewayConfig). so_far ++ stations_from many (one ∷ drop (place + 1) config)) item
+    ∙ ap (λ (left : List GatewayConfig). so_far ++ stations_from many left) (sym (drop_more config place gateway within))
+    ∙ before
+
+pub lined_one : (given config : List GatewayConfig) (place : ℕ) (gateway : GatewayConfig) (domain : List ℕ) (many now : ℕ)
+    (all so_far next : List Station)
+    → given ≡ config → place < length given → gateway ≡ get_or given place gateway → domain ≡ gateway.domain → now ≡ many + 1
+    → next ≡ so_far ++ stations_behind many domain 0 gateway.numbers.items → so_far ++ stations_from many (drop place config) ≡ all
+    → next ++ stations_from now (drop (place + 1) config) ≡ all
+lined_one given config place gateway domain many now all so_far next same within item domain_is now_is next_is before =
+    subst (λ (list : List GatewayConfig). next ++ stations_from now (drop (place + 1) list) ≡ all) same
+    (lined given place gateway domain many now all so_far next within item domain_is now_is next_is
+    (subst (λ (list : List GatewayConfig). so_far ++ stations_from many (drop place list) ≡ all) (sym same) before))
+
+-- those of all gateways are
+pub lined_all : (given config : List GatewayConfig) (place many : ℕ) (all so_far : List Station) → given ≡ config → length given ≤ place
+    → so_far ++ stations_from many (drop place config) ≡ all → so_far ≡ all
+lined_all given config place many all so_far same past before =
+    let none : so_far ++ stations_from many (drop place given) ≡ so_far ++ []
+    = ap (λ (left : List GatewayConfig). so_far ++ stations_from many left)
+    (at_drop_all (λ (left : List GatewayConfig). left) given place past) in
+    sym (append-nil so_far) ∙ sym none
+    ∙ subst (λ (list : List GatewayConfig). so_far ++ stations_from many (drop place list) ≡ all) (sym same) before
+
+-- on a board that had neither
+pub board_lines : (were : List Gateway) (had have : List Station) (config : List GatewayConfig) → were ≡ [] → had ≡ []
+    → have ≡ had ++ stations_from (length were) config → have ≡ stations_from 0 config
+board_lines were had have config none empty all =
+    all ∙ ap (λ (list : List Station). list ++ stations_from (length were) config) empty
+    ∙ ap (λ (list : List Gateway). stations_from (length list) config) none

@@ -1,8 +1,10 @@
 //! Worked examples of the definitions, as theorems: each sentence of a definition has one that a slip in it breaks.
 #![tactic(auto, unfolding(crate::proofs::Computing::on_examples))]
 
-ghost use Rattle.std.specs.Prelude.{◌≡◌, [], ◌∷◌, length, true, false, Option, Some, None, codes};
+ghost use Rattle.std.specs.Prelude.{◌≡◌, ◌++◌, [], ◌∷◌, length, true, false, Option, Some, None, codes};
 ghost use Rattle.std.specs.Global.{Box};
+ghost use Rattle.agent_config.specs.declared.config.AgentConfig.{AgentConfig};
+ghost use Rattle.agent_config.specs.declared.config.GatewayConfig.{GatewayConfig};
 ghost use Rattle.call_office.specs.declared.office.Office.{Office};
 ghost use Rattle.call_office.specs.declared.worklist.Worklist.{Worklist};
 ghost use Rattle.switchboard.specs.declared.gateway.Gateway.{Gateway};
@@ -11,9 +13,13 @@ ghost use Rattle.switchboard.specs.Announcing.{is_new, last_new};
 ghost use Rattle.switchboard.specs.Boards.{settling_in, taking_in, woken_at, WakesIn};
 ghost use Rattle.switchboard.specs.Flights.{end_of_time, most_steps, falls, over_by};
 ghost use Rattle.switchboard.specs.Meaning.{meant};
+ghost use Rattle.switchboard.specs.Opening.{new_station, stations_behind, stations_from, BoardOf};
 ghost use Rattle.switchboard.specs.Typed.{typed_from, typed_text, typed_in};
 ghost use Rattle.switchboard.specs.Wakes.{first_moment, first_woken, behind_woken};
 ghost use Rattle.switchboard.specs.Example.{wake_at, issued};
+ghost use Rattle.switchboard.specs.declared.switchboard.Switchboard.{Switchboard};
+ghost use Rattle.endpoint_names.specs.declared.name.Pattern.TheVariants.{One};
+ghost use Rattle.endpoint_names.specs.Name.{name_text};
 
 /// Each sentence at an example.
 pub fn what_is_typed_is_a_message()
@@ -107,4 +113,25 @@ pub fn what_comes_again_or_is_typed_is_known()
     ensures unknown { (one : Gateway) → meant (record one { domain = codes "gw1" } ∷ []) (codes "aaln/1@gw2") ≡ None }
     ensures unnamed { (one : Gateway) → meant (one ∷ []) (codes "aaln/1") ≡ Some (0, codes "aaln/1") }
     ensures which { (one other : Gateway) → meant (one ∷ other ∷ []) (codes "aaln/1") ≡ None }
+{}
+
+/// A board has a line for each number of its configuration.
+pub fn a_board_has_its_lines()
+    // It is named by its own number and the domain of its gateway, and nothing was taken of it.
+    ensures fresh { new_station 1 (codes "gw2") 12 (codes "21") ≡ record {
+      gateway = 1;
+      line = 12;
+      name = name_text (One 12) (codes "gw2");
+      number = codes "21";
+      taken = 0;
+    } }
+    ensures lines { stations_behind 1 (codes "gw2") 0 (codes "21" ∷ codes "22" ∷ [])
+        ≡ new_station 1 (codes "gw2") 1 (codes "21") ∷ new_station 1 (codes "gw2") 2 (codes "22") ∷ [] }
+    ensures no_line { stations_behind 1 (codes "gw2") 7 [] ≡ [] }
+    ensures last { stations_behind 1 (codes "gw2") 65535 (codes "21" ∷ []) ≡ new_station 1 (codes "gw2") 65535 (codes "21") ∷ [] }
+    ensures gateways { (first next : GatewayConfig) → stations_from 0 (first ∷ next ∷ [])
+        ≡ stations_behind 0 first.domain 0 first.numbers.items ++ stations_behind 1 next.domain 0 next.numbers.items ++ [] }
+    ensures no_gateway { stations_from 3 [] ≡ [] }
+    ensures these { (config : AgentConfig) (board : Switchboard) → BoardOf config false board →
+        board.stations.items ≡ stations_from 0 config.gateways.items }
 {}

@@ -1,5 +1,5 @@
 //! A board: the gateways that a call agent works with, and their lines; how it is made, and what its agents hear.
-ghost use Rattle.std.specs.Prelude.{◌≡◌, ◌&&◌, [], ◌∷◌, ◌++◌, true, None, Ok, length, map, position, slice_get};
+ghost use Rattle.std.specs.Prelude.{◌≡◌, ◌&&◌, ◌+◌, [], ◌∷◌, ◌++◌, true, None, Ok, length, map, position, slice_get};
 ghost use Rattle.std.specs.Prelude.{IfNone, IfOk, OnErr, OnOk, is_ok, is_some};
 ghost use Rattle.std.specs.Result.{result_err};
 ghost use Rattle.plain_machine.specs.Event.{datagram, tick};
@@ -7,7 +7,7 @@ ghost use Rattle.call_agent.specs.Hearing.{hears};
 ghost use Rattle.call_agent.specs.AgentStands.{AgentStays, AgentTook};
 ghost use Rattle.switchboard.specs.AgentClock.{tick_to};
 ghost use Rattle.switchboard.specs.Boards.{is_at};
-ghost use Rattle.switchboard.specs.Opening.{configured_as, known_as, BoardOf};
+ghost use Rattle.switchboard.specs.Opening.{configured_as, known_as, new_station, stations_behind, stations_from, BoardOf};
 ghost use Rattle.switchboard.specs.Steps.{AtPlace, OthersStay, Refuses, Ticks};
 
 use crate::dialling::Dialling;
@@ -62,7 +62,9 @@ fn put_station(
     line: u16,
     domain: &[u8],
     number: &[u8],
-) -> Result<(), OutOfMemory> {
+) -> Result<(), OutOfMemory>
+    ensures { OnOk result (stations.new.items ≡ stations.old.items ++ new_station gateway domain.now line number.now ∷ []) }
+{
     stations.push(Station {
         gateway,
         line,
@@ -80,7 +82,9 @@ fn put_stations(
     gateway: usize,
     domain: &[u8],
     numbers: &[Text],
-) -> Result<(), OutOfMemory> {
+) -> Result<(), OutOfMemory>
+    ensures { OnOk result (stations.new.items ≡ stations.old.items ++ stations_behind gateway domain.now 0 numbers.now) }
+{
     let mut line: u16 = 0;
     for number in numbers {
         line = line.saturating_add(1);
@@ -110,6 +114,7 @@ impl Switchboard {
     fn new(alloc: Global) -> Result<Switchboard, OutOfMemory>
         ensures gateways { IfOk result (λ board. board.gateways.items ≡ []) }
         ensures office { IfOk result (λ board. board.office ≡ None) }
+        ensures stations { IfOk result (λ board. board.stations.items ≡ []) }
     {
         let plan = NumberPlan::of(Vec::new(alloc));
         let dialling = Dialling::of(alloc, plan, Text::of(Vec::new(alloc)))?;
@@ -135,6 +140,9 @@ impl Switchboard {
     ) -> Result<(), OutOfMemory>
         ensures gateway { OnOk result (map known_as self.new.gateways.items
             ≡ map known_as self.old.gateways.items ++ (address, domain.now) ∷ []) }
+        ensures count { OnOk result (length self.new.gateways.items ≡ length self.old.gateways.items + 1) }
+        ensures stations { OnOk result (self.new.stations.items
+            ≡ self.old.stations.items ++ stations_behind (length self.old.gateways.items) domain.now 0 numbers.now) }
         ensures office { self.new.office ≡ self.old.office }
     {
         let place = self.gateways.len();
@@ -149,6 +157,7 @@ impl Switchboard {
     // Opens an exchange for the lines that there are, which are dialled by this map.
     fn open(&mut self, map: &[u8]) -> Result<(), OutOfMemory>
         ensures gateways { self.new.gateways ≡ self.old.gateways }
+        ensures stations { self.new.stations ≡ self.old.stations }
         ensures office { OnOk result (is_some self.new.office ≡ true) }
     {
         let plan = plan_of(self.alloc, &self.stations)?;
@@ -163,6 +172,8 @@ impl Switchboard {
     fn add_all(&mut self, config: &AgentConfig, time: u64) -> Result<(), OutOfMemory>
         ensures gateways { OnOk result (map known_as self.new.gateways.items
             ≡ map known_as self.old.gateways.items ++ map configured_as config.now.gateways.items) }
+        ensures stations { OnOk result (self.new.stations.items
+            ≡ self.old.stations.items ++ stations_from (length self.old.gateways.items) config.now.gateways.items) }
         ensures office { self.new.office ≡ self.old.office }
     {
         for gateway in config.gateways.iter() {
@@ -177,6 +188,8 @@ impl Switchboard {
     fn fill(&mut self, config: &AgentConfig, is_routed: bool, time: u64) -> Result<(), OutOfMemory>
         ensures gateways { OnOk result (map known_as self.new.gateways.items
             ≡ map known_as self.old.gateways.items ++ map configured_as config.now.gateways.items) }
+        ensures stations { OnOk result (self.new.stations.items
+            ≡ self.old.stations.items ++ stations_from (length self.old.gateways.items) config.now.gateways.items) }
         ensures office { OnOk result (self.old.office ≡ None → is_some self.new.office ≡ (is_routed && is_some config.now.map)) }
     {
         self.add_all(config, time)?;
