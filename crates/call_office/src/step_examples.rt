@@ -1,21 +1,30 @@
 //! Worked examples of what a step does to a line, as theorems.
 #![tactic(auto, unfolding(crate::proofs::Computing::on_examples))]
 
-ghost use Rattle.std.specs.Prelude.{◌≡◌, [], ◌∷◌, true, false, List, Option, Some, None, IsPermutation};
+ghost use Rattle.std.specs.Prelude.{◌≡◌, [], ◌∷◌, ℕ, true, false, List, Option, Some, None, codes, IsPermutation};
 ghost use Rattle.std.specs.Global.{Box};
-ghost use Rattle.call_routing.specs.Exchange.{opening, sent_to, told, answered};
+ghost use Rattle.mgcp_text.specs.Reading.{bad_body, bad_version, no_header};
+ghost use Rattle.call_routing.specs.declared.fate.Cause.TheVariants as causes;
+ghost use Rattle.call_routing.specs.declared.fate.PutOff.{PutOff};
+ghost use Rattle.call_routing.specs.Exchange.{ExchangeState, opening, sent_to, told, answered, cleared_at};
 ghost use Rattle.agent_texts.specs.declared.journal.Journal.{Journal};
 ghost use Rattle.agent_texts.specs.declared.station.Station.{Station};
 ghost use Rattle.agent_texts.specs.Standings.{with_change};
-ghost use Rattle.call_office.specs.declared.care.Duty.TheVariants.{Audit};
+ghost use Rattle.call_office.specs.declared.care.Care.{Care};
+ghost use Rattle.call_office.specs.declared.care.Change.TheVariants as changes;
+ghost use Rattle.call_office.specs.declared.care.Duty.TheVariants.{Clear, Audit, Route};
 ghost use Rattle.call_office.specs.declared.care.Shown.{Shown};
 ghost use Rattle.call_office.specs.declared.office.Office.{Office};
-ghost use Rattle.call_office.specs.Duties.{begun, new_care, owed, told_care, told_of};
+ghost use Rattle.call_office.specs.Duties.{announced, begun, changed_by, duty_answered, first_duty, found, held_from, held_or, is_due_at};
+ghost use Rattle.call_office.specs.Duties.{landed, last_duty, lost, new_care, owed, routed_by, told_care, told_of, told_still, woken};
+ghost use Rattle.call_office.specs.Hooks.{hook_at, hook_by, hook_or};
+ghost use Rattle.call_office.specs.Orders.{Shown as ShownOrder, fixed_or, ordered_by};
 ghost use Rattle.call_office.specs.Showing.{Shows, ShowsIn, shown_in};
-ghost use Rattle.call_office.specs.Steps.{Begins, Forgets, Hears, ToldOf};
+ghost use Rattle.call_office.specs.Steps.{Begins, BeginsAs, Forgets, Hears, ToldOf, landed_if};
+ghost use Rattle.call_office.specs.Turns.{cleared_by, AnswersAudit, TakesAudit, TellsAudit};
 ghost use Rattle.call_office.specs.Waiting.{IsWaiting, Settles, Touches};
 ghost use Rattle.call_office.specs.declared.worklist.Worklist.{Worklist};
-ghost use Rattle.call_office.specs.Example.{audited, cleared, creating, found_off};
+ghost use Rattle.call_office.specs.Example.{audited, cleared, creating, found_off, param};
 
 use agent_texts::Standing;
 use call_routing::{Outcome, Told};
@@ -74,4 +83,67 @@ pub fn who_waits_has_examples()
     ensures begins { (was is : Worklist) → Settles was is → IsPermutation was.waiting.items is.settled.items }
     ensures begins_all { (was is : Worklist) → Settles was is →
         (is.settles_all ≡ was.is_all) × (is.waiting.items ≡ []) × (is.is_all ≡ false) }
+{}
+
+/// What happens to what is kept of a line is one change of it.
+pub fn what_changes_has_examples()
+    ensures begins { (care : Care) → changed_by changes.Begin care ≡ begun care }
+    ensures lands { (care : Care) → changed_by changes.Land care ≡ landed care }
+    ensures is_lost { (care : Care) → changed_by changes.Lose care ≡ lost care }
+    ensures tells { (care : Care) → changed_by changes.Tell care ≡ told_care care }
+    ensures owes { (care : Care) → changed_by changes.OweAudit care ≡ owed care Audit }
+    ensures is_announced { (care : Care) → changed_by (changes.Announce true) care ≡ announced true care }
+    ensures is_found { (care : Care) → changed_by (changes.Find true) care ≡ found true care }
+    ensures is_shown { (shown : Shown) (care : Care) → changed_by (changes.Show shown) care ≡ told_of shown care }
+    ensures is_answered { (care : Care) → changed_by (changes.Answer 70 500 Audit) care ≡ duty_answered 70 500 Audit care }
+    ensures is_routed { (off : Option PutOff) (care : Care) → changed_by (changes.Routed 70 off) care ≡ routed_by 70 off care }
+    ensures wakes { (care : Care) → changed_by (changes.Wake 70) care ≡ woken 70 care }
+    // What was put off has its own moment.
+    ensures never { is_due_at None 70 ≡ false }
+    ensures now { is_due_at (Some 70) 70 ≡ true }
+    ensures another { is_due_at (Some 71) 70 ≡ false }
+    // What comes before it: where it may be put off no more, and where it is put off first.
+    ensures last_hook { last_duty causes.Hook ≡ Audit }
+    ensures last_request { last_duty causes.Request ≡ Audit }
+    ensures last_connection { last_duty causes.Connection ≡ Clear }
+    ensures first_hook { first_duty causes.Hook ≡ Some Audit }
+    ensures first_request { first_duty causes.Request ≡ None }
+    ensures first_connection { first_duty causes.Connection ≡ None }
+    ensures nothing_before { (care : Care) → held_or 70 None care ≡ held_from 70 care }
+    ensures audited_before { (care : Care) → held_or 70 (Some Audit) care ≡ owed care Audit }
+    // What a line told before it is audited is older than that.
+    ensures before { told_still Audit true ≡ false }
+    ensures clearing { told_still Clear true ≡ true }
+    ensures routing { told_still Route true ≡ true }
+{}
+
+/// What an answer to an audit tells, and what a line is sent or begins, where the parts of that are so.
+pub fn what_parts_are_has_examples()
+    // The first event state that tells a hook counts.
+    ensures first { hook_or (Some false) (Some true) ≡ Some false }
+    ensures later { hook_or None (Some true) ≡ Some true }
+    ensures untold { hook_at None ≡ None }
+    ensures told { hook_at (Some (param (codes "ES") (codes "L/hd"))) ≡ Some true }
+    ensures no_header { hook_by no_header ≡ None }
+    ensures bad_version { hook_by (bad_version 7) ≡ None }
+    ensures bad_body { hook_by (bad_body 7) ≡ None }
+    // The commands that the exchange doesn't know of come before its own.
+    ensures fixed { (other : Option ShownOrder) → fixed_or (Some (codes "DLCX", [])) other ≡ Some (codes "DLCX", []) }
+    ensures not_fixed { (other : Option ShownOrder) → fixed_or None other ≡ other }
+    ensures no_duty { (exchange : ExchangeState) (map : List ℕ) → ordered_by None exchange 1 map ≡ None }
+    ensures clearing { (exchange : ExchangeState) (map : List ℕ) → ordered_by (Some Clear) exchange 1 map ≡ Some (codes "DLCX", []) }
+    // A duty beside the exchange begins without it.
+    ensures begins_fixed { BeginsAs (Some (codes "DLCX", [])) 0 creating (new_care ∷ []) creating (begun new_care ∷ []) }
+    ensures begins_routed { BeginsAs None 1 (opening 2 0) (cleared ∷ audited ∷ []) (sent_to (opening 2 0) 1)
+        (cleared ∷ begun audited ∷ []) }
+    ensures lands { landed_if true (begun cleared ∷ []) 0 ≡ landed (begun cleared) ∷ [] }
+    ensures stays { landed_if false (begun cleared ∷ []) 0 ≡ begun cleared ∷ [] }
+    // An answer that is put off is nothing to the exchange; nor is one to an audit where the line has told something newer.
+    ensures put_off { (exchange : ExchangeState) → cleared_by true exchange 1 250 ≡ exchange }
+    ensures over { (exchange : ExchangeState) → cleared_by false exchange 1 250 ≡ cleared_at exchange 1 250 }
+    ensures audit_put_off { AnswersAudit true 1 (codes "200 7 OK\r\nES: L/hu\r\n") creating (cleared ∷ []) creating (cleared ∷ []) }
+    ensures older { TakesAudit true 1 (codes "200 7 OK\r\nES: L/hu\r\n") creating (cleared ∷ []) creating (cleared ∷ []) }
+    ensures older_still { (text : List ℕ) (is : ExchangeState) (kept : List Care) → TakesAudit true 1 text creating [] is kept →
+        is ≡ creating }
+    ensures found_lifted { TellsAudit Told.OffHook 0 creating (audited ∷ []) (told creating 0 Told.OffHook) (found true audited ∷ []) }
 {}

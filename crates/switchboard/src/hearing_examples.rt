@@ -3,7 +3,9 @@
 
 ghost use Rattle.std.specs.Prelude.{◌≡◌, [], ◌∷◌, ℕ, true, false, List, Option, Some, None, Ok, Err, codes, option_map, slice_get};
 ghost use Rattle.std.specs.Global.{Box};
-ghost use Rattle.mgcp_text.specs.Reading.{read_text, takes_memory};
+ghost use Rattle.mgcp_text.specs.declared.message.Message.TheVariants as messages;
+ghost use Rattle.mgcp_text.specs.declared.message.Param.{Param};
+ghost use Rattle.mgcp_text.specs.Reading.{bad_body, bad_version, no_header, read_text, takes_memory};
 ghost use Rattle.endpoint_names.specs.declared.name.NameFault.TheVariants.{Unknown};
 ghost use Rattle.event_values.specs.declared.observed.Observed.{Observed};
 ghost use Rattle.agent_texts.specs.declared.journal.Journal.{Journal};
@@ -15,16 +17,23 @@ ghost use Rattle.switchboard.specs.declared.switchboard.Switchboard.{Switchboard
 ghost use Rattle.call_office.specs.declared.worklist.Worklist.{Worklist};
 ghost use Rattle.switchboard.specs.Ended.{first_ended, still_flying};
 ghost use Rattle.switchboard.specs.GivingUp.{ended_in, Ends, EndsAt, ForgetsFlight, ForgetsFor, GivesUp};
-ghost use Rattle.switchboard.specs.Boards.{SettlesIn};
+ghost use Rattle.call_office.specs.declared.care.Care.{Care};
+ghost use Rattle.call_office.specs.Duties.{woken};
+ghost use Rattle.call_office.specs.Orders.{cared};
+ghost use Rattle.switchboard.specs.declared.gateway.Wake.{Wake};
+ghost use Rattle.switchboard.specs.Boards.{Holds, SettlesIn};
 ghost use Rattle.switchboard.specs.Hearing.{announcement_counted, is_new_to, is_strange_at, line_meant, method_of, response_counted};
 ghost use Rattle.switchboard.specs.Hearing.{AnnouncesNew, AnnouncesWith, AnswersFlight, AnswersFor, AnswersIn, HearsAnnouncement, HearsCommand};
 ghost use Rattle.switchboard.specs.Hearing.{HearsNotification, HearsResponse, HearsText, HearsUnread, Notes, NotesAt, Waits};
+ghost use Rattle.switchboard.specs.Hearing.{command_counted, is_strange, message_counted, notified_line, outcome_counted};
+ghost use Rattle.switchboard.specs.Hearing.{AnnouncesAs, HearsMessage, HearsOutcome};
 ghost use Rattle.call_office.specs.Steps.{Forgets};
 ghost use Rattle.call_office.specs.Waiting.{Touches};
 ghost use Rattle.switchboard.specs.Steps.{AnnouncesTo, InOffice, OfOffice};
 ghost use Rattle.switchboard.specs.Taking.{first_of, with_taken, HearsIf, TakesTold};
 ghost use Rattle.call_office.specs.Example.{param};
-ghost use Rattle.switchboard.specs.Example.{flying};
+ghost use Rattle.switchboard.specs.Typed.{command_in, said_in};
+ghost use Rattle.switchboard.specs.Example.{flying, wake_at};
 
 use endpoint_names::Pattern;
 use mgcp_text::Verb;
@@ -118,6 +127,46 @@ pub fn what_a_text_does_has_examples()
     // Those lines that waited are settled from then on; nothing else of the exchange changes.
     ensures settles { (was is : Box Office) → SettlesIn (Some was) (Some is) → (is.value.cares ≡ was.value.cares)
         × (is.value.exchange ≡ was.value.exchange) × (is.value.worklist.waiting.items ≡ []) }
+{}
+
+/// What a message is to a board is by its kind, and what is none is nothing to it.
+pub fn what_a_message_is_has_examples()
+    ensures response { (params : List Param) (body text : List ℕ) (was is : Switchboard) →
+        HearsMessage (messages.Response 200 7 params body) 0 text was is → HearsResponse 0 7 200 text was is }
+    ensures command { (name body text : List ℕ) (params : List Param) (was is : Switchboard) →
+        HearsMessage (messages.Command Verb.Crcx 7 name params body) 0 text was is → is ≡ was }
+    ensures no_header { (text : List ℕ) (was is : Switchboard) → HearsOutcome no_header 0 text was is → is ≡ was }
+    ensures bad_version { (text : List ℕ) (was is : Switchboard) → HearsOutcome (bad_version 7) 0 text was is → is ≡ was }
+    ensures bad_body { (text : List ℕ) (was is : Switchboard) → HearsOutcome (bad_body 7) 0 text was is → is ≡ was }
+    ensures graceful { (name : List ℕ) (gateway : Option Gateway) (was is : Option (Box Office)) →
+        AnnouncesAs false false name gateway was is → is ≡ was }
+    ensures of_no_gateway { (name : List ℕ) → notified_line name None ≡ None }
+    // A response that answers something counts, and so does an announcement that is new; any other command doesn't.
+    ensures response_counts { (params : List Param) (body : List ℕ) (gateway : Option Gateway) (tally : Tally) →
+        message_counted (messages.Response 200 7 params body) gateway tally ≡ response_counted 7 200 gateway tally }
+    ensures announcement_counts { (name body : List ℕ) (params : List Param) (gateway : Option Gateway) (tally : Tally) →
+        message_counted (messages.Command Verb.Rsip 7 name params body) gateway tally ≡ announcement_counted 7 gateway tally }
+    ensures notification_counts_later { (gateway : Option Gateway) (tally : Tally) → command_counted Verb.Ntfy 7 gateway tally ≡ tally }
+    ensures other_counts_not { (gateway : Option Gateway) (tally : Tally) → command_counted Verb.Other 7 gateway tally ≡ tally }
+    ensures unread_counts_not { (gateway : Option Gateway) (tally : Tally) → outcome_counted no_header gateway tally ≡ tally }
+    ensures other_version_counts_not { (gateway : Option Gateway) (tally : Tally) → outcome_counted (bad_version 7) gateway tally ≡ tally }
+    ensures bad_body_counts_not { (gateway : Option Gateway) (tally : Tally) → outcome_counted (bad_body 7) gateway tally ≡ tally }
+    // A command's name may be strange to its gateway; a response has none.
+    ensures strange { (name body : List ℕ) (params : List Param) (gateway : Option Gateway) →
+        is_strange (messages.Command Verb.Ntfy 7 name params body) gateway ≡ is_strange_at name gateway }
+    ensures nameless { (params : List Param) (body : List ℕ) (gateway : Option Gateway) →
+        is_strange (messages.Response 200 7 params body) gateway ≡ false }
+    // What was put off of a line is kept, to be sent again; where nothing was, nothing is.
+    ensures nothing_held { (cares kept : List Care) (wakes held : List Wake) → Holds None 1 cares wakes kept held →
+        (kept ≡ cares) × (held ≡ wakes) }
+    ensures holds { (cares : List Care) → Holds (Some 70) 1 cares (wake_at 7 0 ∷ []) cares (wake_at 7 0 ∷ wake_at 70 1 ∷ []) }
+    ensures at_once { (cares : List Care) (wakes : List Wake) → Holds (Some 70) 1 cares wakes (cared (woken 70) cares 1) wakes }
+    // A command that is typed is a verb and a name.
+    ensures nothing_typed { command_in [] ≡ None }
+    ensures no_word { said_in [] [] ≡ None }
+    ensures verb_alone { said_in (codes "AUEP" ∷ []) [] ≡ None }
+    ensures both { said_in (codes "AUEP" ∷ codes "aaln/1" ∷ []) [] ≡ Some (codes "AUEP", (codes "aaln/1", [])) }
+    ensures one_too_many { said_in (codes "AUEP" ∷ codes "1" ∷ codes "aaln/1" ∷ []) [] ≡ None }
 {}
 
 /// What is taken of a line.
