@@ -17,11 +17,15 @@ use std::random::RandomSource;
 /// Who receives the visitors of a page.
 pub trait Reception: Drop {
     ghost use Rattle.std.specs.Prelude.{ℕ, Bool, List, Option};
+    ghost use Rattle.std.specs.declared.net.socket_addr.SocketAddrV4.{SocketAddrV4};
     ghost use Rattle.live_ends.specs.declared.readiness.Readiness.{Readiness};
     ghost use Rattle.page_board.specs.Showing.{BoardState};
 
     /// Nobody is there yet, and it may be asked under these further names.
     ghost opens: { List (List ℕ) → Self → Type 0 };
+
+    /// Its socket is at this address, where that is known.
+    ghost placed: { Self → Option SocketAddrV4 };
 
     /// A visitor has more to do at once, or somebody may have come.
     ghost busy: { Self → Bool };
@@ -43,7 +47,8 @@ pub trait Reception: Drop {
         ensures { IfOk result (λ site. opens (names_of names) site) };
 
     /// The address of its socket, where that is known.
-    fn address(&self) -> Option<SocketAddrV4>;
+    fn address(&self) -> Option<SocketAddrV4>
+        ensures { result ≡ placed self.now };
 
     /// Whether a visitor has more to do at once, or somebody may have come.
     fn is_busy(&self) -> bool

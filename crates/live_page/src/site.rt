@@ -389,6 +389,8 @@ impl Reception for Site {
 
     ghost opens = { λ names site. IsOpened names site };
 
+    ghost placed = { λ site. site.address };
+
     ghost busy = { λ site. site.may_accept || is_some (next_turn site.last site.places.items) };
 
     ghost closes = { λ site. soonest_from None site.places.items };
@@ -405,9 +407,7 @@ impl Reception for Site {
         Site::open(rt, alloc, address, names, ready)
     }
 
-    fn address(&self) -> Option<SocketAddrV4>
-        ensures { result ≡ self.now.address }
-    {
+    fn address(&self) -> Option<SocketAddrV4> {
         self.address
     }
 
