@@ -1,7 +1,7 @@
 //! Worked examples of the definitions, as theorems: each sentence of a definition has one that a slip in it breaks.
 #![tactic(auto, unfolding(crate::proofs::Computing::on_examples))]
 
-ghost use Rattle.std.specs.Prelude.{◌≡◌, ◌≢◌, ◌-◌, ◌^◌, ℕ, codes, length, map, true, false, Bool, List, [], ◌∷◌};
+ghost use Rattle.std.specs.Prelude.{◌≡◌, ◌≢◌, ◌<◌, ◌-◌, ◌^◌, ℕ, codes, length, map, true, false, Bool, List, [], ◌∷◌};
 ghost use Rattle.std.specs.Prelude.{Option, Some, None, Ok, Err};
 ghost use Rattle.std.specs.Global.{Box};
 ghost use Rattle.std.specs.IoError.{error_kind};
@@ -10,8 +10,11 @@ ghost use Rattle.std.specs.declared.io.ErrorKind.TheVariants.{ConnectionReset, W
 ghost use Rattle.std.specs.declared.net.ipv4_addr.Ipv4Addr.{Ipv4Addr};
 ghost use Rattle.std.specs.declared.net.socket_addr.SocketAddr.TheVariants.{V4};
 ghost use Rattle.std.specs.declared.net.socket_addr.SocketAddrV4.{SocketAddrV4};
+ghost use Rattle.http.specs.declared.request.Request.{Request};
+ghost use Rattle.http_server.specs.declared.response.Response.{Response};
 ghost use Rattle.http_server.specs.Connection.{config_of, history};
-ghost use Rattle.http_server.specs.History.{IsDone};
+ghost use Rattle.http_server.specs.Exchange.{Call, Chain};
+ghost use Rattle.http_server.specs.History.{IsDone, WantsRead};
 ghost use Rattle.live_ends.specs.declared.readiness.TheConstants.{MOST_VISITORS};
 ghost use Rattle.live_ends.specs.Looking.{no_visit};
 ghost use Rattle.page_board.specs.Showing.{BoardState};
@@ -31,7 +34,8 @@ ghost use Rattle.live_page.specs.Fields.{kind_of, policy, kind_fields, fields_at
 ghost use Rattle.live_page.specs.Health.{alive_text, ready_text};
 ghost use Rattle.live_page.specs.Statuses.{is_refused, reading_status, refusal_status, refusal_fields, outcome_status};
 ghost use Rattle.live_page.specs.Serving.{file_at};
-ghost use Rattle.live_page.specs.Visiting.{calls_of, noted, patience_from, AnswersAll, EndsTurn, IsAnswered, IsNew};
+ghost use Rattle.live_page.specs.Visiting.{calls_of, noted, patience_from, AnsweredAt, AnswersAll, AnswersBy, CanRead, CanWrite};
+ghost use Rattle.live_page.specs.Visiting.{EndsTurn, IsAnswered, IsNew};
 ghost use Rattle.live_page.specs.Visiting.{ReadsOnce, ReadsSo, TakesTurn, WritesOnce, WritesSo, WritesTurn};
 ghost use Rattle.live_page.specs.Receiving.{host_of, noted_each, seat_in, visitor_in, with_place, IsOpened, LetsIn, SeatsAt};
 ghost use Rattle.live_page.specs.Receiving.{ServesNext, ServesPlace};
@@ -142,6 +146,28 @@ pub fn who_is_written_to_has_examples()
         EndsTurn site names true was board true is shown → IsDone (history is.connection) → ⊥ }
     ensures goes { (site : SocketAddrV4) (names : List (List ℕ)) (was is : Visitor) (board shown : BoardState) →
         EndsTurn site names true was board false is shown → IsDone (history is.connection) }
+{}
+
+/// Who can be read is told so, and wants more; who can be written to is told so, and something waits for them.
+pub fn who_can_be_read_and_written_to_has_examples()
+    ensures readable { (visitor : Visitor) → visitor.may_read ≡ true → WantsRead (config_of visitor.connection) (history visitor.connection)
+        → CanRead visitor }
+    ensures unreadable { (visitor : Visitor) → visitor.may_read ≡ false → CanRead visitor → ⊥ }
+    ensures wants_more { (visitor : Visitor) → CanRead visitor → WantsRead (config_of visitor.connection) (history visitor.connection) }
+    ensures writable { (visitor : Visitor) → visitor.may_write ≡ true → 0 < length (history visitor.connection).pending → CanWrite visitor }
+    ensures unwritable { (visitor : Visitor) → visitor.may_write ≡ false → CanWrite visitor → ⊥ }
+    ensures nothing_waits { (visitor : Visitor) → CanWrite visitor → 0 < length (history visitor.connection).pending }
+{}
+
+/// A board becomes another by requests that were answered, one after the other: by none it stays, and by each in its turn.
+pub fn what_a_board_becomes_has_examples()
+    ensures none { (site : SocketAddrV4) (names : List (List ℕ)) (board : BoardState) → AnswersBy site names board board }
+    ensures one { (site : SocketAddrV4) (names : List (List ℕ)) (board shown : BoardState) (request : Request (List ℕ))
+        (response : Response) → AnsweredAt site names board request response shown → AnswersBy site names board shown }
+    ensures behind { (site : SocketAddrV4) (names : List (List ℕ)) (board between shown : BoardState) →
+        AnswersBy site names board between → AnswersBy site names between shown → AnswersBy site names board shown }
+    ensures by_calls { (site : SocketAddrV4) (names : List (List ℕ)) (board shown : BoardState) → AnswersBy site names board shown
+        → (calls : List Call) × Chain (AnsweredAt site names) board calls shown }
 {}
 
 /// Who is answered stays who they are, and nothing is read or goes meanwhile. Whose socket failed is answered nothing. Who can't be read
