@@ -26,6 +26,7 @@ ghost use Rattle.check_player.specs.Telling.{came_in};
 ghost use Rattle.check_player.specs.Turning.{Plays};
 ghost use Rattle.live_checks.specs.declared.check_fault.CheckFault.{CheckFault};
 ghost use Rattle.live_checks.specs.declared.check_fault.CheckFault.TheVariants.{NoAnswer};
+ghost use Rattle.live_checks.specs.declared.checking.TheConstants.{MOST_TRIES, MOST_SILENT};
 ghost use Rattle.live_checks.specs.declared.checking.CheckSettings.{CheckSettings};
 ghost use Rattle.live_checks.specs.declared.checking.SocketNames.{SocketNames};
 ghost use Rattle.live_checks.specs.Checking.{other_of, IsBegun, base_behind, is_name, is_known, are_known, is_among, is_named, can_restart};
@@ -33,9 +34,22 @@ ghost use Rattle.live_checks.specs.Checking.{is_possible, is_asked, is_wanted, v
 ghost use Rattle.live_checks.specs.Checking.{told_unplayed};
 ghost use Rattle.live_checks.specs.Checking.{CountsPlayed, CountsOne, CountsEach, nothing_told, status_of, junit_of};
 ghost use Rattle.live_checks.specs.Checking.{IsOutcomeOf, IsStatusOf, IsListOfAll, IsObjectLine};
+ghost use Rattle.live_checks.specs.declared.ends.TheConstants.{LONGEST_ACT, ROOM as datagram_room};
+ghost use Rattle.live_checks.specs.declared.phones.TheConstants.{MOST_TAKEN, ROOM as answers_room};
 ghost use Rattle.live_checks.specs.declared.telephone.Telephone.{Telephone};
 ghost use Rattle.live_checks.specs.Playing.{first_of, IsGiven, HearsTimes, Hears, IsActedFor, Answers, AsksAt, TurnsOnce};
 ghost use Rattle.live_checks.specs.Playing.{TurnsTimes, IsOver, PlaysOut};
+
+/// So often it is asked whether a gateway serves, and so often in vain; so long it is waited for an act; so many datagrams of telephones
+/// are taken at once, and so much of each there is room for.
+pub fn how_long_it_is_tried_has_examples()
+    ensures tries { MOST_TRIES ≡ 10 }
+    ensures silent { MOST_SILENT ≡ 3 }
+    ensures act { LONGEST_ACT ≡ 30000 }
+    ensures taken { MOST_TAKEN ≡ 64 }
+    ensures datagram { datagram_room ≡ 4096 }
+    ensures answers { answers_room ≡ 65536 }
+{}
 
 /// Each sentence at an example.
 pub fn how_a_check_is_played_has_examples()
