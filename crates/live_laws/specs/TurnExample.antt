@@ -30,7 +30,7 @@ use Rattle.live_gateway.specs.Ending.{EndsWith}
 use Rattle.live_gateway.specs.Exchanging.{Becomes, HandsOver}
 use Rattle.live_gateway.specs.Leaving.{Leaves}
 use Rattle.live_gateway.specs.Noting.{with_looked}
-use Rattle.live_gateway.specs.Turning.{Tries, TriesFound, LooksForOne, DoesNext}
+use Rattle.live_gateway.specs.Turning.{Tries, TriesFound, LooksForOne, DoesNext, TurnsAndWrites}
 
 -- a datagram of 5 bytes from 10.0.0.9:2727
 abbrev pub one : SocketAddrV4 × ℕ
@@ -88,6 +88,20 @@ writes_any was journal trace time is left told = ⊤
 
 abbrev pub writes_never : ℕ → Journal → ℕ → ℕ → ℕ → Journal → ℕ → Type 0
 writes_never was journal trace time is left told = ⊥
+
+-- a turn was had, and written at the time 7 by who says that something waits; none was had; or nobody wrote
+abbrev pub WritesAtSeven : Desk ℕ ℕ × ℕ × ℕ → Desk ℕ ℕ × ℕ × ℕ → Type 0
+WritesAtSeven was is =
+    TurnsAndWrites {S = ℕ} {T = ℕ} {V = ℕ} {W = ℕ} (λ before seen after left. ⊤) (λ by journal trace time to kept told. time ≡ 7)
+    (λ by offering. offering ≡ true) was is
+
+abbrev pub HasNoTurn : Desk ℕ ℕ × ℕ × ℕ → Desk ℕ ℕ × ℕ × ℕ → Type 0
+HasNoTurn was is =
+    TurnsAndWrites {S = ℕ} {T = ℕ} {V = ℕ} {W = ℕ} (λ before seen after left. ⊥) writes_any (λ by offering. ⊤) was is
+
+abbrev pub WritesNothing : Desk ℕ ℕ × ℕ × ℕ → Desk ℕ ℕ × ℕ × ℕ → Type 0
+WritesNothing was is =
+    TurnsAndWrites {S = ℕ} {T = ℕ} {V = ℕ} {W = ℕ} (λ before seen after left. ⊤) writes_never (λ by offering. ⊤) was is
 
 -- a desk ended so, and who writes what was recorded was told these words last, if any
 abbrev pub EndsSaying : List ℕ → Desk ℕ Trace → CommonEnding → Type 0

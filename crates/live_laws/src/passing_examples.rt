@@ -12,7 +12,7 @@ ghost use Rattle.live_gateway.specs.declared.admission.Admission.{Admission};
 ghost use Rattle.live_gateway.specs.declared.exchange.Exchange.{Exchange};
 ghost use Rattle.live_gateway.specs.Admitting.{is_heard};
 ghost use Rattle.live_gateway.specs.Noting.{NotesReceived};
-ghost use Rattle.live_gateway.specs.Passing.{HandsNext, SendsNext, TurnsNextAway, PassesEach, GivesNext, HandsLast, HandsOut, HandsUnlessLost, GoesOver, GoesWhereHeard, TakesFound, LooksBehind, LooksOver, GivesWhereHeard, GivesFound, LooksDirectly, Looks};
+ghost use Rattle.live_gateway.specs.Passing.{HandsNext, SendsNext, TurnsNextAway, PassesEach, GivesNext, HandsLast, HandsOut, HandsUnlessLost, GoesOver, GoesWhereHeard, TakesFound, LooksBehind, LooksOver, GivesWhereHeard, GivesFound, LooksBy, LooksDirectly, Looks};
 ghost use Rattle.live_laws.specs.Example.{at_port};
 ghost use Rattle.live_laws.specs.WayExample.{sends_any, sends_none, looks_never};
 
@@ -86,6 +86,10 @@ pub fn what_a_look_gives_has_examples()
         → LooksDirectly looks_never admission given [] was is → ⊥ }
     ensures direct { (admission : Admission) (given : Option (SocketAddrV4 × ℕ)) (was is : Exchange ℕ) → was.network ≡ None
         → Looks looks_never sends_any admission given [] was is → ⊥ }
+    ensures by_network { (admission : Admission) (given : Option (SocketAddrV4 × ℕ)) (room : List ℕ) (was is : Exchange ℕ)
+        → LooksBy looks_never sends_any true admission given room was is → LooksOver looks_never sends_any admission given room was is }
+    ensures by_socket { (admission : Admission) (given : Option (SocketAddrV4 × ℕ)) (room : List ℕ) (was is : Exchange ℕ)
+        → LooksBy looks_never sends_any false admission given room was is → ⊥ }
     ensures counted { (was is : Journal) → NotesReceived (record { clock = 5; time = 7000 }) 2 (at_port 9 2727) (1 ∷ []) was is
         → (is.tally.value ≡ with_received was.tally.value) × (is.written ≡ was.written) }
     ensures logged { (was is : Journal) → NotesReceived (record { clock = 5; time = 7000 }) 2 (at_port 9 2727) (1 ∷ []) was is

@@ -8,6 +8,9 @@ ghost use Rattle.exchange_log.specs.File.{file_head};
 ghost use Rattle.exchange_log.specs.Packet.{Packet};
 ghost use Rattle.gateway_core.specs.GatewayState.{GatewayState};
 ghost use Rattle.gateway_metrics.specs.declared.counts.Counts.{Counts};
+ghost use Rattle.gateway_metrics.specs.declared.picture.ConnectionView.{ConnectionView};
+ghost use Rattle.gateway_metrics.specs.declared.picture.SignalView.{SignalView};
+ghost use Rattle.gateway_metrics.specs.Showing.{connection_shown, signal_shown};
 ghost use Rattle.line_changes.specs.Changes.{changes_of};
 ghost use Rattle.line_changes.specs.Seen.{SeenLine};
 ghost use Rattle.live_outlets.specs.Backlog.{sum_within};
@@ -33,7 +36,8 @@ ghost use Rattle.live_journal.specs.declared.journal.Journal.{Journal};
 ghost use Rattle.live_telephones.specs.Losses.{lost_of_lines};
 ghost use Rattle.live_telephones.specs.Paging.{acts_of, IsSameBeside, ShowsOn, ShowsPage};
 ghost use Rattle.live_telephones.specs.Picturing.{capture_written, codes_from, files_written, verbs_from, with_numbers};
-ghost use Rattle.live_telephones.specs.Seeing.{seen_of, seen_with};
+ghost use Rattle.live_telephones.specs.Seeing.{highest_port, seen_of, seen_with};
+ghost use Rattle.live_telephones.specs.Viewing.{connections_in, signals_in};
 ghost use Rattle.live_telephones.specs.Watching.{changes_behind, lines_seen, TellsEach};
 
 /// What wasn't seen before hasn't changed. Who has no place is told nothing, and so is nobody. Lines are seen from the first on, each as it
@@ -48,6 +52,16 @@ pub fn what_who_watches_is_told_has_examples()
     ensures untold { (setup : Setup) (seen : SeenLine) → seen_with setup 1 (Some seen.hook) None (Some []) ≡ None }
     ensures no_loss { (m : Machine) → lost_of_lines m 0 ≡ 0 }
     ensures losses { (m : Machine) → lost_of_lines m 1 ≡ sum_within 0 (unwrap_or (lost_of m 1) 0) }
+{}
+
+/// No port is above 65,535. The page is shown each signal and each connection of a line, in their order.
+pub fn what_the_page_is_shown_of_a_line_has_examples()
+    ensures ports { highest_port ≡ 65535 }
+    ensures no_signals { signals_in [] ≡ [] }
+    ensures signals { (one two : SignalView) → signals_in (one ∷ two ∷ []) ≡ signal_shown one ∷ signal_shown two ∷ [] }
+    ensures no_connections { connections_in [] ≡ [] }
+    ensures connections { (one two : ConnectionView) → connections_in (one ∷ two ∷ [])
+        ≡ connection_shown one ∷ connection_shown two ∷ [] }
 {}
 
 /// The page is shown what was counted, in numbers, by verbs, by codes that any had, and by files; a capture without a name isn't among

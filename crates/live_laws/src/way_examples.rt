@@ -8,6 +8,7 @@ ghost use Rattle.bad_network.specs.declared.fate.Fate.{Fate};
 ghost use Rattle.bad_network.specs.declared.fate.Fate.TheVariants.{Lost as NeverComes, Once, Twice};
 ghost use Rattle.bad_network.specs.declared.network.BadNetwork.{BadNetwork};
 ghost use Rattle.bad_network.specs.declared.packet.Packet.{Packet};
+ghost use Rattle.bad_network.specs.declared.packet.Way.TheVariants.{In};
 ghost use Rattle.bad_network.specs.Drawing.{after_draws};
 ghost use Rattle.bad_network.specs.Waiting.{put_in};
 ghost use Rattle.gateway_core.specs.GatewayState.{GatewayState};
@@ -36,11 +37,14 @@ ghost use Rattle.live_gateway.specs.declared.desk.Desk.{Desk};
 ghost use Rattle.live_gateway.specs.declared.exchange.Exchange.{Exchange};
 ghost use Rattle.live_gateway.specs.declared.spoilt_way.SpoiltWay.{SpoiltWay};
 ghost use Rattle.live_gateway.specs.Admitting.{is_heard};
+ghost use Rattle.live_gateway.specs.Desk.{Standing, with_input};
 ghost use Rattle.live_gateway.specs.Ending.{OnlyEnds};
 ghost use Rattle.live_gateway.specs.Exchanging.{with_unreceived, OnlyWrites, LooksBetween, FoundSince};
 ghost use Rattle.live_gateway.specs.Leaving.{IsAsked, TakesIf, TakesFromPage, Starts, DoesVisit};
-ghost use Rattle.live_gateway.specs.Offering.{next_fate, TakesFirst, TakesDue};
+ghost use Rattle.live_gateway.specs.Offering.{next_copies, next_fate, TakesFirst, TakesDue};
+ghost use Rattle.live_gateway.specs.Visiting.{HaveTurn};
 ghost use Rattle.live_laws.specs.Example.{at_port};
+ghost use Rattle.live_laws.specs.TurnExample.{HasNoTurn, WritesAtSeven, WritesNothing};
 ghost use Rattle.live_laws.specs.WayExample.{due_at, OffersOne, copy_behind, LooksSeeing, arrival, arrivals, counts_turns, is_told_by, stays_where_told};
 
 /// What becomes of a datagram that is offered is what the network draws next, and its copies wait; where memory is refused those that stand
@@ -163,4 +167,30 @@ pub fn what_a_visitor_sees_is_the_gateway()
         → Stands was.play.gateway.value events → (plain was.play.gateway.value.setup events).now ≡ 7 → is.schedule ≡ opening 7 }
     ensures nothing { (was is : Desk ℕ ℕ) → DoesVisit {V = ℕ} (λ around. untold) (λ around told. ⊤) (λ v s b at w t c. ⊥) 5 None None was is
         → is.exchange.around ≡ was.exchange.around }
+{}
+
+/// An input that is refused counts, and nothing else comes of it. Who has a turn stays, and the board that answers them. What the network
+/// draws next says how many copies there are. What a turn leaves is written once, at its time, and nothing else of the desk changes.
+pub fn what_a_turn_leaves_has_examples()
+    ensures refused { (standing : Standing) → (with_input true standing).came.refused ≡ counted standing.came.refused 1 }
+    ensures taken { (standing : Standing) → (with_input false standing).came.refused ≡ standing.came.refused }
+    ensures input { (standing : Standing) → ((with_input true standing).live ≡ standing.live)
+        × ((with_input true standing).came.received ≡ standing.came.received) }
+    ensures served { (one two : Box ℕ) (board shown : Box BoardState)
+        → HaveTurn {V = ℕ} {S = ℕ} (λ v s b at w t c. w ≡ at) 5 one 0 board (Some two) 0 (Some shown) → two.value ≡ 5 }
+    ensures gone { (one : Box ℕ) (board shown : Box BoardState)
+        → HaveTurn {V = ℕ} {S = ℕ} (λ v s b at w t c. ⊤) 5 one 0 board None 0 (Some shown) → ⊥ }
+    ensures boardless { (one two : Box ℕ) (board : Box BoardState)
+        → HaveTurn {V = ℕ} {S = ℕ} (λ v s b at w t c. ⊤) 5 one 0 board (Some two) 0 None → ⊥ }
+    ensures copied { (network : BadNetwork) → next_fate network ≡ Once 10
+        → next_copies network In (at_port 9 2727) (1 ∷ []) 5 ≡ copy_behind 10 ∷ [] }
+    ensures uncopied { (network : BadNetwork) → next_fate network ≡ NeverComes
+        → next_copies network In (at_port 9 2727) (1 ∷ []) 5 ≡ [] }
+    ensures unturned { (was is : Desk ℕ ℕ × ℕ × ℕ) → HasNoTurn was is → ⊥ }
+    ensures unwritten { (was is : Desk ℕ ℕ × ℕ × ℕ) → WritesNothing was is → ⊥ }
+    ensures dated { (was is : Desk ℕ ℕ × ℕ × ℕ) (turns : WritesAtSeven was is) → turns.done.exchange.now.time ≡ 7 }
+    ensures offers { (was is : Desk ℕ ℕ × ℕ × ℕ) → WritesAtSeven was is → is.0.exchange.is_offering ≡ true }
+    ensures gateway { (was is : Desk ℕ ℕ × ℕ × ℕ) (turns : WritesAtSeven was is) → is.0.play.gateway ≡ turns.done.play.gateway }
+    ensures around { (was is : Desk ℕ ℕ × ℕ × ℕ) (turns : WritesAtSeven was is) → is.0.exchange.around ≡ turns.done.exchange.around }
+    ensures lines { (was is : Desk ℕ ℕ × ℕ × ℕ) (turns : WritesAtSeven was is) → is.0.lines ≡ turns.done.lines }
 {}

@@ -61,3 +61,9 @@ returns-clause-logged c = λ was is notes told. (notes.logged.1 told).0
 
 pub returns-clause-captured : goal.returns-clause-captured
 returns-clause-captured c = λ was is notes. ap (λ (capture : Capture). capture.here) notes.captured.1
+
+pub returns-clause-by_network : goal.returns-clause-by_network
+returns-clause-by_network c = λ admission given room was is looks. looks
+
+pub returns-clause-by_socket : goal.returns-clause-by_socket
+returns-clause-by_socket c = λ admission given room was is looks. looks.looked.looked
