@@ -1,5 +1,5 @@
 -- The exit statuses, and what is said because words ask for it.
-use Rattle.std.specs.Prelude.{ℕ, Bool, false}
+use Rattle.std.specs.Prelude.{ℕ, Bool, false, nat_le}
 use Rattle.live_ends.specs.Ending.{status_of as common_status, is_asked as is_commonly_asked}
 use Rattle.rgwd_words.specs.declared.ending.Ending.{Ending}
 use Rattle.rgwd_words.specs.declared.ending.Ending.TheVariants.{Common, Checked, BadAgents, BadHosts, BadSize, BadFiles, AnyAddress, BadFirst, BadSpread, NoTimeOfDay, Replayed, Differs, NoTrace, Answered, NoAnswer}
@@ -22,6 +22,10 @@ status_of Differs = 1
 status_of NoTrace = 2
 status_of Answered = 0
 status_of (NoAnswer address) = 1
+
+-- words are refused, or the system failed: it didn't do what was asked
+abbrev pub fails : Ending → Bool
+fails ending = nat_le 2 (status_of ending)
 
 -- none of its own is
 abbrev pub is_asked : Ending → Bool

@@ -1,6 +1,6 @@
 //! How the program ends: its status, and what it says then.
-ghost use Rattle.std.specs.Prelude.{◌≡◌, ◌≢◌, ℕ, List, [], ◌++◌, OnOk, IfOk};
-ghost use Rattle.rgwd_words.specs.Statuses.{status_of, is_asked};
+ghost use Rattle.std.specs.Prelude.{◌≡◌, ◌≢◌, ℕ, true, List, [], ◌++◌, OnOk, IfOk};
+ghost use Rattle.rgwd_words.specs.Statuses.{status_of, is_asked, fails};
 ghost use Rattle.rgwd_words.specs.Texts.{unanswered_text, ending_text};
 ghost use Rattle.rgwd_words.specs.Names.{HasNames, Says};
 
@@ -122,6 +122,7 @@ impl Ending {
     pub fn unbound(word: AddressWord, address: SocketAddrV4, kind: ErrorKind) -> Ending
         ensures memory { kind ≡ ErrorKind.OutOfMemory → result ≡ Ending.Common CommonEnding.OutOfMemory }
         ensures told { kind ≢ ErrorKind.OutOfMemory → result ≡ Ending.Common (CommonEnding.Unbound word address kind) }
+        ensures failed { fails result ≡ true }
     {
         Ending::Common(CommonEnding::unbound(word, address, kind))
     }

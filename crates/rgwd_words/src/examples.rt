@@ -1,7 +1,8 @@
 //! Worked examples of the definitions, as theorems.
 #![tactic(auto, unfolding(crate::proofs::Computing::on_examples))]
 
-ghost use Rattle.std.specs.Prelude.{◌≡◌, ℕ, Bool, List, Option, codes, true, false, [], ◌∷◌, ◌++◌, map, option_map, Ok, Err, Some, None};
+ghost use Rattle.std.specs.Prelude.{◌≡◌, ◌≢◌, ◌<◌, ℕ, Bool, List, Option, codes, true, false, [], ◌∷◌, ◌++◌, map, option_map};
+ghost use Rattle.std.specs.Prelude.{Ok, Err, Some, None};
 ghost use Rattle.std.specs.Borrow.{Bor};
 ghost use Rattle.std.specs.Net.Grammar.{IsSocketV4Text};
 ghost use Rattle.std.specs.Net.Text.{socket_v4_text};
@@ -11,6 +12,7 @@ ghost use Rattle.std.specs.declared.net.socket_addr.SocketAddrV4.{SocketAddrV4};
 ghost use Rattle.live_ends.specs.declared.ending.About.{About};
 ghost use Rattle.live_ends.specs.declared.ending.FileNames.{FileNames};
 ghost use Rattle.live_ends.specs.declared.ending.CommonEnding.{CommonEnding};
+ghost use Rattle.live_ends.specs.declared.ending.CommonEnding.TheVariants.{Served, Help, Version, Usage, OutOfMemory};
 ghost use Rattle.live_ends.specs.declared.ending.CommonEnding.TheVariants.{Unreadable, Unwritable};
 ghost use Rattle.live_ends.specs.Ending.{status_of as common_status, is_asked as is_commonly_asked, ending_text as common_text};
 ghost use Rattle.clap.specs.Matches.{first_value, one_text};
@@ -22,7 +24,7 @@ ghost use Rattle.rgwd_words.specs.declared.words.Sockets.{Sockets};
 ghost use Rattle.rgwd_words.specs.Asking.{usual_listen, usual_phones, spoiling_read, IsAt, IsBehind, IsRead, IsMoment, SaysFlag, AsksSockets, Asks};
 ghost use Rattle.rgwd_words.specs.Names.{name_of, Says};
 ghost use Rattle.rgwd_words.specs.Parting.{parting_of};
-ghost use Rattle.rgwd_words.specs.Statuses.{status_of, is_asked};
+ghost use Rattle.rgwd_words.specs.Statuses.{status_of, is_asked, fails};
 ghost use Rattle.rgwd_words.specs.Texts.{ending_text};
 
 /// Each sentence at an example.
@@ -35,6 +37,9 @@ pub fn each_sentence_has_an_example()
     ensures words { map status_of (AnyAddress ∷ BadFirst ∷ BadSpread ∷ NoTrace ∷ []) ≡ 2 ∷ 2 ∷ 2 ∷ 2 ∷ [] }
     ensures admission { map status_of (BadAgents ∷ BadHosts ∷ BadSize ∷ BadFiles ∷ []) ≡ 2 ∷ 2 ∷ 2 ∷ 2 ∷ [] }
     ensures system { status_of NoTimeOfDay ≡ 3 }
+    ensures failed { map fails (BadAgents ∷ NoTimeOfDay ∷ Common Usage ∷ Common OutOfMemory ∷ []) ≡ true ∷ true ∷ true ∷ true ∷ [] }
+    ensures not_failed { map fails (Common Served ∷ Checked ∷ Replayed ∷ Differs ∷ Answered ∷ [])
+        ≡ false ∷ false ∷ false ∷ false ∷ false ∷ [] }
     ensures asked { (ending : CommonEnding) → is_asked (Common ending) ≡ is_commonly_asked ending }
     ensures own { map is_asked (Checked ∷ BadSize ∷ NoTrace ∷ Answered ∷ []) ≡ false ∷ false ∷ false ∷ false ∷ [] }
     // An ending says why, in a line; nothing where what was asked for is printed, or where all was said.

@@ -1,6 +1,7 @@
 //! What words say of the files of a capture.
-ghost use Rattle.std.specs.Prelude.{◌≡◌, option_copied};
+ghost use Rattle.std.specs.Prelude.{◌≡◌, true, IfErr, option_copied};
 ghost use Rattle.rgwd_words.specs.Parting.{number_within, files_of, parted_of, sizeless, parting_of};
+ghost use Rattle.rgwd_words.specs.Statuses.{fails};
 
 use crate::ending::Ending;
 use live_ends::Parting;
@@ -37,7 +38,8 @@ fn files_of(text: Option<&[u8]>) -> Option<u64>
 }
 
 fn parted_of(size: &[u8], files: Option<&[u8]>) -> Result<Option<Parting>, Ending>
-    ensures { result ≡ parted_of size.now (option_copied files.entry) }
+    ensures parted { result ≡ parted_of size.now (option_copied files.entry) }
+    ensures refused { IfErr result (λ ending. fails ending ≡ true) }
 {
     let Some(megabytes) = number_within(MOST_MEGABYTES, decimal(size)) else {
         return Err(Ending::BadSize);
@@ -53,7 +55,8 @@ fn parted_of(size: &[u8], files: Option<&[u8]>) -> Result<Option<Parting>, Endin
 
 // Without a size a number of files says nothing.
 fn sizeless(files: Option<&[u8]>) -> Result<Option<Parting>, Ending>
-    ensures { result ≡ sizeless (option_copied files.entry) }
+    ensures parted { result ≡ sizeless (option_copied files.entry) }
+    ensures refused { IfErr result (λ ending. fails ending ≡ true) }
 {
     match files {
         Some(_) => Err(Ending::BadFiles),
@@ -67,7 +70,8 @@ pub fn parting_of(
     size: Option<&[u8]>,
     files: Option<&[u8]>,
 ) -> Result<Option<Parting>, Ending>
-    ensures { result ≡ parting_of has_capture (option_copied size.entry) (option_copied files.entry) }
+    ensures parted { result ≡ parting_of has_capture (option_copied size.entry) (option_copied files.entry) }
+    ensures refused { IfErr result (λ ending. fails ending ≡ true) }
 {
     let Some(size) = size else {
         return sizeless(files);

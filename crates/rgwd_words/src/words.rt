@@ -1,5 +1,5 @@
 //! What the words of the command line ask for.
-ghost use Rattle.std.specs.Prelude.{◌≡◌, ◌≢◌, ◌⊎◌, Some, None, IfOk, IfErr, codes, is_some, option_copied, option_map};
+ghost use Rattle.std.specs.Prelude.{◌≡◌, ◌≢◌, ◌⊎◌, true, Some, None, IfOk, IfErr, codes, is_some, option_copied, option_map};
 ghost use Rattle.std.specs.Net.Grammar.{IsSocketV4Text};
 ghost use Rattle.clap.specs.Matches.{found_of, first_value, one_text};
 ghost use Rattle.new_start.specs.Words.{first_in as first_read, spread_in as spread_read};
@@ -8,6 +8,7 @@ ghost use Rattle.surroundings.specs.Speaking.{admitted_by, admitted_in};
 ghost use Rattle.rgwd_words.specs.Asking.{spoiling_read, IsAt, IsBehind, IsRead, IsMoment, AsksSockets, Asks};
 ghost use Rattle.rgwd_words.specs.Names.{name_of, HasNames};
 ghost use Rattle.rgwd_words.specs.Parting.{parting_of};
+ghost use Rattle.rgwd_words.specs.Statuses.{fails};
 
 use crate::ending::Ending;
 use crate::help::{LISTEN, PHONES};
@@ -68,6 +69,7 @@ impl ListFault {
         ensures memory { self ≡ ListFault.OutOfMemory → result ≡ Ending.Common CommonEnding.OutOfMemory }
         ensures agents { self ≡ ListFault.BadAgents → result ≡ Ending.BadAgents }
         ensures hosts { self ≡ ListFault.BadHosts → result ≡ Ending.BadHosts }
+        ensures failed { fails result ≡ true }
     {
         match self {
             ListFault::OutOfMemory => Ending::Common(CommonEnding::OutOfMemory),
@@ -150,7 +152,8 @@ pub fn unless_help<'w>(word: &'w str) -> Result<&'w str, Ending>
 
 // The address that this text is, of a socket that a word asks for.
 fn address_of(word: AddressWord, text: &str) -> Result<SocketAddrV4, Ending>
-    ensures { IfOk result (λ address. IsSocketV4Text text.now address) }
+    ensures read { IfOk result (λ address. IsSocketV4Text text.now address) }
+    ensures refused { IfErr result (λ ending. fails ending ≡ true) }
 {
     match address_in(word, text) {
         Ok(address) => Ok(address),
@@ -165,7 +168,8 @@ fn address_at(
     word: AddressWord,
     usual: &str,
 ) -> Result<SocketAddrV4, Ending>
-    ensures { IfOk result (λ address. IsAt usual.now (first_value (found_of matches.now) name.now) address) }
+    ensures read { IfOk result (λ address. IsAt usual.now (first_value (found_of matches.now) name.now) address) }
+    ensures refused { IfErr result (λ ending. fails ending ≡ true) }
 {
     match matches.get_str(name) {
         Some(text) => address_of(word, text),
@@ -179,7 +183,8 @@ fn address_behind(
     name: &str,
     word: AddressWord,
 ) -> Result<Option<SocketAddrV4>, Ending>
-    ensures { IfOk result (λ found. IsBehind (first_value (found_of matches.now) name.now) found) }
+    ensures read { IfOk result (λ found. IsBehind (first_value (found_of matches.now) name.now) found) }
+    ensures refused { IfErr result (λ ending. fails ending ≡ true) }
 {
     match matches.get_str(name) {
         Some(text) => match address_in(word, text) {
@@ -193,7 +198,8 @@ fn address_behind(
 // The address of the site, if that stands there: one of the machine's, since the page answers only those who name its address; or where
 // it has further names, any. What says these, if that stands there, does say names.
 fn site_in(alloc: Global, matches: &ArgMatches<'_>) -> Result<Option<SocketAddrV4>, Ending>
-    ensures { IfOk result (λ site. IsBehind (first_value (found_of matches.now) (codes "http")) site) }
+    ensures read { IfOk result (λ site. IsBehind (first_value (found_of matches.now) (codes "http")) site) }
+    ensures refused { IfErr result (λ ending. fails ending ≡ true) }
 {
     let names = matches.get_str("http-host");
     let site = match address_behind(matches, "http", AddressWord::Http) {
@@ -264,8 +270,9 @@ fn stands(matches: &ArgMatches<'_>, word: &str) -> bool
 
 // How the capture is parted, where there is one.
 fn parting_in(matches: &ArgMatches<'_>) -> Result<Option<Parting>, Ending>
-    ensures { result ≡ parting_of (is_some (first_value (found_of matches.now) (codes "capture")))
+    ensures parted { result ≡ parting_of (is_some (first_value (found_of matches.now) (codes "capture")))
         (first_value (found_of matches.now) (codes "capture-size")) (first_value (found_of matches.now) (codes "capture-files")) }
+    ensures refused { IfErr result (λ ending. fails ending ≡ true) }
 {
     let has_capture = stands(matches, "capture");
     let size = bytes_in(matches, "capture-size");
@@ -274,7 +281,8 @@ fn parting_in(matches: &ArgMatches<'_>) -> Result<Option<Parting>, Ending>
 
 // How a network spoils datagrams, if that stands there and says that.
 fn spoiling_in(matches: &ArgMatches<'_>) -> Result<Option<Spoiling>, Ending>
-    ensures { IfOk result (λ network. IsRead spoiling_read (first_value (found_of matches.now) (codes "network")) network) }
+    ensures read { IfOk result (λ network. IsRead spoiling_read (first_value (found_of matches.now) (codes "network")) network) }
+    ensures refused { IfErr result (λ ending. fails ending ≡ true) }
 {
     match network_in(matches.get_str("network")) {
         Ok(network) => Ok(network),
@@ -284,7 +292,8 @@ fn spoiling_in(matches: &ArgMatches<'_>) -> Result<Option<Spoiling>, Ending>
 
 // The number with which ids begin, if that stands there and is one.
 fn first_in(matches: &ArgMatches<'_>) -> Result<Option<FirstNumber>, Ending>
-    ensures { IfOk result (λ first. IsRead first_read (first_value (found_of matches.now) (codes "first")) first) }
+    ensures read { IfOk result (λ first. IsRead first_read (first_value (found_of matches.now) (codes "first")) first) }
+    ensures refused { IfErr result (λ ending. fails ending ≡ true) }
 {
     let Some(text) = matches.get_str("first") else {
         return Ok(None);
@@ -297,7 +306,8 @@ fn first_in(matches: &ArgMatches<'_>) -> Result<Option<FirstNumber>, Ending>
 
 // How long it waits at most before its clock begins, if that stands there and is a time that a start may wait.
 fn longest_wait_in(matches: &ArgMatches<'_>) -> Result<Option<u32>, Ending>
-    ensures { IfOk result (λ spread. IsRead spread_read (first_value (found_of matches.now) (codes "spread")) spread) }
+    ensures read { IfOk result (λ spread. IsRead spread_read (first_value (found_of matches.now) (codes "spread")) spread) }
+    ensures refused { IfErr result (λ ending. fails ending ≡ true) }
 {
     let Some(text) = matches.get_str("spread") else {
         return Ok(None);
@@ -316,7 +326,8 @@ fn end_in(matches: &ArgMatches<'_>) -> Option<u64>
 }
 
 fn sockets_in<'a>(alloc: Global, matches: &ArgMatches<'a>) -> Result<Sockets<'a>, Ending>
-    ensures { IfOk result (λ sockets. AsksSockets (found_of matches.now) sockets) }
+    ensures asks { IfOk result (λ sockets. AsksSockets (found_of matches.now) sockets) }
+    ensures refused { IfErr result (λ ending. fails ending ≡ true) }
 {
     let listen = match address_at(matches, "listen", AddressWord::Listen, LISTEN) {
         Ok(listen) => listen,
@@ -359,7 +370,8 @@ fn settings_with<'a>(
     requires config { first_value (found_of matches.now) (codes "config") ≡ Some config.now }
     requires first { IsRead first_read (first_value (found_of matches.now) (codes "first")) first }
     requires sockets { AsksSockets (found_of matches.now) sockets }
-    ensures { IfOk result (λ settings. Asks (found_of matches.now) settings.value) }
+    ensures asks { IfOk result (λ settings. Asks (found_of matches.now) settings.value) }
+    ensures refused { IfErr result (λ ending. fails ending ≡ true) }
 {
     let parting = match parting_in(matches) {
         Ok(parting) => parting,
@@ -399,6 +411,7 @@ pub fn settings_in<'a>(alloc: Global, matches: &ArgMatches<'a>) -> Result<Box<Se
     ensures capture { IfOk result (λ settings.
         first_value (found_of matches.now) (codes "capture") ≡ option_map (λ name. name.now) settings.value.capture) }
     ensures asks { IfOk result (λ settings. Asks (found_of matches.now) settings.value) }
+    ensures refused { IfErr result (λ ending. fails ending ≡ true) }
 {
     let Some(config) = matches.get_str("config") else {
         return Err(Ending::Common(CommonEnding::Usage));
