@@ -15,14 +15,16 @@ ghost use Rattle.live_ends.specs.declared.ending.CommonEnding.{CommonEnding};
 ghost use Rattle.live_ends.specs.declared.ending.CommonEnding.TheVariants.{Served, Help, Version, Usage, OutOfMemory};
 ghost use Rattle.live_ends.specs.declared.ending.CommonEnding.TheVariants.{Unreadable, Unwritable};
 ghost use Rattle.live_ends.specs.Ending.{status_of as common_status, is_asked as is_commonly_asked, ending_text as common_text};
+ghost use Rattle.live_ends.specs.Wording.{joined};
 ghost use Rattle.clap.specs.Matches.{first_value, one_text};
 ghost use Rattle.clap.specs.declared.parser.matches.Found.{Found};
 ghost use Rattle.live_outlets.specs.Reasons.{reason_of};
 ghost use Rattle.rgwd_words.specs.declared.ending.Ending.TheVariants.{Common, Checked, BadAgents, BadHosts, BadSize, BadFiles, AnyAddress, BadFirst, BadSpread, NoTimeOfDay, Replayed, Differs, NoTrace, Answered, NoAnswer};
+ghost use Rattle.rgwd_words.specs.declared.help.TheConstants.{USAGE};
 ghost use Rattle.rgwd_words.specs.declared.words.Settings.{Settings};
 ghost use Rattle.rgwd_words.specs.declared.words.Sockets.{Sockets};
 ghost use Rattle.rgwd_words.specs.Asking.{usual_listen, usual_phones, spoiling_read, IsAt, IsBehind, IsRead, IsMoment, SaysFlag, AsksSockets, Asks};
-ghost use Rattle.rgwd_words.specs.Names.{name_of, Says};
+ghost use Rattle.rgwd_words.specs.Names.{help_pieces, name_of, version_pieces, Says};
 ghost use Rattle.rgwd_words.specs.Parting.{parting_of};
 ghost use Rattle.rgwd_words.specs.Statuses.{status_of, is_asked, fails};
 ghost use Rattle.rgwd_words.specs.Texts.{ending_text};
@@ -78,6 +80,11 @@ pub fn an_ending_names_the_file_that_fails()
         → text ≡ read ++ (codes ": read fault" ++ (reason_of kind ++ codes "\n")) }
     ensures written { (read written text : List ℕ) (kind : ErrorKind) → Says read written (Common (Unwritable kind)) text
         → text ≡ written ++ (codes ": write fault" ++ (reason_of kind ++ codes "\n")) }
+    // Who asks how it is used, or for its version, is told what it says of itself.
+    ensures usage { (read written text : List ℕ) → Says read written (Common Usage) text
+        → text ≡ codes "usage: " ++ (USAGE.now ++ codes "\n") }
+    ensures help { (read written text : List ℕ) → Says read written (Common Help) text → text ≡ joined help_pieces }
+    ensures version { (read written text : List ℕ) → Says read written (Common Version) text → text ≡ joined version_pieces }
     // A file that isn't asked for has no name.
     ensures no_file { name_of None ≡ [] }
     ensures file { (name : Bor (List ℕ)) → name_of (Some name) ≡ name.now }

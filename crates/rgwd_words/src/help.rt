@@ -1,4 +1,6 @@
 //! What the program says of itself: how it is used, and its version.
+ghost use Rattle.rgwd_words.specs.Names.{IsOwn};
+
 use live_ends::{About, VERSION};
 
 /// The address of the gateway's socket where no word says another. Its port is that of gateways
@@ -56,7 +58,9 @@ static HELP: [&str; 7] = ["usage: ", USAGE, ABOVE, LISTEN, BETWEEN, PHONES, BELO
 static VERSIONS: [&str; 3] = ["rgwd ", VERSION, "\nMGCP 1.0 (RFC 3435)\n"];
 
 /// What the program says of itself.
-pub(crate) fn of_program() -> About {
+pub(crate) fn of_program() -> About
+    ensures { IsOwn result }
+{
     About {
         usage: USAGE,
         help: HELP.as_slice(),

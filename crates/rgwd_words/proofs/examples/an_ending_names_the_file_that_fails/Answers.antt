@@ -1,7 +1,9 @@
-use Rattle.std.proofs.Common.{◌≡◌, ℕ, List, ◌++◌, codes, subst}
+use Rattle.std.proofs.Common.{◌≡◌, ℕ, List, ◌++◌, ◌∙◌, codes, ap, subst}
 use Rattle.live_ends.specs.Ending.{ending_text as common_text}
+use Rattle.live_ends.specs.Wording.{joined}
 use Rattle.live_outlets.specs.Reasons.{reason_of}
 use Rattle.rgwd_words.specs.Texts.{ending_text}
+use Rattle.rgwd_words.proofs.EndingLemmas.{joined_pieces}
 use Rattle.rgwd_words.proofs.examples.an_ending_names_the_file_that_fails.Goals as goal
 
 -- it is what is said of an ending with these names
@@ -15,3 +17,18 @@ pub returns-clause-written : goal.returns-clause-written
 unfolding ending_text common_text
 returns-clause-written c = λ read written text kind says.
     subst (λ (name : List ℕ). text ≡ name ++ (codes ": write fault" ++ (reason_of kind ++ codes "\n"))) says.2.1 says.3
+
+pub returns-clause-usage : goal.returns-clause-usage
+unfolding ending_text common_text
+returns-clause-usage c = λ read written text says.
+    says.3 ∙ ap (λ (usage : List ℕ). codes "usage: " ++ (usage ++ codes "\n")) says.4.0
+
+pub returns-clause-help : goal.returns-clause-help
+unfolding ending_text common_text
+returns-clause-help c = λ read written text says.
+    says.3 ∙ joined_pieces says.0.help.now ∙ ap (λ (pieces : List (List ℕ)). joined pieces) says.4.1
+
+pub returns-clause-version : goal.returns-clause-version
+unfolding ending_text common_text
+returns-clause-version c = λ read written text says.
+    says.3 ∙ joined_pieces says.0.version.now ∙ ap (λ (pieces : List (List ℕ)). joined pieces) says.4.2
