@@ -1,11 +1,11 @@
 //! Opens what the words ask for: sockets, and the page's site; and says what is asked of the desk of a gateway over these.
-ghost use Rattle.std.specs.Prelude.{◌≡◌, ◌<◌, Some, is_some, IfOk, IfNone, IfSome};
-ghost use Rattle.std.specs.Net.Addr.{IsUnspecifiedV4};
-ghost use Rattle.std.specs.Net.Socket.{v4_ip, v4_port};
+ghost use Rattle.std.specs.Prelude.{◌≡◌, ◌<◌, true, Some, is_some, IfOk, IfErr, IfNone, IfSome};
+ghost use Rattle.std.specs.Net.Socket.{v4_port};
 ghost use Rattle.surroundings.specs.Speaking.{admitted_by, admitted_in};
 ghost use Rattle.live_gateway.specs.Admitting.{known_to};
 ghost use Rattle.page_access.specs.Naming.{names_of};
-ghost use Rattle.rgwd.specs.Opening.{names_asked};
+ghost use Rattle.rgwd_words.specs.Opening.{names_asked, RefusesNames, RefusesSpeakers, TellsPlace, TellsSocket};
+ghost use Rattle.rgwd_words.specs.Statuses.{fails};
 
 use crate::reception::PageReception;
 use gateway_core::Gateway;
@@ -37,7 +37,8 @@ pub fn open_sockets<'a, R: Net + Clock>(
 
 // The further names under which the page may be asked.
 fn page_names(alloc: Global, settings: &Settings<'_>) -> Result<HostNames, ListFault>
-    ensures { IfOk result (λ names. names_asked settings.now.sockets.http_hosts ≡ Some (names_of names)) }
+    ensures named { IfOk result (λ names. names_asked settings.now.sockets.http_hosts ≡ Some (names_of names)) }
+    ensures refused { IfErr result (λ fault. RefusesNames settings.now.sockets.http_hosts fault) }
 {
     match settings.sockets.http_hosts {
         Some(text) => hosts_in(alloc, text),
@@ -55,6 +56,7 @@ pub fn open_site<R: Net, P: Reception>(
     ensures asked { IfOk result (λ site. is_some site ≡ is_some settings.now.sockets.http) }
     ensures named { IfOk result (λ site. IfSome site (λ there.
         IfSome (names_asked settings.now.sockets.http_hosts) (λ names. P.opens names there.value.site))) }
+    ensures failed { IfErr result (λ ending. fails ending ≡ true) }
 {
     let Some(address) = settings.sockets.http else {
         return Ok(None);
@@ -86,6 +88,7 @@ pub fn admission_of(
         (IfOk result (λ admission. admitted_by admission.speakers ≡ known_to gateway.now.setup)) }
     ensures said { IfSome settings.now.sockets.agents (λ agents.
         IfOk result (λ admission. admitted_in agents.now ≡ Some (admitted_by admission.speakers))) }
+    ensures refused { IfErr result (λ fault. RefusesSpeakers settings.now.sockets.agents fault) }
 {
     let speakers = match settings.sockets.agents {
         Some(text) => speakers_in(alloc, text)?,
@@ -109,9 +112,7 @@ fn place_of(own: SocketAddrV4, wanted: SocketAddrV4) -> SocketAddrV4
 // The address that a capture tells of the gateway, whose socket is there: that of its media where the socket is at any address of
 // the machine, since no datagram comes from 0.0.0.0.
 fn captured_address(socket: SocketAddrV4, media: Ipv4Addr) -> SocketAddrV4
-    ensures any { IsUnspecifiedV4 (v4_ip socket) → v4_ip result ≡ media }
-    ensures own { ¬ (IsUnspecifiedV4 (v4_ip socket)) → v4_ip result ≡ v4_ip socket }
-    ensures port { v4_port result ≡ v4_port socket }
+    ensures { TellsPlace socket media result }
 {
     if socket.ip().is_unspecified() {
         SocketAddrV4::new(media, socket.port())
@@ -131,12 +132,7 @@ pub fn desk_settings<'w>(
     ensures captured { result.capture ≡ settings.now.capture }
     ensures spoilt { result.network ≡ settings.now.network }
     ensures ends { result.end ≡ settings.now.stop_after }
-    ensures port { (0 < v4_port own → v4_port result.here ≡ v4_port own)
-        × (v4_port own ≡ 0 → v4_port result.here ≡ v4_port settings.now.sockets.listen) }
-    ensures here { 0 < v4_port own → (IsUnspecifiedV4 (v4_ip own) → v4_ip result.here ≡ media)
-        × (¬ (IsUnspecifiedV4 (v4_ip own)) → v4_ip result.here ≡ v4_ip own) }
-    ensures untold { v4_port own ≡ 0 → (IsUnspecifiedV4 (v4_ip settings.now.sockets.listen) → v4_ip result.here ≡ media)
-        × (¬ (IsUnspecifiedV4 (v4_ip settings.now.sockets.listen)) → v4_ip result.here ≡ v4_ip settings.now.sockets.listen) }
+    ensures here { TellsSocket own settings.now.sockets.listen media result.here }
 {
     let socket = place_of(own, settings.sockets.listen);
     DeskSettings {

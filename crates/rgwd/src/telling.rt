@@ -1,5 +1,5 @@
 //! Sends a line to a gateway's telephones, and prints what they answer.
-ghost use Rattle.rgwd.specs.Endings.{Unanswered};
+ghost use Rattle.rgwd_words.specs.Opening.{Unanswered};
 
 use crate::recording::Recording;
 use live_ends::{AddressWord, AskFault, CommonEnding, address_in, ask};

@@ -3,3 +3,4 @@ pub mod Parting
 pub mod Texts
 pub mod Names
 pub mod Asking
+pub mod Opening

@@ -4,11 +4,16 @@
 ghost use Rattle.std.specs.Prelude.{◌≡◌, ◌≢◌, ◌<◌, ℕ, Bool, List, Option, codes, true, false, [], ◌∷◌, ◌++◌, map, option_map};
 ghost use Rattle.std.specs.Prelude.{Ok, Err, Some, None};
 ghost use Rattle.std.specs.Borrow.{Bor};
+ghost use Rattle.std.specs.Net.Addr.{IsUnspecifiedV4};
 ghost use Rattle.std.specs.Net.Grammar.{IsSocketV4Text};
+ghost use Rattle.std.specs.Net.Socket.{v4_ip, v4_port};
 ghost use Rattle.std.specs.Net.Text.{socket_v4_text};
 ghost use Rattle.std.specs.Str.Parse.{digits_value, without_leading_plus};
 ghost use Rattle.std.specs.declared.io.ErrorKind.{ErrorKind};
+ghost use Rattle.std.specs.declared.io.ErrorKind.TheVariants as kinds;
+ghost use Rattle.std.specs.declared.net.ipv4_addr.Ipv4Addr.{Ipv4Addr};
 ghost use Rattle.std.specs.declared.net.socket_addr.SocketAddrV4.{SocketAddrV4};
+ghost use Rattle.live_ends.specs.declared.asking.AskFault.TheVariants as ask_faults;
 ghost use Rattle.live_ends.specs.declared.ending.About.{About};
 ghost use Rattle.live_ends.specs.declared.ending.FileNames.{FileNames};
 ghost use Rattle.live_ends.specs.declared.ending.CommonEnding.{CommonEnding};
@@ -19,12 +24,18 @@ ghost use Rattle.live_ends.specs.Wording.{joined};
 ghost use Rattle.clap.specs.Matches.{first_value, one_text};
 ghost use Rattle.clap.specs.declared.parser.matches.Found.{Found};
 ghost use Rattle.live_outlets.specs.Reasons.{reason_of};
+ghost use Rattle.page_access.specs.Naming.{names_in};
+ghost use Rattle.surroundings.specs.Speaking.{admitted_in};
+ghost use Rattle.rgwd_words.specs.declared.ending.Ending.{Ending};
 ghost use Rattle.rgwd_words.specs.declared.ending.Ending.TheVariants.{Common, Checked, BadAgents, BadHosts, BadSize, BadFiles, AnyAddress, BadFirst, BadSpread, NoTimeOfDay, Replayed, Differs, NoTrace, Answered, NoAnswer};
 ghost use Rattle.rgwd_words.specs.declared.help.TheConstants.{USAGE};
+ghost use Rattle.rgwd_words.specs.declared.words.ListFault.{ListFault};
+ghost use Rattle.rgwd_words.specs.declared.words.ListFault.TheVariants as faults;
 ghost use Rattle.rgwd_words.specs.declared.words.Settings.{Settings};
 ghost use Rattle.rgwd_words.specs.declared.words.Sockets.{Sockets};
 ghost use Rattle.rgwd_words.specs.Asking.{usual_listen, usual_phones, spoiling_read, IsAt, IsBehind, IsRead, IsMoment, SaysFlag, AsksSockets, Asks};
 ghost use Rattle.rgwd_words.specs.Names.{help_pieces, name_of, version_pieces, Says};
+ghost use Rattle.rgwd_words.specs.Opening.{names_asked, RefusesNames, RefusesSpeakers, TellsPlace, TellsSocket, Unanswered};
 ghost use Rattle.rgwd_words.specs.Parting.{parting_of};
 ghost use Rattle.rgwd_words.specs.Statuses.{status_of, is_asked, fails};
 ghost use Rattle.rgwd_words.specs.Texts.{ending_text};
@@ -119,4 +130,35 @@ pub fn what_stands_behind_words_is_meant()
         → settings.trace ≡ false }
     ensures network { (found : Found) (settings : Settings) → Asks found settings
         → IsRead spoiling_read (first_value found (codes "network")) settings.network }
+{}
+
+/// Each sentence at an example.
+pub fn what_is_opened_has_examples()
+    // The page has the further names that words say, or none; and a list is refused that is none.
+    ensures no_names { names_asked None ≡ Some [] }
+    ensures names { (text : Bor (List ℕ)) → names_asked (Some text) ≡ names_in text.now }
+    ensures unrefused { (fault : ListFault) → RefusesNames None fault → ⊥ }
+    ensures no_list { (text : Bor (List ℕ)) → RefusesNames (Some text) faults.BadHosts → names_in text.now ≡ None }
+    ensures other_fault { (text : Bor (List ℕ)) → RefusesNames (Some text) faults.BadAgents → ⊥ }
+    ensures unsaid { RefusesSpeakers None faults.BadAgents → ⊥ }
+    ensures no_speakers { (text : Bor (List ℕ)) → RefusesSpeakers (Some text) faults.BadAgents → admitted_in text.now ≡ None }
+    ensures no_hosts { (text : Bor (List ℕ)) → RefusesSpeakers (Some text) faults.BadHosts → ⊥ }
+    // A capture tells where the gateway's socket is, or was to be; of one at any address that of its media.
+    ensures anywhere { (socket here : SocketAddrV4) (media : Ipv4Addr) → TellsPlace socket media here
+        → IsUnspecifiedV4 (v4_ip socket) → v4_ip here ≡ media }
+    ensures somewhere { (socket here : SocketAddrV4) (media : Ipv4Addr) → TellsPlace socket media here
+        → ¬ (IsUnspecifiedV4 (v4_ip socket)) → v4_ip here ≡ v4_ip socket }
+    ensures port { (socket here : SocketAddrV4) (media : Ipv4Addr) → TellsPlace socket media here → v4_port here ≡ v4_port socket }
+    ensures own { (own wanted here : SocketAddrV4) (media : Ipv4Addr) → TellsSocket own wanted media here
+        → 0 < v4_port own → TellsPlace own media here }
+    ensures wanted { (own wanted here : SocketAddrV4) (media : Ipv4Addr) → TellsSocket own wanted media here
+        → v4_port own ≡ 0 → TellsPlace wanted media here }
+    // Where a line isn't answered, nobody is there, or the clock or the socket failed.
+    ensures silent { (address : SocketAddrV4) (ending : Ending) → Unanswered address ask_faults.NoAnswer ending
+        → status_of ending ≡ 1 }
+    ensures clock { (address : SocketAddrV4) (ending : Ending) → Unanswered address ask_faults.Clock ending → status_of ending ≡ 3 }
+    ensures no_socket { (address : SocketAddrV4) (kind : ErrorKind) (ending : Ending) → kind ≢ kinds.OutOfMemory
+        → Unanswered address (ask_faults.Refused kind) ending → status_of ending ≡ 3 }
+    ensures no_memory { (address : SocketAddrV4) (ending : Ending) → Unanswered address (ask_faults.Refused kinds.OutOfMemory) ending
+        → status_of ending ≡ 3 }
 {}
