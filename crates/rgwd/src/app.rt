@@ -1,5 +1,7 @@
 //! The program: reads its words and its configuration, opens its sockets, and serves.
-ghost use Rattle.std.specs.Prelude.{◌≡◌, ℕ, List, ◌++◌, codes, IfOk, IfSome};
+ghost use Rattle.std.specs.Prelude.{◌≡◌, is_some, IfOk, IfSome};
+ghost use Rattle.rgw_scenes.specs.Flaws.{flaw_of};
+ghost use Rattle.rgwd.specs.Endings.{TellsFlaw};
 ghost use Rattle.rgwd_words.specs.Names.{name_of, Says};
 
 use crate::behind::put_behind;
@@ -261,8 +263,8 @@ fn serve_config<R: Files + Net + Clock + RandomSource + Alloc + Clone + Drop, P:
 
 // What is said of the flaw that the configuration in this file with this text has, if it has one: a line that names the file.
 fn flaw_text(alloc: Global, file: &str, text: &[u8]) -> Result<Option<Vec<u8>>, AllocError>
-    ensures { IfOk result (λ said. IfSome said (λ line.
-        (flaw : List ℕ) × (line.items ≡ file.now ++ codes ": " ++ flaw ++ codes "\n"))) }
+    ensures flawed { IfOk result (λ said. is_some said ≡ is_some (flaw_of text.now)) }
+    ensures told { IfOk result (λ said. IfSome said (λ line. IfSome (flaw_of text.now) (TellsFlaw file.now text.now line.items))) }
 {
     let Some(flaw) = flaw_of(alloc, text)? else {
         return Ok(None);
