@@ -1,5 +1,5 @@
 //! The program: reads its words and its configuration, opens its sockets, and serves.
-ghost use Rattle.std.specs.Prelude.{◌≡◌, is_some, IfOk, IfSome};
+ghost use Rattle.std.specs.Prelude.{◌≡◌, is_some, IfOk, IfNone, IfSome, None};
 ghost use Rattle.rgw_scenes.specs.Flaws.{flaw_of};
 ghost use Rattle.rgwd.specs.Endings.{TellsFlaw};
 ghost use Rattle.rgwd_words.specs.Names.{name_of, Says};
@@ -42,7 +42,10 @@ struct Places {
 }
 
 // Where the page is, if there is one that tells it.
-fn page_address<P: Reception>(visitors: &Option<Box<PageReception<P>>>) -> Option<SocketAddrV4> {
+fn page_address<P: Reception>(visitors: &Option<Box<PageReception<P>>>) -> Option<SocketAddrV4>
+    ensures none { IfNone visitors.now (result ≡ None) }
+    ensures placed { IfSome visitors.now (λ there. result ≡ P.placed there.value.site) }
+{
     match visitors {
         Some(reception) => reception.site.address(),
         None => None,
