@@ -1,5 +1,5 @@
 -- The exit statuses, and what is said because words ask for it.
-use Rattle.std.specs.Prelude.{ℕ, Bool, false, if◌then◌else◌}
+use Rattle.std.specs.Prelude.{ℕ, Bool, false, nat_le, if◌then◌else◌}
 use Rattle.live_ends.specs.Ending.{status_of as common_status, is_asked as is_commonly_asked}
 use Rattle.rgca_words.specs.declared.ending.Ending.{Ending}
 use Rattle.rgca_words.specs.declared.ending.Ending.TheVariants.{Common, OfCheck, OfPhones, OfLoads, Checked, Played, Loaded}
@@ -38,6 +38,10 @@ status_of (NotServing address) = 3
 status_of (NoSuchLine is_other) = 3
 status_of (InUse is_other) = 3
 status_of System = 3
+
+-- words or a configuration are refused, or the system failed: it didn't do what was asked
+abbrev pub fails : Ending → Bool
+fails ending = nat_le 2 (status_of ending)
 
 -- none of its own is
 abbrev pub is_asked : Ending → Bool

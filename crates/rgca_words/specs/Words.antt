@@ -1,8 +1,14 @@
 -- What stands behind words of the command line.
-use Rattle.std.specs.Prelude.{◌≡◌, ℕ, Bool, true, false, codes, List, Option, None, Some}
+use Rattle.std.specs.Prelude.{◌≡◌, ℕ, Bool, true, false, ◌||◌, bytes_eq, codes, string_bytes, String, List, [], ◌∷◌, Option, None, Some}
 use Rattle.std.specs.Net.Grammar.{IsSocketV4Text}
 use Rattle.std.specs.declared.net.socket_addr.SocketAddrV4.{SocketAddrV4}
 use Rattle.live_checks.specs.declared.telephone.Telephone.{Telephone}
+
+-- the word behind the first asks how the program is used
+abbrev pub asks_for_help : {A : Type 0} → List (String A) → Bool
+asks_for_help [] = false
+asks_for_help (first ∷ []) = false
+asks_for_help (first ∷ word ∷ more) = bytes_eq (string_bytes word) (codes "--help") || bytes_eq (string_bytes word) (codes "-h")
 
 -- the address that a text behind a word says; none where nothing stands there
 abbrev pub IsBehind : Option (List ℕ) → Option SocketAddrV4 → Type 0

@@ -1,8 +1,10 @@
 //! Reads the words behind `check`.
-ghost use Rattle.std.specs.Prelude.{◌≡◌, [], true, Some, is_some, IfOk, IfSome, codes, option_map};
+ghost use Rattle.std.specs.Prelude.{◌≡◌, [], true, Some, is_some, IfOk, IfErr, IfSome, codes, option_map};
 ghost use Rattle.clap.specs.Matches.{found_of, first_value, one_text};
 ghost use Rattle.live_checks.specs.Checking.{are_known};
+ghost use Rattle.rgca_words.specs.Endings.{check_ending};
 ghost use Rattle.rgca_words.specs.Names.{name_of, HasNames};
+ghost use Rattle.rgca_words.specs.Statuses.{fails};
 ghost use Rattle.rgca_words.specs.Words.{IsBehind, SaysFlag, IsWorked};
 
 use crate::ending::Named;
@@ -42,7 +44,8 @@ fn address_in(
     name: &str,
     word: AddressWord,
 ) -> Result<SocketAddrV4, WordFault>
-    ensures { IfOk result (λ address. IsBehind (first_value (found_of matches.now) name.now) (Some address)) }
+    ensures read { IfOk result (λ address. IsBehind (first_value (found_of matches.now) name.now) (Some address)) }
+    ensures refused { IfErr result (λ fault. fails (check_ending fault) ≡ true) }
 {
     match address_behind(matches, name, word) {
         Ok(Some(address)) => Ok(address),
@@ -73,8 +76,9 @@ fn is_name(text: &str) -> bool {
 
 // The name of another line than this, if that stands there. Case makes no difference between names.
 fn other_in<'a>(matches: &ArgMatches<'a>, line: &str) -> Result<Option<&'a str>, WordFault>
-    ensures { IfOk result (λ other.
+    ensures said { IfOk result (λ other.
         first_value (found_of matches.now) (codes "more-lines") ≡ option_map (λ name. name.now) other) }
+    ensures refused { IfErr result (λ fault. fails (check_ending fault) ≡ true) }
 {
     let Some(text) = matches.get_str("more-lines") else {
         return Ok(None);
@@ -92,6 +96,7 @@ fn other_in<'a>(matches: &ArgMatches<'a>, line: &str) -> Result<Option<&'a str>,
 fn names_in<'a>(matches: &ArgMatches<'a>) -> Result<Option<&'a str>, WordFault>
     ensures said { IfOk result (λ only. first_value (found_of matches.now) (codes "only") ≡ option_map (λ names. names.now) only) }
     ensures known { IfOk result (λ only. IfSome only (λ names. are_known names.now ≡ true)) }
+    ensures refused { IfErr result (λ fault. fails (check_ending fault) ≡ true) }
 {
     let Some(names) = matches.get_str("only") else {
         return Ok(None);
@@ -108,8 +113,9 @@ fn telephone_in<'a>(
     matches: &ArgMatches<'_>,
     line: &'a str,
 ) -> Result<Option<Telephone<'a>>, WordFault>
-    ensures { IfOk result (λ found. IsWorked line.now (first_value (found_of matches.now) (codes "phones"))
+    ensures worked { IfOk result (λ found. IsWorked line.now (first_value (found_of matches.now) (codes "phones"))
         (first_value (found_of matches.now) (codes "hook")) found) }
+    ensures refused { IfErr result (λ fault. fails (check_ending fault) ≡ true) }
 {
     let phones = match address_behind(matches, "phones", AddressWord::Phones) {
         Ok(phones) => phones,
@@ -173,6 +179,7 @@ fn settings_of<'a>(
     ensures slow { IfOk result (λ words. SaysFlag (one_text (found_of matches.now) (codes "slow")) words.value.settings.is_slow) }
     ensures json { IfOk result (λ words. SaysFlag (one_text (found_of matches.now) (codes "json")) words.value.settings.is_json) }
     ensures kept { IfOk result (λ words. words.value.settings.is_junit ≡ is_some words.value.junit) }
+    ensures refused { IfErr result (λ fault. fails (check_ending fault) ≡ true) }
 {
     let gateway = match address_in(matches, "address", AddressWord::Gateway) {
         Ok(gateway) => gateway,
@@ -237,6 +244,7 @@ fn settings_in<'a>(
     ensures slow { IfOk result (λ words. SaysFlag (one_text (found_of matches.now) (codes "slow")) words.value.settings.is_slow) }
     ensures json { IfOk result (λ words. SaysFlag (one_text (found_of matches.now) (codes "json")) words.value.settings.is_json) }
     ensures kept { IfOk result (λ words. words.value.settings.is_junit ≡ is_some words.value.junit) }
+    ensures refused { IfErr result (λ fault. fails (check_ending fault) ≡ true) }
 {
     let (Some(domain), Some(line)) = (matches.get_str("domain"), matches.get_str("line")) else {
         return Err(WordFault::Common(CommonEnding::Usage));

@@ -1,16 +1,19 @@
 //! Worked examples of the definitions, as theorems.
 #![tactic(auto, unfolding(crate::specs::Texts::ending_text))]
 
-ghost use Rattle.std.specs.Prelude.{◌≡◌, ℕ, Bool, codes, true, false, List, [], ◌∷◌, ◌++◌, map, Option, Some, None};
+ghost use Rattle.std.specs.Prelude.{◌≡◌, ℕ, Bool, codes, true, false, List, [], ◌∷◌, ◌++◌, map, Option, Some, None, String, string_bytes};
 ghost use Rattle.std.specs.Borrow.{Bor};
+ghost use Rattle.std.specs.Global.{Global};
 ghost use Rattle.std.specs.Net.Grammar.{IsSocketV4Text};
 ghost use Rattle.std.specs.Net.Text.{socket_v4_text};
 ghost use Rattle.std.specs.declared.io.ErrorKind.{ErrorKind};
 ghost use Rattle.std.specs.declared.net.socket_addr.SocketAddrV4.{SocketAddrV4};
 ghost use Rattle.live_ends.specs.declared.ending.CommonEnding.{CommonEnding};
-ghost use Rattle.live_ends.specs.declared.ending.CommonEnding.TheVariants.{Unreadable, Unwritable};
+ghost use Rattle.live_ends.specs.declared.ending.CommonEnding.TheVariants.{Served, Help, Version, Usage, Unreadable, Unwritable};
 ghost use Rattle.live_ends.specs.Ending.{status_of as common_status, is_asked as is_commonly_asked, ending_text as common_text};
+ghost use Rattle.live_ends.specs.Wording.{joined};
 ghost use Rattle.live_outlets.specs.Reasons.{reason_of};
+ghost use Rattle.rgca_words.specs.declared.help.TheConstants.{USAGE, CHECK_USAGE};
 ghost use Rattle.rgca_words.specs.declared.words.WordFault.TheVariants as faults;
 ghost use Rattle.rgca_words.specs.declared.phone_words.PhoneWordFault.TheVariants as phone_faults;
 ghost use Rattle.rgca_words.specs.declared.load_words.LoadWordFault.TheVariants as number_faults;
@@ -22,11 +25,11 @@ ghost use Rattle.rgca_words.specs.declared.ending.Ending.TheVariants.{Common, Of
 ghost use Rattle.rgca_words.specs.declared.ending.Ending.TheVariants.{Unexpected, Unplayed, BadScript, BadGateway, BadNumber};
 ghost use Rattle.rgca_words.specs.declared.ending.Ending.TheVariants.{Untold, NoLines, BadLine, SameLine, NoCheck, Config};
 ghost use Rattle.rgca_words.specs.declared.ending.Ending.TheVariants.{NoAnswer, NotServing, NoSuchLine, InUse, System};
-ghost use Rattle.rgca_words.specs.Statuses.{status_of, is_asked};
+ghost use Rattle.rgca_words.specs.Statuses.{status_of, is_asked, fails};
 ghost use Rattle.rgca_words.specs.Endings.{word_ending, check_ending, phone_ending, load_word_ending};
 ghost use Rattle.rgca_words.specs.Texts.{ending_text};
-ghost use Rattle.rgca_words.specs.Names.{name_of, gateway_of, Says};
-ghost use Rattle.rgca_words.specs.Words.{IsBehind, SaysFlag, IsWorked};
+ghost use Rattle.rgca_words.specs.Names.{help_pieces, check_pieces, phone_pieces, load_pieces, version_pieces, name_of, gateway_of, Says};
+ghost use Rattle.rgca_words.specs.Words.{asks_for_help, IsBehind, SaysFlag, IsWorked};
 
 /// Each sentence at an example.
 pub fn each_sentence_has_an_example()
@@ -156,6 +159,36 @@ pub fn an_ending_names_what_fails()
     ensures file { (name : Bor (List ℕ)) → name_of (Some name) ≡ name.now }
     ensures word { (word : Bor (List ℕ)) → gateway_of (phone_faults.BadGateway word) ≡ word.now }
     ensures other_word { (ending : CommonEnding) → gateway_of (phone_faults.Common ending) ≡ [] }
+{}
+
+/// Each sentence at an example.
+pub fn a_program_says_how_it_is_used()
+    // Who asks how the program is used, or for its version, is told what it says of itself; and of a check, a script and a load likewise.
+    ensures usage { (read written gateway text : List ℕ) → Says read written gateway (Common Usage) text
+        → text ≡ codes "usage: " ++ (USAGE.now ++ codes "\n") }
+    ensures help { (read written gateway text : List ℕ) → Says read written gateway (Common Help) text
+        → text ≡ joined help_pieces }
+    ensures version { (read written gateway text : List ℕ) → Says read written gateway (Common Version) text
+        → text ≡ joined version_pieces }
+    ensures check_usage { (read written gateway text : List ℕ) → Says read written gateway (OfCheck Usage) text
+        → text ≡ codes "usage: " ++ (CHECK_USAGE.now ++ codes "\n") }
+    ensures check_help { (read written gateway text : List ℕ) → Says read written gateway (OfCheck Help) text
+        → text ≡ joined check_pieces }
+    ensures phones_help { (read written gateway text : List ℕ) → Says read written gateway (OfPhones Help) text
+        → text ≡ joined phone_pieces }
+    ensures loads_help { (read written gateway text : List ℕ) → Says read written gateway (OfLoads Help) text
+        → text ≡ joined load_pieces }
+    // The word behind the first asks that.
+    ensures asked { (first word : String Global) (more : List (String Global)) → string_bytes word ≡ codes "--help"
+        → asks_for_help (first ∷ word ∷ more) ≡ true }
+    ensures shortly { (first word : String Global) (more : List (String Global)) → string_bytes word ≡ codes "-h"
+        → asks_for_help (first ∷ word ∷ more) ≡ true }
+    ensures asked_not { (first word : String Global) (more : List (String Global)) → string_bytes word ≡ codes "-help"
+        → asks_for_help (first ∷ word ∷ more) ≡ false }
+    ensures alone { (first : String Global) → asks_for_help (first ∷ []) ≡ false }
+    // What is refused, or fails, has a status of its own.
+    ensures failed { map fails (NoCheck ∷ System ∷ Common Usage ∷ OfLoads Usage ∷ []) ≡ true ∷ true ∷ true ∷ true ∷ [] }
+    ensures not_failed { map fails (Common Served ∷ Checked 1 ∷ Played ∷ OfPhones Help ∷ []) ≡ false ∷ false ∷ false ∷ false ∷ [] }
 {}
 
 /// Each sentence at an example.

@@ -1,4 +1,6 @@
 //! What the program says of itself: how it is used, and its version.
+ghost use Rattle.rgca_words.specs.Names.{IsOwn};
+
 use crate::ending::Abouts;
 use live_ends::{About, VERSION};
 
@@ -160,7 +162,9 @@ The status is 0 where enough calls came to rest, 1 where too few did, 2 for othe
 static LOADS_HELP: [&str; 3] = ["usage: ", LOADS_USAGE, LOADS_BELOW];
 
 /// What the program says of itself, of its checks, of its scripts of telephones, and of its loads.
-pub fn of_all() -> Abouts {
+pub fn of_all() -> Abouts
+    ensures { IsOwn result }
+{
     let version = VERSIONS.as_slice();
     Abouts {
         program: About {

@@ -1,6 +1,10 @@
 //! Reads the words behind `load`.
-ghost use Rattle.std.specs.Prelude.{◌≡◌, ◌∷◌, IfOk, string_bytes};
+ghost use Rattle.std.specs.Prelude.{◌≡◌, ◌∷◌, true, false, Err, IfOk, IfErr, string_bytes};
+ghost use Rattle.rgca_words.specs.Endings.{load_word_ending};
+ghost use Rattle.rgca_words.specs.Statuses.{fails};
+ghost use Rattle.rgca_words.specs.Words.{asks_for_help};
 
+use crate::words::asks_for_help;
 use live_ends::CommonEnding;
 use load_bench::{LoadNumber, LoadSettings, SettingFault};
 
@@ -21,7 +25,9 @@ fn is_word(word: &str, name: &str) -> bool {
 }
 
 // Why a word isn't taken.
-fn fault_of(fault: SettingFault) -> LoadWordFault {
+fn fault_of(fault: SettingFault) -> LoadWordFault
+    ensures { fails (load_word_ending result) ≡ true }
+{
     match fault {
         SettingFault::NoWord => USAGE,
         SettingFault::BadNumber { number } => LoadWordFault::BadNumber { number },
@@ -29,7 +35,9 @@ fn fault_of(fault: SettingFault) -> LoadWordFault {
 }
 
 // What these words ask of a load, which stand behind its configuration.
-fn settings_in(words: &[String]) -> Result<LoadSettings, LoadWordFault> {
+fn settings_in(words: &[String]) -> Result<LoadSettings, LoadWordFault>
+    ensures refused { IfErr result (λ fault. fails (load_word_ending fault) ≡ true) }
+{
     let mut settings = LoadSettings::USUAL;
     let mut name = "";
     for word in words {
@@ -56,16 +64,18 @@ fn settings_in(words: &[String]) -> Result<LoadSettings, LoadWordFault> {
 
 /// Reads the words of a load, of which the first is `load`: the file of the configuration, and what is asked.
 pub fn read_load_words(words: &[String]) -> Result<(&str, LoadSettings), LoadWordFault>
-    ensures { (first config : _) (behind : _) → words.now ≡ first ∷ config ∷ behind
+    ensures asked { (first config : _) (behind : _) → words.now ≡ first ∷ config ∷ behind
         → IfOk result (λ asked. asked.0.now ≡ string_bytes config) }
+    ensures help { asks_for_help words.now ≡ true → result ≡ Err (LoadWordFault.Common CommonEnding.Help) }
+    ensures refused { asks_for_help words.now ≡ false → IfErr result (λ fault. fails (load_word_ending fault) ≡ true) }
 {
+    if asks_for_help(words) {
+        return Err(LoadWordFault::Common(CommonEnding::Help));
+    }
     let [_, config, behind @ ..] = words else {
         return Err(USAGE);
     };
     let config = config.as_str();
-    if is_word(config, "--help") || is_word(config, "-h") {
-        return Err(LoadWordFault::Common(CommonEnding::Help));
-    }
     if config.starts_with('-') {
         return Err(USAGE);
     }

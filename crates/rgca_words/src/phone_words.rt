@@ -1,6 +1,10 @@
 //! Reads the words behind `phones`.
-ghost use Rattle.std.specs.Prelude.{◌≡◌, ◌∷◌, IfOk, string_bytes};
+ghost use Rattle.std.specs.Prelude.{◌≡◌, ◌∷◌, true, false, Err, IfOk, IfErr, string_bytes};
+ghost use Rattle.rgca_words.specs.Endings.{phone_ending};
+ghost use Rattle.rgca_words.specs.Statuses.{fails};
+ghost use Rattle.rgca_words.specs.Words.{asks_for_help};
 
+use crate::words::asks_for_help;
 use live_ends::CommonEnding;
 use mg_bytes::Text;
 use std::alloc::{AllocError, Global};
@@ -109,7 +113,9 @@ impl Gateways {
 }
 
 // Reads the words that say gateways; without any the telephones are where they usually are.
-fn gateways_in<'a>(alloc: Global, words: &'a [String]) -> Result<Gateways, PhoneWordFault<'a>> {
+fn gateways_in<'a>(alloc: Global, words: &'a [String]) -> Result<Gateways, PhoneWordFault<'a>>
+    ensures refused { IfErr result (λ fault. fails (phone_ending fault) ≡ true) }
+{
     let mut gateways = Gateways {
         names: Vec::new(alloc),
         addresses: Vec::new(alloc),
@@ -142,18 +148,19 @@ pub fn read_phone_words<'a>(
     alloc: Global,
     words: &'a [String],
 ) -> Result<PhoneSettings<'a>, PhoneWordFault<'a>>
-    ensures { (first script : _) (gateways : _) → words.now ≡ first ∷ script ∷ gateways
+    ensures asked { (first script : _) (gateways : _) → words.now ≡ first ∷ script ∷ gateways
         → IfOk result (λ settings. settings.script.now ≡ string_bytes script) }
+    ensures help { asks_for_help words.now ≡ true → result ≡ Err (PhoneWordFault.Common CommonEnding.Help) }
+    ensures refused { asks_for_help words.now ≡ false → IfErr result (λ fault. fails (phone_ending fault) ≡ true) }
 {
+    if asks_for_help(words) {
+        return Err(PhoneWordFault::Common(CommonEnding::Help));
+    }
     let [_, script, gateways @ ..] = words else {
         return Err(PhoneWordFault::Common(CommonEnding::Usage));
     };
-    match script.as_str() {
-        "--help" | "-h" => return Err(PhoneWordFault::Common(CommonEnding::Help)),
-        word if word.starts_with('-') => {
-            return Err(PhoneWordFault::Common(CommonEnding::Usage));
-        }
-        _ => {}
+    if script.as_str().starts_with('-') {
+        return Err(PhoneWordFault::Common(CommonEnding::Usage));
     }
     let Gateways { names, addresses } = match gateways_in(alloc, gateways) {
         Ok(gateways) => gateways,

@@ -1,9 +1,11 @@
 //! Reads the words of the command line.
-ghost use Rattle.std.specs.Prelude.{◌≡◌, [], Some, None, Ok, IfOk, IfErr, IfSome, codes, option_map};
+ghost use Rattle.std.specs.Prelude.{◌≡◌, [], true, Some, None, Ok, IfOk, IfErr, IfSome, codes, option_map};
 ghost use Rattle.std.specs.Net.Grammar.{IsSocketV4Text};
 ghost use Rattle.clap.specs.Matches.{found_of, first_value, one_text};
+ghost use Rattle.rgca_words.specs.Endings.{word_ending};
 ghost use Rattle.rgca_words.specs.Names.{name_of, HasNames};
-ghost use Rattle.rgca_words.specs.Words.{IsBehind, SaysFlag};
+ghost use Rattle.rgca_words.specs.Statuses.{fails};
+ghost use Rattle.rgca_words.specs.Words.{asks_for_help, IsBehind, SaysFlag};
 
 use crate::ending::Named;
 use crate::help::{CONTROL, USAGE};
@@ -71,6 +73,19 @@ const WORDS: [(&str, Kind); 8] = [
     ("stop-after", Kind::Number),
 ];
 
+/// Whether the word behind the first asks how the program is used.
+pub fn asks_for_help(words: &[String]) -> bool
+    ensures { result ≡ asks_for_help words.now }
+{
+    match words {
+        [_, word, ..] => {
+            let word = word.as_str();
+            word == "--help" || word == "-h"
+        }
+        _ => false,
+    }
+}
+
 /// The address behind a word, if that stands there.
 pub fn address_behind(
     matches: &ArgMatches<'_>,
@@ -112,6 +127,7 @@ fn settings_in<'a>(alloc: Global, matches: &ArgMatches<'a>) -> Result<Box<Settin
         first_value (found_of matches.now) (codes "network") ≡ None → settings.value.network ≡ None) }
     ensures goes_on { IfOk result (λ settings.
         one_text (found_of matches.now) (codes "stop-after") ≡ None → settings.value.stop_after ≡ None) }
+    ensures refused { IfErr result (λ fault. fails (word_ending fault) ≡ true) }
 {
     let Some(config) = matches.get_str("config") else {
         return Err(WordFault::Common(CommonEnding::Usage));
