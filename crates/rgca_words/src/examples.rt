@@ -6,6 +6,7 @@ ghost use Rattle.std.specs.Borrow.{Bor};
 ghost use Rattle.std.specs.Global.{Global};
 ghost use Rattle.std.specs.Net.Grammar.{IsSocketV4Text};
 ghost use Rattle.std.specs.Net.Text.{socket_v4_text};
+ghost use Rattle.std.specs.Str.Parse.{digits_value, without_leading_plus};
 ghost use Rattle.std.specs.declared.io.ErrorKind.{ErrorKind};
 ghost use Rattle.std.specs.declared.net.socket_addr.SocketAddrV4.{SocketAddrV4};
 ghost use Rattle.live_ends.specs.declared.ending.CommonEnding.{CommonEnding};
@@ -29,7 +30,7 @@ ghost use Rattle.rgca_words.specs.Statuses.{status_of, is_asked, fails};
 ghost use Rattle.rgca_words.specs.Endings.{word_ending, check_ending, phone_ending, load_word_ending};
 ghost use Rattle.rgca_words.specs.Texts.{ending_text};
 ghost use Rattle.rgca_words.specs.Names.{help_pieces, check_pieces, phone_pieces, load_pieces, version_pieces, name_of, gateway_of, Says};
-ghost use Rattle.rgca_words.specs.Words.{asks_for_help, IsBehind, SaysFlag, IsWorked};
+ghost use Rattle.rgca_words.specs.Words.{asks_for_help, IsBehind, IsMoment, IsRead, SaysFlag, IsWorked};
 
 /// Each sentence at an example.
 pub fn each_sentence_has_an_example()
@@ -200,6 +201,12 @@ pub fn what_stands_behind_words_is_meant()
     ensures no_flag { (flag : Bool) → SaysFlag None flag → flag ≡ false }
     ensures flag { (flag : Bool) → SaysFlag (Some (codes "true")) flag → flag ≡ true }
     ensures flag_not { (flag : Bool) → SaysFlag (Some (codes "false")) flag → flag ≡ false }
+    // What is read of a text is what it says, and it says something; of no text nothing is.
+    ensures unread { (found : Option ℕ) → IsRead (λ text. Some 7) None found → found ≡ None }
+    ensures read { (text : List ℕ) (found : Option ℕ) → IsRead (λ text. Some 7) (Some text) found → found ≡ Some 7 }
+    ensures unreadable { (text : List ℕ) (found : Option ℕ) → IsRead (λ text. None) (Some text) found → ⊥ }
+    ensures no_moment { (moment : Option ℕ) → IsMoment None moment → moment ≡ None }
+    ensures moment { (ms : ℕ) (text : List ℕ) → IsMoment (Some text) (Some ms) → ms ≡ digits_value 10 (without_leading_plus text) }
     // One word says who works the line's telephone, or none.
     ensures nobody_by_phones { (line : List ℕ) (phones hook : Option (List ℕ)) → IsWorked line phones hook None → phones ≡ None }
     ensures nobody_by_hook { (line : List ℕ) (phones hook : Option (List ℕ)) → IsWorked line phones hook None → hook ≡ None }

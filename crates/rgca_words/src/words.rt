@@ -5,7 +5,7 @@ ghost use Rattle.clap.specs.Matches.{found_of, first_value, one_text};
 ghost use Rattle.rgca_words.specs.Endings.{word_ending};
 ghost use Rattle.rgca_words.specs.Names.{name_of, HasNames};
 ghost use Rattle.rgca_words.specs.Statuses.{fails};
-ghost use Rattle.rgca_words.specs.Words.{asks_for_help, IsBehind, SaysFlag};
+ghost use Rattle.rgca_words.specs.Words.{asks_for_help, spoiling_read, IsBehind, IsMoment, IsRead, SaysFlag};
 
 use crate::ending::Named;
 use crate::help::{CONTROL, USAGE};
@@ -110,6 +110,24 @@ pub fn address_behind(
     }
 }
 
+// How a network spoils datagrams, if that stands there and says that.
+fn spoiling_in(matches: &ArgMatches<'_>) -> Result<Option<Spoiling>, WordFault>
+    ensures read { IfOk result (λ network. IsRead spoiling_read (first_value (found_of matches.now) (codes "network")) network) }
+    ensures refused { IfErr result (λ fault. fails (word_ending fault) ≡ true) }
+{
+    match network_in(matches.get_str("network")) {
+        Ok(network) => Ok(network),
+        Err(ending) => Err(WordFault::Common(ending)),
+    }
+}
+
+// The moment at which it ends, in ms, if that stands there.
+fn end_in(matches: &ArgMatches<'_>) -> Option<u64>
+    ensures { IsMoment (one_text (found_of matches.now) (codes "stop-after")) result }
+{
+    matches.get_one::<u64>("stop-after")
+}
+
 // What the program is asked to do by what stands behind its words. Its configuration is the word that stands by itself. It stands in a
 // box: whoever holds it, or may have a fault in its place, holds little.
 fn settings_in<'a>(alloc: Global, matches: &ArgMatches<'a>) -> Result<Box<Settings<'a>>, WordFault>
@@ -123,10 +141,9 @@ fn settings_in<'a>(alloc: Global, matches: &ArgMatches<'a>) -> Result<Box<Settin
         IsBehind (first_value (found_of matches.now) (codes "listen")) settings.value.listen) }
     ensures route { IfOk result (λ settings. SaysFlag (one_text (found_of matches.now) (codes "route")) settings.value.route) }
     ensures log { IfOk result (λ settings. SaysFlag (one_text (found_of matches.now) (codes "log")) settings.value.log) }
-    ensures whole { IfOk result (λ settings.
-        first_value (found_of matches.now) (codes "network") ≡ None → settings.value.network ≡ None) }
-    ensures goes_on { IfOk result (λ settings.
-        one_text (found_of matches.now) (codes "stop-after") ≡ None → settings.value.stop_after ≡ None) }
+    ensures spoilt { IfOk result (λ settings.
+        IsRead spoiling_read (first_value (found_of matches.now) (codes "network")) settings.value.network) }
+    ensures ends { IfOk result (λ settings. IsMoment (one_text (found_of matches.now) (codes "stop-after")) settings.value.stop_after) }
     ensures refused { IfErr result (λ fault. fails (word_ending fault) ≡ true) }
 {
     let Some(config) = matches.get_str("config") else {
@@ -141,9 +158,9 @@ fn settings_in<'a>(alloc: Global, matches: &ArgMatches<'a>) -> Result<Box<Settin
         Ok(listen) => listen,
         Err(fault) => return Err(fault),
     };
-    let network = match network_in(matches.get_str("network")) {
+    let network = match spoiling_in(matches) {
         Ok(network) => network,
-        Err(ending) => return Err(WordFault::Common(ending)),
+        Err(fault) => return Err(fault),
     };
     let settings = Settings {
         config,
@@ -153,7 +170,7 @@ fn settings_in<'a>(alloc: Global, matches: &ArgMatches<'a>) -> Result<Box<Settin
         log: matches.get_flag("log"),
         capture: matches.get_str("capture"),
         network,
-        stop_after: matches.get_one::<u64>("stop-after"),
+        stop_after: end_in(matches),
     };
     match boxed(alloc, settings) {
         Ok(settings) => Ok(settings),
