@@ -236,9 +236,7 @@ impl Bench {
         let mut number: u64 = 0;
         for keys in numbers {
             number = number.saturating_add(1);
-            if self.add_line(telephones, number, keys).is_err() {
-                return Err(AllocError);
-            }
+            self.add_line(telephones, number, keys)?;
         }
         let gateway = Phones::new(telephones, first, numbers.len());
         if self.gateways.push(gateway).is_err() {

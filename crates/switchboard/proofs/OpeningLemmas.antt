@@ -61,17 +61,16 @@ one_longer were are gateway more = ap (λ (all : List Gateway). length all) more
 
 -- Lines: one more of a gateway is put, for the digits whose turn it is
 
-pub put_one : (gateway : ℕ) (domain : List ℕ) (before : ℕ) (numbers : List (List ℕ)) (place : ℕ) (digits : List ℕ)
-    (all so_far next : List Station) → place < length numbers → digits ≡ get_or numbers place digits
-    → next ≡ so_far ++ new_station gateway domain (min (before + 1) greatest_line) digits ∷ []
+pub put_one : (gateway : ℕ) (domain : List ℕ) (before line : ℕ) (numbers : List (List ℕ)) (place : ℕ) (digits bytes : List ℕ)
+    (all so_far next : List Station) → line ≡ min (before + 1) greatest_line → place < length numbers
+    → digits ≡ get_or numbers place digits → bytes ≡ digits → next ≡ so_far ++ new_station gateway domain line bytes ∷ []
     → so_far ++ stations_behind gateway domain before (drop place numbers) ≡ all
-    → next ++ stations_behind gateway domain (min (before + 1) greatest_line) (drop (place + 1) numbers) ≡ all
-put_one gateway domain before numbers place digits all so_far next within item next_is given =
-    ap (λ (lines : List Station). lines ++ stations_behind gateway domain (min (before + 1) greatest_line) (drop (place + 1) numbers))
-    next_is
-    ∙ append_assoc so_far (new_station gateway domain (min (before + 1) greatest_line) digits ∷ [])
-    (stations_behind gateway domain (min (before + 1) greatest_line) (drop (place + 1) numbers))
-    ∙ ap (λ (one : List ℕ). so_far ++ stations_behind gateway domain before (one ∷ drop (place + 1) numbers)) item
+    → next ++ stations_behind gateway domain line (drop (place + 1) numbers) ≡ all
+put_one gateway domain before line numbers place digits bytes all so_far next line_is within item bytes_are next_is given =
+    ap (λ (lines : List Station). lines ++ stations_behind gateway domain line (drop (place + 1) numbers)) next_is
+    ∙ append_assoc so_far (new_station gateway domain line bytes ∷ []) (stations_behind gateway domain line (drop (place + 1) numbers))
+    ∙ ap (λ (one : ℕ). so_far ++ new_station gateway domain one bytes ∷ stations_behind gateway domain one (drop (place + 1) numbers)) line_is
+    ∙ ap (λ (one : List ℕ). so_far ++ stations_behind gateway domain before (one ∷ drop (place + 1) numbers)) (bytes_are ∙ item)
     ∙ ap (λ (left : List (List ℕ)). so_far ++ stations_behind gateway domain before left) (sym (drop_more numbers place digits within))
     ∙ given
 

@@ -1,5 +1,5 @@
 -- The board of a configuration: which gateways and lines it has, and whether calls are routed between these.
-use Rattle.std.specs.Prelude.{◌≡◌, ◌&&◌, ◌+◌, ◌-◌, ◌^◌, ℕ, Bool, is_some, map, min, List, [], ◌∷◌, ◌++◌}
+use Rattle.std.specs.Prelude.{◌≡◌, ◌&&◌, ◌+◌, ℕ, Bool, is_some, map, min, List, [], ◌∷◌, ◌++◌}
 use Rattle.std.specs.declared.net.socket_addr.SocketAddrV4.{SocketAddrV4}
 use Rattle.agent_config.specs.declared.config.AgentConfig.{AgentConfig}
 use Rattle.agent_config.specs.declared.config.GatewayConfig.{GatewayConfig}
@@ -29,7 +29,7 @@ new_station place domain line digits = record {
 
 -- a gateway has so many lines at most
 abbrev pub greatest_line : ℕ
-greatest_line = 2 ^ 16 - 1
+greatest_line = 65535
 
 -- its lines behind so many, one for each of these: they are numbered one behind another
 abbrev pub stations_behind : ℕ → List ℕ → ℕ → List (List ℕ) → List Station

@@ -3,8 +3,9 @@ use Rattle.switchboard.proofs.switchboard.put_stations.Goals as goal
 
 pub loop-number-preserved : goal.loop-number-preserved
 loop-number-preserved c =
-    put_one c.args.gateway c.args.domain.now c.loop-number.line c.args.numbers.now c.loop-number.number-index _ _ _ _
-    c.loop-number-test.true c.number-item.is c.in_ok-put_station.ensures c.loop-number.invariant
+    put_one c.args.gateway c.args.domain.now c.loop-number.line c.saturating_add-line.result c.args.numbers.now c.loop-number.number-index _ _
+    _ _ _ c.saturating_add-line.ensures c.loop-number-test.true c.number-item.is c.as_bytes-number.ensures c.in_ok-put_station.ensures
+    c.loop-number.invariant
 
 pub returns : goal.returns
 returns c =
