@@ -1,6 +1,6 @@
 -- Which lines the bench of a load has.
-use Rattle.std.proofs.Common.{◌≡◌, ℕ, ◌+◌, ◌<◌, ◌≤◌, List, [], ◌∷◌, ◌++◌, length, get_or, drop, sym, ap, append_assoc, append-nil, ◌∙◌}
-use Rattle.std.proofs.lemmas.List.{drop_more, at_drop_all}
+use Rattle.std.proofs.Common.{◌≡◌, ℕ, ◌+◌, ◌<◌, List, [], ◌∷◌, ◌++◌, length, get_or, drop, sym, ap, append_assoc, ◌∙◌}
+use Rattle.std.proofs.lemmas.List.{drop_more}
 use Rattle.std.specs.Prelude.{min}
 use Rattle.std.specs.declared.net.socket_addr.SocketAddrV4.{SocketAddrV4}
 use Rattle.load_bench.specs.declared.line.BenchLine.{BenchLine}
@@ -20,12 +20,3 @@ one_added address before number numbers place keys all so_far next number_is wit
     ∙ ap (λ (one : List ℕ). so_far ++ lines_behind address before (one ∷ drop (place + 1) numbers)) item
     ∙ ap (λ (left : List (List ℕ)). so_far ++ lines_behind address before left) (sym (drop_more numbers place keys within))
     ∙ given
-
--- all are
-pub all_added : (address : SocketAddrV4) (before : ℕ) (numbers : List (List ℕ)) (place : ℕ) (all so_far : List BenchLine)
-    → length numbers ≤ place → so_far ++ lines_behind address before (drop place numbers) ≡ all → so_far ≡ all
-all_added address before numbers place all so_far past given =
-    let none : so_far ++ lines_behind address before (drop place numbers) ≡ so_far ++ []
-    = ap (λ (left : List (List ℕ)). so_far ++ lines_behind address before left)
-    (at_drop_all (λ (left : List (List ℕ)). left) numbers place past) in
-    sym (append-nil so_far) ∙ sym none ∙ given

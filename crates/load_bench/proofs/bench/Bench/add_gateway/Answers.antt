@@ -1,5 +1,5 @@
 use Rattle.std.proofs.Common.{refl, ◌∙◌}
-use Rattle.load_bench.proofs.OpeningLemmas.{all_added, one_added}
+use Rattle.load_bench.proofs.OpeningLemmas.{one_added}
 use Rattle.load_bench.proofs.bench.Bench.add_gateway.Goals as goal
 
 pub loop-keys-init : goal.loop-keys-init
