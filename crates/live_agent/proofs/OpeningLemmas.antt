@@ -1,10 +1,11 @@
 -- Which lines the bench of a load has, and how it begins.
 use Rattle.std.proofs.Common.{◌≡◌, ℕ, ◌+◌, ◌<◌, ◌≤◌, List, ◌∷◌, ◌++◌, [], length, get_or, drop, sym, ap, subst, append_assoc, append-nil, ◌∙◌}
 use Rattle.std.proofs.lemmas.List.{drop_more, at_drop_all}
-use Rattle.std.specs.Global.{Box, Vec}
+use Rattle.std.specs.Global.{Box}
+use Rattle.std.specs.Prelude.{Option, None}
+use Rattle.std.specs.declared.net.socket_addr.SocketAddrV4.{SocketAddrV4}
 use Rattle.agent_config.specs.declared.config.GatewayConfig.{GatewayConfig}
 use Rattle.load_bench.specs.declared.bench.Bench.{Bench}
-use Rattle.load_bench.specs.declared.bench.Course.{Course}
 use Rattle.load_bench.specs.declared.line.BenchLine.{BenchLine}
 use Rattle.load_bench.specs.declared.settings.LoadSettings.{LoadSettings}
 use Rattle.load_bench.specs.declared.tally.LoadTally.{LoadTally}
@@ -41,15 +42,19 @@ filled_all given config place all so_far same past before =
     sym (append-nil so_far) ∙ sym none
     ∙ subst (λ (list : List GatewayConfig). so_far ++ lines_of (drop place list) ≡ all) (sym same) before
 
+-- a gateway of which it isn't known where its telephones are adds none
+pub none_more : (lines : List BenchLine) (telephones : Option SocketAddrV4) (numbers : List (List ℕ)) → telephones ≡ None
+    → lines ≡ lines ++ lines_at telephones numbers
+none_more lines telephones numbers none =
+    sym (append-nil lines) ∙ ap (λ (at : Option SocketAddrV4). lines ++ lines_at at numbers) (sym none)
+
 -- a bench that is made, then has these lines, and is asked then
-pub begun_with : (settings : LoadSettings) (now : ℕ) (lines : List BenchLine) (made full asked : Bench)
+pub begun_with : (settings : LoadSettings) (now : ℕ) (lines : List BenchLine) (made asked : Bench)
     → OpensAt settings now made.course.value → made.lines.items ≡ [] → made.tally.value.all.value.numbers ≡ no_numbers
-    → full.lines.items ≡ made.lines.items ++ lines → full.course ≡ made.course → full.tally ≡ made.tally
-    → unfailed asked.course.value ≡ unfailed full.course.value → asked.lines ≡ full.lines → asked.tally ≡ full.tally
-    → BeginsWith settings now lines asked
-begun_with settings now lines made full asked opens none counted lines_more same_course same_tally course_stays lines_stay tally_stays = (
-  subst (OpensAt settings now) (sym course_stays)
-      (subst (λ (course : Box Course). OpensAt settings now course.value) (sym same_course) opens),
-  ap (λ (list : Vec BenchLine). list.items) lines_stay ∙ lines_more ∙ ap (λ (list : List BenchLine). list ++ lines) none,
-  ap (λ (tally : Box LoadTally). tally.value.all.value.numbers) (tally_stays ∙ same_tally) ∙ counted,
+    → asked.lines.items ≡ made.lines.items ++ lines → unfailed asked.course.value ≡ unfailed made.course.value
+    → asked.tally ≡ made.tally → BeginsWith settings now lines asked
+begun_with settings now lines made asked opens none counted lines_more same_course same_tally = (
+  subst (OpensAt settings now) (sym same_course) opens,
+  lines_more ∙ ap (λ (list : List BenchLine). list ++ lines) none,
+  ap (λ (tally : Box LoadTally). tally.value.all.value.numbers) same_tally ∙ counted,
 )

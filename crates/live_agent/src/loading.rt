@@ -1,7 +1,7 @@
 //! Makes a load: calls at a rate between the telephones of gateways, which another call agent serves, or this program's own exchange.
 ghost use Rattle.std.specs.Prelude.{◌≡◌, ◌≤◌, ◌&&◌, ◌++◌, true, false, is_some, length, take, vec_len, IfOk, OnOk};
 ghost use Rattle.load_bench.specs.declared.settings.LoadFault.TheVariants.{OutOfMemory};
-ghost use Rattle.load_bench.specs.Opening.{BeginsWith};
+ghost use Rattle.load_bench.specs.Opening.{unfailed, BeginsWith};
 ghost use Rattle.load_bench.specs.Over.{bench_over};
 ghost use Rattle.load_bench.specs.Telephones.{CountsCame, CountsSent, Hears};
 ghost use Rattle.live_agent.specs.Clock.{milliseconds};
@@ -381,15 +381,16 @@ fn add_telephones(bench: &mut Bench, gateway: &GatewayConfig) -> Result<(), OutO
     }
 }
 
-// Adds the gateways of a configuration that have telephones.
-fn fill(bench: &mut Bench, config: &AgentConfig) -> Result<(), OutOfMemory>
+// Adds the gateways of a configuration that have telephones, and asks these at this moment, in ms.
+fn fill(bench: &mut Bench, config: &AgentConfig, now: u64) -> Result<(), OutOfMemory>
     ensures lines { OnOk result (bench.new.lines.items ≡ bench.old.lines.items ++ lines_of config.now.gateways.items) }
-    ensures course { bench.new.course ≡ bench.old.course }
-    ensures tally { bench.new.tally ≡ bench.old.tally }
+    ensures course { OnOk result (unfailed bench.new.course.value ≡ unfailed bench.old.course.value) }
+    ensures tally { OnOk result (bench.new.tally ≡ bench.old.tally) }
 {
     for gateway in config.gateways.iter() {
         add_telephones(bench, gateway)?;
     }
+    bench.ask(now);
     Ok(())
 }
 
@@ -403,8 +404,7 @@ fn bench_of(
     ensures { IfOk result (λ bench. BeginsWith settings now (lines_of config.now.gateways.items) bench.value) }
 {
     let mut bench = Bench::new(alloc, settings, now)?;
-    fill(&mut *bench, config)?;
-    bench.ask(now);
+    fill(&mut *bench, config, now)?;
     Ok(bench)
 }
 

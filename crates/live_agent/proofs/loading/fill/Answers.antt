@@ -1,4 +1,8 @@
-use Rattle.std.proofs.Common.{refl, ◌∙◌}
+use Rattle.std.proofs.Common.{refl, ap, ◌∙◌}
+use Rattle.std.specs.Global.{Box, Vec}
+use Rattle.load_bench.specs.declared.bench.Course.{Course}
+use Rattle.load_bench.specs.declared.line.BenchLine.{BenchLine}
+use Rattle.load_bench.specs.Opening.{unfailed}
 use Rattle.live_agent.proofs.OpeningLemmas.{filled_all, filled_one}
 use Rattle.live_agent.proofs.loading.fill.Goals as goal
 
@@ -16,5 +20,13 @@ loop-gateway-preserved c = record {
 
 pub returns-clause-lines : goal.returns-clause-lines
 returns-clause-lines c =
-    filled_all c.deref-gateway-items.result.now c.args.config.now.gateways.items c.loop-gateway.gateway-index _ _
+    ap (λ (list : Vec BenchLine). list.items) c.ask.ensures.lines
+    ∙ filled_all c.deref-gateway-items.result.now c.args.config.now.gateways.items c.loop-gateway.gateway-index _ _
     c.deref-gateway-items.ensures.value c.loop-gateway-test.false c.loop-gateway.invariant.lines
+
+pub returns-clause-course : goal.returns-clause-course
+returns-clause-course c =
+    c.ask.ensures.course ∙ ap (λ (course : Box Course). unfailed course.value) c.loop-gateway.invariant.course
+
+pub returns-clause-tally : goal.returns-clause-tally
+returns-clause-tally c = c.ask.ensures.tally ∙ c.loop-gateway.invariant.tally
