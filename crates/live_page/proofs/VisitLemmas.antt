@@ -13,7 +13,7 @@ use Rattle.page_access.specs.Naming.{names_of}
 use Rattle.live_page.specs.Visiting.{calls_of, AnsweredAt, AnswersAll, AnswersBy, AnswersVisitor}
 
 -- calls behind others are calls of both
-chain_on : {S : Type 0} (answers : S → Request (List ℕ) → Response → S → Type 0) (first second : List Call) (a b c : S)
+pub chain_on : {S : Type 0} (answers : S → Request (List ℕ) → Response → S → Type 0) (first second : List Call) (a b c : S)
     → Chain answers a first b → Chain answers b second c → Chain answers a (first ++ second) c
 chain_on {S} answers [] second a b c x y = subst (λ (s : S). Chain answers s second c) x y
 chain_on answers (call ∷ first) second a b c x y = (x.0, x.1, chain_on answers first second x.0 b c x.2 y)
