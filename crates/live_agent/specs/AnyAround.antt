@@ -1,5 +1,5 @@
 -- Surroundings of which a worked example asks nothing: of each a number.
-use Rattle.std.specs.Prelude.{◌≡◌, ◌⊎◌, ◌+◌, ⊤, ℕ, codes, List, [], Option, Result}
+use Rattle.std.specs.Prelude.{◌≡◌, ◌⊎◌, ◌+◌, ⊤, ℕ, codes, List, [], Option, Result, Ok}
 use Rattle.std.specs.declared.net.socket_addr.SocketAddr.{SocketAddr}
 use Rattle.std.specs.declared.net.socket_addr.SocketAddr.TheVariants.{V4}
 use Rattle.std.specs.declared.net.socket_addr.SocketAddrV4.{SocketAddrV4}
@@ -19,9 +19,12 @@ no_traffic around = untold
 abbrev pub no_sockets : ℕ → List SocketAddrV4
 no_sockets around = []
 
--- whose clock tells any moment
+-- whose clock tells any moment; tells this one
 abbrev pub passes_any : ℕ → Result ℕ Fault → Type 0
 passes_any around outcome = ⊤
+
+abbrev pub passes_at : ℕ → ℕ → Result ℕ Fault → Type 0
+passes_at moment around outcome = outcome ≡ Ok moment
 
 abbrev pub sends_any : ℕ → SocketAddrV4 → List ℕ → Result ⊤ Fault → ℕ → Type 0
 sends_any around to bytes outcome after = ⊤

@@ -21,7 +21,7 @@ ghost use Rattle.live_agent.specs.declared.loading.Load.{Load};
 ghost use Rattle.live_agent.specs.declared.loading.LoadEnding.{LoadEnding};
 ghost use Rattle.live_agent.specs.declared.loading.LoadEnding.TheVariants as loads;
 ghost use Rattle.live_agent.specs.declared.wire.Wire.{Wire};
-ghost use Rattle.live_agent.specs.AnyAround.{sends_any, receives_any, hears_any, answers_any, becomes_any, passes_any};
+ghost use Rattle.live_agent.specs.AnyAround.{sends_any, receives_any, hears_any, answers_any, becomes_any, passes_any, passes_at};
 ghost use Rattle.live_agent.specs.AnyAround.{serves_never, writes_any};
 ghost use Rattle.live_agent.specs.Datagrams.{DealsIf, HearsAt, StepsAt, TakesAll, TakesDatagram, TakesEach, TakesElse, TakesOver};
 ghost use Rattle.live_agent.specs.Sending.{SendsOutputs};
@@ -110,6 +110,6 @@ pub fn what_a_load_does_has_examples()
         ≡ lines_at first.phones first.numbers.items ++ lines_at next.phones next.numbers.items ++ [] }
     // It begins at the moment that the clock tells, with these lines, and by the settings that ask for it.
     ensures opened { (config : AgentConfig) (settings : LoadSettings) (was is : Wire ℕ) →
-        BeginsLoad answers_any (λ around clock. clock ≡ Ok 700) config settings None was is →
-        (now : ℕ) × (bench : Bench) × (Ok now ≡ Ok 700) × BeginsWith settings now (lines_of config.gateways.items) bench }
+        BeginsLoad answers_any (passes_at 700) config settings None was is →
+        (now : ℕ) × (bench : Bench) × passes_at 700 was.around (Ok now) × BeginsWith settings now (lines_of config.gateways.items) bench }
 {}
