@@ -19,6 +19,7 @@ use Rattle.turns.specs.declared.schedule.Schedule.{Schedule}
 use Rattle.live_agent.specs.declared.loading.LoadEnding.{LoadEnding}
 use Rattle.live_agent.specs.declared.loading.LoadEnding.TheVariants.{Common, Unmade}
 use Rattle.live_agent.specs.declared.wire.Wire.{Wire}
+use Rattle.live_agent.specs.Clock.{milliseconds}
 use Rattle.live_agent.specs.Ending.{WritesAndEnds}
 use Rattle.live_agent.specs.Telephones.{BeginsLoad, EndsLoad}
 use Rattle.live_agent.specs.Turning.{DoesNext}
@@ -99,13 +100,15 @@ pub record ServesToEnd {S W : Type 0}
   pub counts : is.journal.value.tally ≡ done.journal.value.tally
   pub rest : is ≡ record done { journal = is.journal }
 
--- with the desk of a configuration, which routes calls where that is asked for; or memory is refused for that, and nothing is done
+-- with the desk of a configuration as it begins at the time of day that was told, which routes calls where that is asked for; or memory is
+-- refused for that, and nothing is done
 abbrev pub ServesOver :
     {S W : Type 0} → AgentConfig → Bool → (Result ⊤ Fault → Switchboard → Wire S → Switchboard → Wire S → Type 0)
     → (W → Journal → ℕ → W → Journal → Type 0) → (List ℕ → W → Written → W → Type 0) → Wire S → Wire S → W → CommonEnding → Type 0
 ServesOver config is_routed serves writes ends was is recorder ending =
     ((ending ≡ OutOfMemory) × (is ≡ was))
-    ⊎ ((board : Switchboard) × BoardOf config is_routed board × ServesToEnd serves writes ends board was is recorder ending)
+    ⊎ ((board : Switchboard) × BoardOf config is_routed (milliseconds was.now.time) board
+    × ServesToEnd serves writes ends board was is recorder ending)
 
 -- how a load's exchange ends that served, or whose clock failed
 abbrev pub served_ending : Result ⊤ Fault → CommonEnding
@@ -118,8 +121,8 @@ abbrev pub ServesLoad :
     → Wire S → Wire S → CommonEnding → Type 0
 ServesLoad config is_routed serves was is ending =
     ((ending ≡ OutOfMemory) × (is ≡ was))
-    ⊎ ((board now : Switchboard) × (served : Result ⊤ Fault) × BoardOf config is_routed board × serves served board was now is
-    × (ending ≡ served_ending served))
+    ⊎ ((board now : Switchboard) × (served : Result ⊤ Fault) × BoardOf config is_routed (milliseconds was.now.time) board
+    × serves served board was now is × (ending ≡ served_ending served))
 
 -- it served to its end
 abbrev pub has_served : CommonEnding → Bool

@@ -1,7 +1,7 @@
 //! Worked examples of what a desk waits for, of what its turns leave, and of how it ends, as theorems.
 #![tactic(auto)]
 
-ghost use Rattle.std.specs.Prelude.{◌≡◌, ⊤, [], ◌∷◌, ℕ, Bool, true, false, List, Option, Some, None, Ok, Err, codes, is_some, length, map, slice_get, vec_len};
+ghost use Rattle.std.specs.Prelude.{◌≡◌, ◌⊎◌, ⊤, [], ◌∷◌, ℕ, Bool, true, false, List, Option, Some, None, Ok, Err, codes, is_some, length, map, slice_get, vec_len};
 ghost use Rattle.std.specs.declared.net.socket_addr.SocketAddrV4.{SocketAddrV4};
 ghost use Rattle.std.specs.Global.{Box};
 ghost use Rattle.std.specs.Result.{result_err};
@@ -52,14 +52,14 @@ ghost use Rattle.live_agent.specs.Datagrams.{with_stranger, DealsIf, HearsBy, He
 ghost use Rattle.switchboard.specs.Hearing.{HearsText};
 ghost use Rattle.switchboard.specs.Dues.{FallsDueAt};
 ghost use Rattle.switchboard.specs.Example.{HasAgent};
-ghost use Rattle.switchboard.specs.Opening.{configured_as, known_as, BoardOf};
+ghost use Rattle.switchboard.specs.Opening.{gateways_from, known_as, BoardOf};
 ghost use Rattle.switchboard.specs.Steps.{settled_in, WaitsIn};
 ghost use Rattle.switchboard.specs.Taking.{taken_place};
 ghost use Rattle.live_agent.specs.declared.wire.TheConstants.{MOST_AT_ONCE};
 ghost use Rattle.live_agent.specs.Ending.{counted_in, EndsWith, WritesAndEnds};
 ghost use Rattle.live_agent.specs.Handing.{comes_in, HandsFirst, HandsLast, Leaves, Offers, OffersTo, SendsEachOn, SendsOn, TakesOffer};
 ghost use Rattle.live_agent.specs.Sending.{GoesOut, SendsAll, SendsCommand, SendsOne, SendsOutputs, SendsOver, SettlesLines};
-ghost use Rattle.live_agent.specs.Serving.{served_ending, RunsTurns, ServesOver, ServesToEnd, StopsAt, Writes};
+ghost use Rattle.live_agent.specs.Serving.{served_ending, RunsTurns, ServesLoad, ServesOver, ServesToEnd, StopsAt, Writes};
 ghost use Rattle.live_agent.specs.Settling.{SendsEach, SendsIssued, SendsNext, SettlesBy, ShowsEach, ShowsOne};
 ghost use Rattle.live_agent.specs.Tallying.{leaving_counted, with_receive_fault, with_refusal, with_send_fault, OnlyCounts, OnlyNotes, OnlyRecords, OnlyTells, OnlyTellsAndNotes};
 ghost use Rattle.live_agent.specs.Telephones.{course_behind, end_of, ending_in, load_ending, load_over, BeginsLoad, CountsFor, HearsOnce, HearsTelephones, OfLoad, Passes, PassesLoad, Reports, SaysAll, SaysEach, SaysHeard, SaysOne, SaysTo};
@@ -430,13 +430,20 @@ pub fn how_a_desk_serves_has_examples()
     ensures no_desk { (config : AgentConfig) (was is : Wire ℕ) (ending : CommonEnding) →
         ServesOver config true serves_never writes_any ends_any was is 0 ending → is ≡ was }
     // It is that of its configuration: it has the gateways of that, and routes calls where that is asked for.
-    ensures its_gateways { (config : AgentConfig) (board : Switchboard) → BoardOf config true board →
-        map known_as board.gateways.items ≡ map configured_as config.gateways.items }
-    ensures unasked { (config : AgentConfig) (board : Switchboard) → BoardOf config false board → is_some board.office ≡ false }
-    ensures unmapped { (config : AgentConfig) (board : Switchboard) → config.map ≡ None → BoardOf config true board →
+    ensures its_gateways { (config : AgentConfig) (board : Switchboard) → BoardOf config true 7 board →
+        map known_as board.gateways.items ≡ gateways_from 7 config.own 0 config.gateways.items }
+    ensures unasked { (config : AgentConfig) (board : Switchboard) → BoardOf config false 7 board → is_some board.office ≡ false }
+    ensures unmapped { (config : AgentConfig) (board : Switchboard) → config.map ≡ None → BoardOf config true 7 board →
         is_some board.office ≡ false }
-    ensures routed { (config : AgentConfig) (digits : List ℕ) (board : Switchboard) → config.map ≡ Some digits → BoardOf config true board →
-        is_some board.office ≡ true }
+    ensures routed { (config : AgentConfig) (digits : List ℕ) (board : Switchboard) → config.map ≡ Some digits →
+        BoardOf config true 7 board → is_some board.office ≡ true }
+    // It begins at the time of day that was told, in microseconds.
+    ensures begins { (config : AgentConfig) (was is : Wire ℕ) (ending : CommonEnding) → was.now.time ≡ 525600000999 →
+        ServesOver config true serves_any writes_any ends_any was is 0 ending →
+        (ending ≡ CommonEnding.OutOfMemory) ⊎ ((board : Switchboard) × BoardOf config true 525600000 board) }
+    ensures load_begins { (config : AgentConfig) (was is : Wire ℕ) (ending : CommonEnding) → was.now.time ≡ 525600000999 →
+        ServesLoad config true serves_any was is ending →
+        (ending ≡ CommonEnding.OutOfMemory) ⊎ ((board : Switchboard) × BoardOf config true 525600000 board) }
     // It stops where the clock fails, and not where it tells a moment.
     ensures fails { (fault : Fault) (board : Switchboard) (wire : Wire ℕ) (schedule : Schedule) →
         StopsAt (λ around outcome. outcome ≡ Ok 5) (λ around told. ⊥) (Err fault) 3 board wire schedule → ⊥ }

@@ -2,6 +2,7 @@
 ghost use Rattle.std.specs.Prelude.{◌≡◌, ◌⊎◌, [], None, true, is_some, IfErr, IfOk};
 ghost use Rattle.agent_texts.specs.Counts.{nothing_counted};
 ghost use Rattle.live_ends.specs.declared.ending.CommonEnding.TheVariants.{OutOfMemory};
+ghost use Rattle.live_agent.specs.Clock.{milliseconds};
 ghost use Rattle.live_agent.specs.Ending.{is_record_refused, ending_of, WritesAndEnds};
 ghost use Rattle.live_agent.specs.Handing.{HandsTo};
 ghost use Rattle.live_agent.specs.Serving.{served_ending, Serves, ServesLoad, ServesOver, ServesToEnd, TurnsOnce};
@@ -68,6 +69,7 @@ pub fn wire_over<S: Surroundings + Drop>(
 ) -> Result<Box<Wire<S>>, OutOfMemory>
     ensures around { IfOk result (λ wire. wire.value.around ≡ around.value) }
     ensures end { IfOk result (λ wire. wire.value.end ≡ settings.end) }
+    ensures dated { IfOk result (λ wire. S.dates around.value wire.value.now.time) }
     ensures begins { IfOk result (λ wire. (left_of wire.value.lines ≡ []) × (wire.value.now.clock ≡ 0) × (wire.value.read ≡ 0)) }
     ensures load { IfOk result (λ wire. wire.value.load ≡ None) }
     ensures counts { IfOk result (λ wire. wire.value.journal.value.tally ≡ nothing_counted) }
@@ -112,15 +114,15 @@ pub(crate) fn open_wire<'a, R: Net + Clock>(
     }
 }
 
-// The desk of a configuration's gateways, which routes calls between their lines where that is asked for; or how the program ends where
-// there is none.
+// The desk of a configuration's gateways, as they begin at the time of day that was told, which routes calls between their lines where that
+// is asked for; or how the program ends where there is none.
 fn board_of<S: Surroundings + Drop>(
     alloc: Global,
     config: &AgentConfig,
     is_routed: bool,
     wire: &Wire<S>,
 ) -> Result<Switchboard, CommonEnding>
-    ensures board { IfOk result (λ board. BoardOf config.now is_routed board) }
+    ensures board { IfOk result (λ board. BoardOf config.now is_routed (milliseconds wire.now.now.time) board) }
     ensures ending { IfErr result (λ ending. ending ≡ OutOfMemory) }
 {
     let time = wire.now.time / MICROSECONDS;

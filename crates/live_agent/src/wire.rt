@@ -163,8 +163,8 @@ fn comes_in(way: Way) -> bool
 }
 
 impl<S: Surroundings + Drop> Wire<S> {
-    /// The wire over these surroundings, over which nothing went, at moment 0. This network spoils what goes over it, where there is one;
-    /// it ends at a moment of its clock, in ms, if one is given. An error is for want of memory.
+    /// The wire over these surroundings, over which nothing went, at moment 0, at the time of day that these tell. This network spoils what
+    /// goes over it, where there is one; it ends at a moment of its clock, in ms, if one is given. An error is for want of memory.
     pub fn new(
         alloc: Global,
         around: S,
@@ -177,6 +177,7 @@ impl<S: Surroundings + Drop> Wire<S> {
         ensures journal { IfOk result (λ wire. wire.journal ≡ journal) }
         ensures lines { IfOk result (λ wire. left_of wire.lines ≡ []) }
         ensures moments { IfOk result (λ wire. (wire.now.clock ≡ 0) × (wire.read ≡ 0) × (wire.end ≡ end)) }
+        ensures dated { IfOk result (λ wire. S.dates around wire.now.time) }
         ensures quiet { IfOk result (λ wire. (wire.is_behind ≡ false) × (wire.is_offering ≡ false)) }
         ensures load { IfOk result (λ wire. wire.load ≡ None) }
     {

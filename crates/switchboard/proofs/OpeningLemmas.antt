@@ -1,60 +1,84 @@
 -- Which gateways and lines a board of a configuration has.
-use Rattle.std.proofs.Common.{◌≡◌, ℕ, ◌+◌, ◌<◌, ◌≤◌, List, [], ◌∷◌, ◌++◌, length, get_or, drop, sym, ap, subst, ◌∙◌}
+use Rattle.std.proofs.Common.{◌≡◌, ℕ, suc, ◌+◌, ◌<◌, ◌≤◌, List, [], ◌∷◌, ◌++◌, length, get_or, drop, refl, sym, ap, subst, ◌∙◌}
 use Rattle.std.proofs.Common.{append_assoc, append-nil, length-append}
 use Rattle.std.proofs.lemmas.List.{drop_more, at_drop_all, map-append}
-use Rattle.std.specs.Prelude.{map, min}
+use Rattle.std.proofs.lemmas.List.Elements.{All-nil, All-push}
+use Rattle.std.specs.Prelude.{map, min, All}
 use Rattle.std.specs.declared.net.socket_addr.SocketAddrV4.{SocketAddrV4}
 use Rattle.agent_config.specs.declared.config.GatewayConfig.{GatewayConfig}
 use Rattle.agent_texts.specs.declared.station.Station.{Station}
 use Rattle.switchboard.specs.declared.gateway.Gateway.{Gateway}
-use Rattle.switchboard.specs.Opening.{configured_as, greatest_line, known_as, new_station, stations_behind, stations_from}
-
-abbrev Known : Type 0
-Known = SocketAddrV4 × List ℕ
+use Rattle.switchboard.specs.Opening.{begins_as, gateways_from, known_as, lines_of, Known, StandsNew}
+use Rattle.switchboard.specs.Opening.{greatest_line, new_station, stations_behind, stations_from}
 
 -- one more is added
-pub known_more : (were are : List Gateway) (gateway : Gateway) (address : SocketAddrV4) (domain : List ℕ) → are ≡ were ++ gateway ∷ []
-    → (gateway.address ≡ address) × (gateway.domain ≡ domain) → map known_as are ≡ map known_as were ++ (address, domain) ∷ []
-known_more were are gateway address domain more named =
+pub known_more : (were are : List Gateway) (gateway : Gateway) (time : ℕ) (own : SocketAddrV4) (first before : ℕ) (address : SocketAddrV4)
+    (domain : List ℕ) (lines many : ℕ) → are ≡ were ++ gateway ∷ [] → known_as gateway ≡ begins_as time own first address domain lines
+    → first ≡ before → lines ≡ many → map known_as are ≡ map known_as were ++ begins_as time own before address domain many ∷ []
+known_more were are gateway time own first before address domain lines many more begins first_is lines_are =
     ap (λ (all : List Gateway). map known_as all) more
     ∙ map-append known_as were (gateway ∷ [])
-    ∙ ap (λ (there : SocketAddrV4). map known_as were ++ (there, gateway.domain) ∷ []) named.0
-    ∙ ap (λ (text : List ℕ). map known_as were ++ (address, text) ∷ []) named.1
+    ∙ ap (λ (one : Known). map known_as were ++ one ∷ []) begins
+    ∙ ap (λ (place : ℕ). map known_as were ++ begins_as time own place address domain lines ∷ []) first_is
+    ∙ ap (λ (count : ℕ). map known_as were ++ begins_as time own before address domain count ∷ []) lines_are
+
+pub stands_more : (were are : List Gateway) (gateway : Gateway) → are ≡ were ++ gateway ∷ [] → StandsNew gateway
+    → All StandsNew were → All StandsNew are
+stands_more were are gateway more stands all = subst (All StandsNew) (sym more) (All-push StandsNew were gateway all stands)
 
 -- so is that of the configuration whose turn it is
-added : (config : List GatewayConfig) (place : ℕ) (gateway : GatewayConfig) (domain : List ℕ) (all so_far next : List Known)
-    → place < length config → gateway ≡ get_or config place gateway → domain ≡ gateway.domain → next ≡ so_far ++ (gateway.address, domain) ∷ []
-    → so_far ++ map configured_as (drop place config) ≡ all → next ++ map configured_as (drop (place + 1) config) ≡ all
-added config place gateway domain all so_far next within item domain_is next_is before =
-    ap (λ (list : List Known). list ++ map configured_as (drop (place + 1) config)) next_is
-    ∙ ap (λ (text : List ℕ). (so_far ++ (gateway.address, text) ∷ []) ++ map configured_as (drop (place + 1) config)) domain_is
-    ∙ append_assoc so_far (configured_as gateway ∷ []) (map configured_as (drop (place + 1) config))
-    ∙ ap (λ (one : GatewayConfig). so_far ++ configured_as one ∷ map configured_as (drop (place + 1) config)) item
-    ∙ ap (λ (left : List GatewayConfig). so_far ++ map configured_as left) (sym (drop_more config place gateway within))
-    ∙ before
+added : (time : ℕ) (own : SocketAddrV4) (config : List GatewayConfig) (place : ℕ) (gateway : GatewayConfig) (domain : List ℕ)
+    (before now : ℕ) (all so_far next : List Known)
+    → place < length config → gateway ≡ get_or config place gateway → domain ≡ gateway.domain
+    → now ≡ before + length gateway.numbers.items
+    → next ≡ so_far ++ begins_as time own before gateway.address domain (lines_of gateway.numbers.items) ∷ []
+    → so_far ++ gateways_from time own before (drop place config) ≡ all → next ++ gateways_from time own now (drop (place + 1) config) ≡ all
+added time own config place gateway domain before now all so_far next within item domain_is now_is next_is given =
+    let lines = lines_of gateway.numbers.items in
+    let behind = before + length gateway.numbers.items in
+    ap (λ (count : ℕ). next ++ gateways_from time own count (drop (place + 1) config)) now_is
+    ∙ ap (λ (list : List Known). list ++ gateways_from time own behind (drop (place + 1) config)) next_is
+    ∙ ap
+    (λ (text : List ℕ).
+    (so_far ++ begins_as time own before gateway.address text lines ∷ []) ++ gateways_from time own behind (drop (place + 1) config))
+    domain_is
+    ∙ append_assoc so_far (begins_as time own before gateway.address gateway.domain lines ∷ [])
+    (gateways_from time own behind (drop (place + 1) config))
+    ∙ ap (λ (one : GatewayConfig). so_far ++ gateways_from time own before (one ∷ drop (place + 1) config)) item
+    ∙ ap (λ (left : List GatewayConfig). so_far ++ gateways_from time own before left) (sym (drop_more config place gateway within))
+    ∙ given
 
-pub added_one : (given config : List GatewayConfig) (place : ℕ) (gateway : GatewayConfig) (domain : List ℕ) (all so_far next : List Known)
+pub added_one : (time : ℕ) (own : SocketAddrV4) (given config : List GatewayConfig) (place : ℕ) (gateway : GatewayConfig) (domain : List ℕ)
+    (before now : ℕ) (all so_far next : List Known)
     → given ≡ config → place < length given → gateway ≡ get_or given place gateway → domain ≡ gateway.domain
-    → next ≡ so_far ++ (gateway.address, domain) ∷ [] → so_far ++ map configured_as (drop place config) ≡ all
-    → next ++ map configured_as (drop (place + 1) config) ≡ all
-added_one given config place gateway domain all so_far next same within item domain_is next_is before =
-    subst (λ (list : List GatewayConfig). next ++ map configured_as (drop (place + 1) list) ≡ all) same
-    (added given place gateway domain all so_far next within item domain_is next_is
-    (subst (λ (list : List GatewayConfig). so_far ++ map configured_as (drop place list) ≡ all) (sym same) before))
+    → now ≡ before + length gateway.numbers.items
+    → next ≡ so_far ++ begins_as time own before gateway.address domain (lines_of gateway.numbers.items) ∷ []
+    → so_far ++ gateways_from time own before (drop place config) ≡ all → next ++ gateways_from time own now (drop (place + 1) config) ≡ all
+added_one time own given config place gateway domain before now all so_far next same within item domain_is now_is next_is had =
+    subst (λ (list : List GatewayConfig). next ++ gateways_from time own now (drop (place + 1) list) ≡ all) same
+    (added time own given place gateway domain before now all so_far next within item domain_is now_is next_is
+    (subst (λ (list : List GatewayConfig). so_far ++ gateways_from time own before (drop place list) ≡ all) (sym same) had))
 
 -- all are
-pub added_all : (given config : List GatewayConfig) (place : ℕ) (all so_far : List Known) → given ≡ config → length given ≤ place
-    → so_far ++ map configured_as (drop place config) ≡ all → so_far ≡ all
-added_all given config place all so_far same past before =
-    let none : so_far ++ map configured_as (drop place given) ≡ so_far ++ []
-    = ap (λ (left : List GatewayConfig). so_far ++ map configured_as left) (at_drop_all (λ (left : List GatewayConfig). left) given place past) in
+pub added_all : (time : ℕ) (own : SocketAddrV4) (given config : List GatewayConfig) (place before : ℕ) (all so_far : List Known)
+    → given ≡ config → length given ≤ place → so_far ++ gateways_from time own before (drop place config) ≡ all → so_far ≡ all
+added_all time own given config place before all so_far same past had =
+    let none : so_far ++ gateways_from time own before (drop place given) ≡ so_far ++ []
+    = ap (λ (left : List GatewayConfig). so_far ++ gateways_from time own before left)
+    (at_drop_all (λ (left : List GatewayConfig). left) given place past) in
     sym (append-nil so_far) ∙ sym none
-    ∙ subst (λ (list : List GatewayConfig). so_far ++ map configured_as (drop place list) ≡ all) (sym same) before
+    ∙ subst (λ (list : List GatewayConfig). so_far ++ gateways_from time own before (drop place list) ≡ all) (sym same) had
 
--- on a board that had none
-pub board_has : (were are : List Gateway) (config : List GatewayConfig) → were ≡ []
-    → map known_as are ≡ map known_as were ++ map configured_as config → map known_as are ≡ map configured_as config
-board_has were are config none all = all ∙ ap (λ (list : List Gateway). map known_as list ++ map configured_as config) none
+-- on a board that had none, and no lines
+pub board_has : (time : ℕ) (own : SocketAddrV4) (were are : List Gateway) (had : List Station) (config : List GatewayConfig)
+    → were ≡ [] → had ≡ [] → map known_as are ≡ map known_as were ++ gateways_from time own (length had) config
+    → map known_as are ≡ gateways_from time own 0 config
+board_has time own were are had config none empty all =
+    all ∙ ap (λ (list : List Gateway). map known_as list ++ gateways_from time own (length had) config) none
+    ∙ ap (λ (list : List Station). gateways_from time own (length list) config) empty
+
+pub board_stands : (were are : List Gateway) → were ≡ [] → (All StandsNew were → All StandsNew are) → All StandsNew are
+board_stands were are none all = all (subst (All StandsNew) (sym none) (All-nil StandsNew))
 
 pub one_longer : (were are : List Gateway) (gateway : Gateway) → are ≡ were ++ gateway ∷ [] → length are ≡ length were + 1
 one_longer were are gateway more = ap (λ (all : List Gateway). length all) more ∙ length-append were (gateway ∷ [])
@@ -73,6 +97,21 @@ put_one gateway domain before line numbers place digits bytes all so_far next li
     ∙ ap (λ (one : List ℕ). so_far ++ stations_behind gateway domain before (one ∷ drop (place + 1) numbers)) (bytes_are ∙ item)
     ∙ ap (λ (left : List (List ℕ)). so_far ++ stations_behind gateway domain before left) (sym (drop_more numbers place digits within))
     ∙ given
+
+-- a line for each
+one_each : (gateway : ℕ) (domain : List ℕ) (before : ℕ) (numbers : List (List ℕ))
+    → length (stations_behind gateway domain before numbers) ≡ length numbers
+one_each gateway domain before [] = refl
+one_each gateway domain before (digits ∷ more) =
+    ap (λ (count : ℕ). suc count) (one_each gateway domain (min (before + 1) greatest_line) more)
+
+-- so there are so many more
+pub put_more : (had have : List Station) (gateway : ℕ) (domain : List ℕ) (numbers : List (List ℕ))
+    → have ≡ had ++ stations_behind gateway domain 0 numbers → length have ≡ length had + length numbers
+put_more had have gateway domain numbers all =
+    ap (λ (lines : List Station). length lines) all
+    ∙ length-append had (stations_behind gateway domain 0 numbers)
+    ∙ ap (λ (count : ℕ). length had + count) (one_each gateway domain 0 numbers)
 
 -- all of a gateway are
 pub put_all : (gateway : ℕ) (domain : List ℕ) (before : ℕ) (numbers : List (List ℕ)) (place : ℕ) (all so_far : List Station)

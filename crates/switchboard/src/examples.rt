@@ -1,7 +1,7 @@
 //! Worked examples of the definitions, as theorems: each sentence of a definition has one that a slip in it breaks.
 #![tactic(auto, unfolding(crate::proofs::Computing::on_examples))]
 
-ghost use Rattle.std.specs.Prelude.{◌≡◌, ◌++◌, [], ◌∷◌, length, true, false, Option, Some, None, codes};
+ghost use Rattle.std.specs.Prelude.{◌≡◌, ◌++◌, [], ◌∷◌, ℕ, List, length, map, true, false, Option, Some, None, codes};
 ghost use Rattle.std.specs.Global.{Box};
 ghost use Rattle.agent_config.specs.declared.config.AgentConfig.{AgentConfig};
 ghost use Rattle.agent_config.specs.declared.config.GatewayConfig.{GatewayConfig};
@@ -13,13 +13,17 @@ ghost use Rattle.switchboard.specs.Announcing.{is_new, last_new};
 ghost use Rattle.switchboard.specs.Boards.{settling_in, taking_in, woken_at, WakesIn};
 ghost use Rattle.switchboard.specs.Flights.{end_of_time, most_steps, falls, over_by};
 ghost use Rattle.switchboard.specs.Meaning.{meant};
-ghost use Rattle.switchboard.specs.Opening.{new_station, stations_behind, stations_from, BoardOf};
+ghost use Rattle.switchboard.specs.Opening.{begins_as, gateways_from, known_as, lines_of, BoardOf};
+ghost use Rattle.switchboard.specs.Opening.{new_station, stations_behind, stations_from};
 ghost use Rattle.switchboard.specs.Typed.{typed_from, typed_text, typed_in};
 ghost use Rattle.switchboard.specs.Wakes.{first_moment, first_woken, behind_woken};
 ghost use Rattle.switchboard.specs.Example.{wake_at, issued};
 ghost use Rattle.switchboard.specs.declared.switchboard.Switchboard.{Switchboard};
 ghost use Rattle.endpoint_names.specs.declared.name.Pattern.TheVariants.{One};
 ghost use Rattle.endpoint_names.specs.Name.{name_text};
+ghost use Rattle.endpoint_names.specs.declared.route.Route.TheVariants as routes;
+ghost use Rattle.endpoint_names.specs.RouteExample.{agent_at};
+ghost use Rattle.call_agent.specs.AgentStands.{AgentStands};
 
 /// Each sentence at an example.
 pub fn what_is_typed_is_a_message()
@@ -132,6 +136,56 @@ pub fn a_board_has_its_lines()
     ensures gateways { (first next : GatewayConfig) → stations_from 0 (first ∷ next ∷ [])
         ≡ stations_behind 0 first.domain 0 first.numbers.items ++ stations_behind 1 next.domain 0 next.numbers.items ++ [] }
     ensures no_gateway { stations_from 3 [] ≡ [] }
-    ensures these { (config : AgentConfig) (board : Switchboard) → BoardOf config false board →
+    ensures these { (config : AgentConfig) (board : Switchboard) → BoardOf config false 7 board →
         board.stations.items ≡ stations_from 0 config.gateways.items }
+{}
+
+/// How the gateways of a board begin.
+pub fn gateways_begin_with_their_lines()
+    // Of a gateway all is known but what its agent keeps.
+    ensures known { (gateway : Gateway) → known_as (record gateway {
+      address = agent_at 2;
+      domain = codes "gw2";
+      first = 3;
+      lines = 2;
+      ticked = 9;
+      announced = Some (7, 8);
+    }) ≡ record {
+      setup = gateway.agent.value.setup;
+      address = agent_at 2;
+      domain = codes "gw2";
+      first = 3;
+      lines = 2;
+      flights = gateway.flights.items;
+      wakes = gateway.wakes.items;
+      ticked = 9;
+      announced = Some (7, 8);
+    } }
+    // Its agent's ids begin by the time of day, and nothing has happened.
+    ensures begins { begins_as 525600000 (agent_at 1) 3 (agent_at 2) (codes "gw2") 2 ≡ record {
+      setup = record { own = routes.One (agent_at 1); gateway = agent_at 2; domain = codes "gw2"; lines = 2; first = 525600001 };
+      address = agent_at 2;
+      domain = codes "gw2";
+      first = 3;
+      lines = 2;
+      flights = [];
+      wakes = [];
+      ticked = 0;
+      announced = None;
+    } }
+    ensures ids_begin_again { (begins_as 900000000 (agent_at 1) 3 (agent_at 2) (codes "gw2") 2).setup.first ≡ 1 }
+    // It has a line for each number, as many as it may have at most.
+    ensures lines { lines_of (codes "21" ∷ codes "22" ∷ []) ≡ 2 }
+    ensures most_lines { (numbers : List (List ℕ)) → length numbers ≡ 70000 → lines_of numbers ≡ 65535 }
+    // The lines of the next one stand behind its own.
+    ensures no_gateway { gateways_from 525600000 (agent_at 1) 3 [] ≡ [] }
+    ensures next { (one other : GatewayConfig) → one.numbers.items ≡ codes "21" ∷ codes "22" ∷ [] → other.numbers.items ≡ [] →
+        gateways_from 525600000 (agent_at 1) 3 (one ∷ other ∷ [])
+        ≡ begins_as 525600000 (agent_at 1) 3 one.address one.domain 2
+        ∷ begins_as 525600000 (agent_at 1) 5 other.address other.domain 0 ∷ [] }
+    // A board has those of its configuration, whose agents have issued nothing.
+    ensures of_a_board { (config : AgentConfig) (board : Switchboard) → BoardOf config true 525600000 board →
+        map known_as board.gateways.items ≡ gateways_from 525600000 config.own 0 config.gateways.items }
+    ensures stands { (config : AgentConfig) (board : Switchboard) (gateway : Gateway) → BoardOf config true 525600000 board →
+        board.gateways.items ≡ gateway ∷ [] → AgentStands gateway.agent.value [] }
 {}

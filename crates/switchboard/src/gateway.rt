@@ -12,6 +12,7 @@ ghost use Rattle.switchboard.specs.Announcing.{is_new, last_new};
 ghost use Rattle.switchboard.specs.Dues.{FallsDueAt};
 ghost use Rattle.switchboard.specs.Ended.{asked_in, first_ended, is_ended_in, still_flying};
 ghost use Rattle.switchboard.specs.Issuing.{Fails, Flies};
+ghost use Rattle.switchboard.specs.Opening.{begins_as, known_as, StandsNew};
 ghost use Rattle.switchboard.specs.Steps.{Refuses};
 ghost use Rattle.switchboard.specs.Wakes.{first_moment, first_woken, behind_woken};
 
@@ -198,18 +199,8 @@ impl Gateway {
         lines: u16,
         time: u64,
     ) -> Result<Gateway, OutOfMemory>
-        ensures agent { IfOk result (λ made. AgentStands made.agent.value []) }
-        ensures setup { IfOk result (λ made. made.agent.value.setup ≡ record {
-          own = routes.One own;
-          gateway = address;
-          domain = domain.now;
-          lines = lines;
-          first = first_id time;
-        }) }
-        ensures named { IfOk result (λ made. (made.address ≡ address) × (made.domain ≡ domain.now)) }
-        ensures lines { IfOk result (λ made. (made.first ≡ first) × (made.lines ≡ lines)) }
-        ensures quiet { IfOk result (λ made. (made.flights.items ≡ []) × (made.ticked ≡ 0) × (made.announced ≡ None)) }
-        ensures none_put_off { IfOk result (λ made. made.wakes.items ≡ []) }
+        ensures agent { IfOk result (λ made. StandsNew made) }
+        ensures begins { IfOk result (λ made. known_as made ≡ begins_as time own first address domain.now lines) }
     {
         let kept = copied(alloc, domain)?;
         let named = copied(alloc, domain)?;

@@ -1,5 +1,5 @@
 //! A board: the gateways that a call agent works with, and their lines; how it is made, and what its agents hear.
-ghost use Rattle.std.specs.Prelude.{◌≡◌, ◌&&◌, ◌+◌, [], ◌∷◌, ◌++◌, true, None, Ok, length, map, position, slice_get};
+ghost use Rattle.std.specs.Prelude.{◌≡◌, ◌&&◌, ◌+◌, [], ◌∷◌, ◌++◌, true, None, Ok, All, length, map, position, slice_get};
 ghost use Rattle.std.specs.Prelude.{IfNone, IfOk, OnErr, OnOk, is_ok, is_some};
 ghost use Rattle.std.specs.Result.{result_err};
 ghost use Rattle.plain_machine.specs.Event.{datagram, tick};
@@ -7,7 +7,8 @@ ghost use Rattle.call_agent.specs.Hearing.{hears};
 ghost use Rattle.call_agent.specs.AgentStands.{AgentStays, AgentTook};
 ghost use Rattle.switchboard.specs.AgentClock.{tick_to};
 ghost use Rattle.switchboard.specs.Boards.{is_at};
-ghost use Rattle.switchboard.specs.Opening.{configured_as, known_as, new_station, stations_behind, stations_from, BoardOf};
+ghost use Rattle.switchboard.specs.Opening.{begins_as, gateways_from, known_as, lines_of, new_station, stations_behind, stations_from};
+ghost use Rattle.switchboard.specs.Opening.{BoardOf, StandsNew};
 ghost use Rattle.switchboard.specs.Steps.{AtPlace, OthersStay, Refuses, Ticks};
 
 use crate::dialling::Dialling;
@@ -94,6 +95,13 @@ fn put_stations(
     Ok(())
 }
 
+// How many lines a gateway with these numbers has.
+fn lines_of(numbers: &[Text]) -> u16
+    ensures { result ≡ lines_of numbers.now }
+{
+    u16::try_from(numbers.len()).unwrap_or(u16::MAX)
+}
+
 // The numbers of the lines, in their order.
 fn plan_of(alloc: Global, stations: &[Station]) -> Result<NumberPlan, OutOfMemory> {
     let mut numbers = Vec::new(alloc);
@@ -138,8 +146,9 @@ impl Switchboard {
         numbers: &[Text],
         time: u64,
     ) -> Result<(), OutOfMemory>
-        ensures gateway { OnOk result (map known_as self.new.gateways.items
-            ≡ map known_as self.old.gateways.items ++ (address, domain.now) ∷ []) }
+        ensures gateway { OnOk result (map known_as self.new.gateways.items ≡ map known_as self.old.gateways.items
+            ++ begins_as time own (length self.old.stations.items) address domain.now (lines_of numbers.now) ∷ []) }
+        ensures stands { OnOk result (All StandsNew self.old.gateways.items → All StandsNew self.new.gateways.items) }
         ensures count { OnOk result (length self.new.gateways.items ≡ length self.old.gateways.items + 1) }
         ensures stations { OnOk result (self.new.stations.items
             ≡ self.old.stations.items ++ stations_behind (length self.old.gateways.items) domain.now 0 numbers.now) }
@@ -147,7 +156,7 @@ impl Switchboard {
     {
         let place = self.gateways.len();
         let first = self.stations.len();
-        let lines = u16::try_from(numbers.len()).unwrap_or(u16::MAX);
+        let lines = lines_of(numbers);
         let gateway = Gateway::new(self.alloc, own, address, domain, first, lines, time)?;
         self.gateways.push(gateway)?;
         put_stations(self.alloc, &mut self.stations, place, domain, numbers)?;
@@ -170,8 +179,9 @@ impl Switchboard {
 
     // Adds the gateways of a configuration.
     fn add_all(&mut self, config: &AgentConfig, time: u64) -> Result<(), OutOfMemory>
-        ensures gateways { OnOk result (map known_as self.new.gateways.items
-            ≡ map known_as self.old.gateways.items ++ map configured_as config.now.gateways.items) }
+        ensures gateways { OnOk result (map known_as self.new.gateways.items ≡ map known_as self.old.gateways.items
+            ++ gateways_from time config.now.own (length self.old.stations.items) config.now.gateways.items) }
+        ensures stands { OnOk result (All StandsNew self.old.gateways.items → All StandsNew self.new.gateways.items) }
         ensures stations { OnOk result (self.new.stations.items
             ≡ self.old.stations.items ++ stations_from (length self.old.gateways.items) config.now.gateways.items) }
         ensures office { self.new.office ≡ self.old.office }
@@ -186,8 +196,9 @@ impl Switchboard {
 
     // Adds the gateways of a configuration, and opens an exchange for their lines where calls are routed.
     fn fill(&mut self, config: &AgentConfig, is_routed: bool, time: u64) -> Result<(), OutOfMemory>
-        ensures gateways { OnOk result (map known_as self.new.gateways.items
-            ≡ map known_as self.old.gateways.items ++ map configured_as config.now.gateways.items) }
+        ensures gateways { OnOk result (map known_as self.new.gateways.items ≡ map known_as self.old.gateways.items
+            ++ gateways_from time config.now.own (length self.old.stations.items) config.now.gateways.items) }
+        ensures stands { OnOk result (All StandsNew self.old.gateways.items → All StandsNew self.new.gateways.items) }
         ensures stations { OnOk result (self.new.stations.items
             ≡ self.old.stations.items ++ stations_from (length self.old.gateways.items) config.now.gateways.items) }
         ensures office { OnOk result (self.old.office ≡ None → is_some self.new.office ≡ (is_routed && is_some config.now.map)) }
@@ -211,7 +222,7 @@ impl Switchboard {
         is_routed: bool,
         time: u64,
     ) -> Result<Switchboard, OutOfMemory>
-        ensures { IfOk result (λ board. BoardOf config.now is_routed board) }
+        ensures { IfOk result (λ board. BoardOf config.now is_routed time board) }
     {
         let mut board = Switchboard::new(alloc)?;
         match board.fill(config, is_routed, time) {
