@@ -122,7 +122,7 @@ fn board_of<S: Surroundings + Drop>(
     is_routed: bool,
     wire: &Wire<S>,
 ) -> Result<Switchboard, CommonEnding>
-    ensures board { IfOk result (λ board. BoardOf config.now is_routed (milliseconds wire.now.now.time) board) }
+    ensures board { IfOk result (λ board. BoardOf config.now is_routed (milliseconds wire.entry.now.now.time) board) }
     ensures ending { IfErr result (λ ending. ending ≡ OutOfMemory) }
 {
     let time = wire.now.time / MICROSECONDS;
