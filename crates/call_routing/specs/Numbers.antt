@@ -1,10 +1,12 @@
 -- The numbers of lines, and what the events of a notification tell (RFC 3435, 2.3.4). That the last event counts, and that the
 -- end of the digit timer is no digit, is this exchange's profile.
 use Rattle.std.specs.Prelude.{ℕ, ◌-◌, ◌==◌, if◌then◌else◌, List, [], ◌∷◌, length, Option, Some, None, position, slice_get}
+use Rattle.std.specs.Prelude.{Bool, false, not}
 use Rattle.std.specs.List.{flat_map}
 use Rattle.std.specs.Str.{bytes_eq}
 use Rattle.mg_bytes.specs.declared.letter.Letter.{Letter}
 use Rattle.mg_bytes.specs.Letter.{byte_of}
+use Rattle.mg_bytes.specs.Lists.{is_empty}
 use Rattle.mg_packages.specs.declared.event.LineEvent.TheVariants as events
 use Rattle.event_values.specs.declared.observed.Observed.{Observed}
 use Rattle.event_values.specs.declared.observed.Observed.TheVariants.{Happened, Ended}
@@ -51,3 +53,21 @@ told_by plan observed (Some (Ended signal)) = Some told.TimedOut
 
 abbrev pub told_in : List (List ℕ) → List Observed → Option Told
 told_in plan observed = told_by plan observed (last_of observed)
+
+abbrev pub any_digit : List ℕ → Bool
+any_digit digits = not (is_empty digits)
+
+-- Whether the number that it tells has to be gathered, by the last event: that is a key or the end of the timer, and there is a key. All
+-- else is told without memory.
+abbrev pub digits_by : List Observed → Option Observed → Bool
+digits_by observed None = false
+digits_by observed (Some (Happened events.OffHook)) = false
+digits_by observed (Some (Happened events.OnHook)) = false
+digits_by observed (Some (Happened events.Flash)) = false
+digits_by observed (Some (Happened (events.Letter letter))) = any_digit (digits_of observed)
+digits_by observed (Some (Happened events.LineComplete)) = false
+digits_by observed (Some (Happened events.GenericComplete)) = false
+digits_by observed (Some (Ended signal)) = false
+
+abbrev pub tells_digits : List Observed → Bool
+tells_digits observed = digits_by observed (last_of observed)

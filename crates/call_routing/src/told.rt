@@ -1,6 +1,6 @@
 //! What a line tells.
-ghost use Rattle.std.specs.Prelude.{◌≡◌, ◌++◌, IfOk, OnOk};
-ghost use Rattle.call_routing.specs.Numbers.{last_of, digits_in, digits_told, digits_of, told_in};
+ghost use Rattle.std.specs.Prelude.{◌≡◌, ◌++◌, true, IfOk, OnOk, OnErr};
+ghost use Rattle.call_routing.specs.Numbers.{last_of, digits_in, digits_told, digits_of, any_digit, told_in, tells_digits};
 
 use crate::number_plan::NumberPlan;
 use event_values::Observed;
@@ -38,7 +38,8 @@ fn last_of(observed: &[Observed]) -> Option<Observed>
 
 // A key is put behind the digits; the end of the timer is none.
 fn put_letter(digits: &mut Vec<u8>, letter: Letter) -> Result<(), OutOfMemory>
-    ensures { OnOk result (digits.new.items ≡ digits.old.items ++ digits_in letter) }
+    ensures ok { OnOk result (digits.new.items ≡ digits.old.items ++ digits_in letter) }
+    ensures memory { OnErr result (any_digit (digits_in letter) ≡ true) }
 {
     let byte = letter.byte();
     if byte == b'T' {
@@ -50,7 +51,8 @@ fn put_letter(digits: &mut Vec<u8>, letter: Letter) -> Result<(), OutOfMemory>
 
 // The digit that an event is, if it is one, is put behind the digits.
 fn put_digit(digits: &mut Vec<u8>, observed: Observed) -> Result<(), OutOfMemory>
-    ensures { OnOk result (digits.new.items ≡ digits.old.items ++ digits_told observed) }
+    ensures ok { OnOk result (digits.new.items ≡ digits.old.items ++ digits_told observed) }
+    ensures memory { OnErr result (any_digit (digits_told observed) ≡ true) }
 {
     match observed {
         Observed::Happened(LineEvent::Letter(letter)) => put_letter(digits, letter),
@@ -66,7 +68,8 @@ fn put_digit(digits: &mut Vec<u8>, observed: Observed) -> Result<(), OutOfMemory
 }
 
 fn put_digits(digits: &mut Vec<u8>, observed: &[Observed]) -> Result<(), OutOfMemory>
-    ensures { OnOk result (digits.new.items ≡ digits.old.items ++ digits_of observed.now) }
+    ensures ok { OnOk result (digits.new.items ≡ digits.old.items ++ digits_of observed.now) }
+    ensures memory { OnErr result (any_digit (digits_of observed.now) ≡ true) }
 {
     for one in observed {
         put_digit(digits, *one)?;
@@ -76,7 +79,8 @@ fn put_digits(digits: &mut Vec<u8>, observed: &[Observed]) -> Result<(), OutOfMe
 
 // The digits that were dialled.
 fn digits_of(alloc: Global, observed: &[Observed]) -> Result<Text, OutOfMemory>
-    ensures { IfOk result (λ digits. digits ≡ digits_of observed.now) }
+    ensures digits { IfOk result (λ digits. digits ≡ digits_of observed.now) }
+    ensures memory { OnErr result (any_digit (digits_of observed.now) ≡ true) }
 {
     let mut digits = Vec::new(alloc);
     put_digits(&mut digits, observed)?;
@@ -85,13 +89,14 @@ fn digits_of(alloc: Global, observed: &[Observed]) -> Result<Text, OutOfMemory>
 
 /// What the events of one notification tell (the value of its O; RFC 3435, 2.3.4): the last of them counts, and where that is
 /// a key or the end of the timer, all keys are what was dialled. `None` where there are no events. An error is for want of
-/// memory only.
+/// memory only, which nothing takes but the keys that were dialled.
 pub fn told_in(
     alloc: Global,
     plan: &NumberPlan,
     observed: &[Observed],
 ) -> Result<Option<Told>, OutOfMemory>
-    ensures { IfOk result (λ told. told ≡ told_in plan.now observed.now) }
+    ensures told { IfOk result (λ told. told ≡ told_in plan.now observed.now) }
+    ensures memory { OnErr result (tells_digits observed.now ≡ true) }
 {
     match last_of(observed) {
         Some(Observed::Happened(LineEvent::OffHook)) => Ok(Some(Told::OffHook)),
