@@ -11,7 +11,7 @@ ghost use Rattle.call_routing.specs.Calls.{greatest_call, caller_of, put_through
 ghost use Rattle.call_routing.specs.declared.fate.Fate.TheVariants as fates;
 ghost use Rattle.call_routing.specs.declared.line.Line.{Line};
 ghost use Rattle.call_routing.specs.Fates.{is_success, may_pass, is_deleted, hook_told, refusal_fate, put_off_then};
-ghost use Rattle.call_routing.specs.Numbers.{line_called, told_in};
+ghost use Rattle.call_routing.specs.Numbers.{line_called, told_in, tells_digits};
 ghost use Rattle.call_routing.specs.Parameters.{verb_of, request_lines, creation_lines, change_lines, deletion_lines, parameters_of};
 ghost use Rattle.call_routing.specs.Exchange.{phase_of, line_of, put_off_at, due};
 ghost use Rattle.call_laws.specs.Turns.{tells, sends, clears, after, is_sent, is_answered, is_coded, is_put_off, is_settled, count_turns};
@@ -158,6 +158,22 @@ pub fn more_sentences_have_examples()
     ensures keys_behind { told_in (codes "1" ∷ []) (observed.Happened events.OffHook ∷ key keys.One ∷ []) ≡ Some (Told.Dialled (Some 0)) }
     ensures ended { told_in [] (observed.Ended DialTone ∷ []) ≡ Some Told.TimedOut }
     ensures nothing { told_in [] [] ≡ None }
+{}
+
+/// Digits are gathered where a key or the end of the timer came last, and there is a key.
+pub fn what_tells_digits_has_examples()
+    ensures off_hook { tells_digits (observed.Happened events.OffHook ∷ []) ≡ false }
+    ensures on_hook { tells_digits (observed.Happened events.OnHook ∷ []) ≡ false }
+    ensures flash { tells_digits (observed.Happened events.Flash ∷ []) ≡ false }
+    ensures line_complete { tells_digits (key keys.One ∷ observed.Happened events.LineComplete ∷ []) ≡ false }
+    ensures generic_complete { tells_digits (key keys.One ∷ observed.Happened events.GenericComplete ∷ []) ≡ false }
+    ensures ended { tells_digits (key keys.One ∷ observed.Ended DialTone ∷ []) ≡ false }
+    ensures nothing { tells_digits [] ≡ false }
+    ensures one { tells_digits (key keys.One ∷ []) ≡ true }
+    ensures timer { tells_digits (key keys.One ∷ key keys.Timer ∷ []) ≡ true }
+    ensures timer_alone { tells_digits (observed.Happened events.OffHook ∷ key keys.Timer ∷ []) ≡ false }
+    ensures keys_behind { tells_digits (observed.Happened events.OffHook ∷ key keys.One ∷ []) ≡ true }
+    ensures hung_up { tells_digits (key keys.One ∷ observed.Happened events.OnHook ∷ []) ≡ false }
 {}
 
 /// Each sentence at an example.
