@@ -15,15 +15,15 @@ use Rattle.call_office.specs.Turns.{forsaken, heard_by}
 abbrev pub Forgets : ℕ → ExchangeState → List Care → ExchangeState → List Care → Type 0
 Forgets line was cares is kept = (is ≡ forsaken was line (flight_of (slice_get cares line))) × (kept ≡ cared lost cares line)
 
--- A notification of it told this. Where memory is refused for that its hook is asked for.
-abbrev pub Hears : Option Told → ℕ → ExchangeState → List Care → ExchangeState → List Care → Type 0
-Hears event line was cares is kept =
+-- A notification of it told this, by digits or not. Where memory is refused for the digits its hook is asked for.
+abbrev pub Hears : Option Told → Bool → ℕ → ExchangeState → List Care → ExchangeState → List Care → Type 0
+Hears event by_digits line was cares is kept =
     ((is ≡ heard_by was line (notified (was_found_off (slice_get cares line)) event)) × (kept ≡ cared told_care cares line))
-    ⊎ ((is ≡ was) × (kept ≡ cared (λ care. owed care Audit) (cared told_care cares line) line))
+    ⊎ ((by_digits ≡ true) × (is ≡ was) × (kept ≡ cared (λ care. owed care Audit) (cared told_care cares line) line))
 
 -- so it told something
 abbrev pub HearsSome : ℕ → ExchangeState → List Care → ExchangeState → List Care → Type 0
-HearsSome line was cares is kept = (event : Option Told) × Hears event line was cares is kept
+HearsSome line was cares is kept = (event : Option Told) × (by_digits : Bool) × Hears event by_digits line was cares is kept
 
 -- how it stands was told
 abbrev pub ToldOf : ℕ → ExchangeState → List Care → ExchangeState → List Care → Type 0

@@ -15,7 +15,7 @@ ghost use Rattle.call_office.specs.Duties.{new_care, duty_begun, begun, landed, 
 ghost use Rattle.call_office.specs.Hooks.{hook_of, hook_among, hook_told, is_off, was_off, told_by_hook, notified};
 ghost use Rattle.call_office.specs.Responses.{creates, connection_in, created, is_creation, created_by, outcome_by};
 ghost use Rattle.call_office.specs.Orders.{duty_of, flight_of, was_found_off, is_outlived, has_told, again_of, is_put_off_in, cared, ordered};
-ghost use Rattle.call_office.specs.Turns.{forsaken, heard_by, announced_by, outcome_with, told_by_audit, TakesResponse};
+ghost use Rattle.call_office.specs.Turns.{forsaken, heard_by, announced_by, outcome_with, told_by_audit, Routes, TakesResponse};
 ghost use Rattle.call_office.specs.Showing.{shown_in};
 ghost use Rattle.call_office.specs.Example.{cleared, audited, found_off, param, part, answered_part, creating};
 
@@ -271,4 +271,8 @@ pub fn what_comes_before_a_command_that_was_put_off()
         creating (cleared ∷ held_from 70 (record (owed audited Audit) { put_off = 1 }) ∷ []) }
     ensures routed_again { (text : _) → TakesResponse (Some Route) 1 70 409 text creating (cleared ∷ audited ∷ [])
         (answered creating 1 (Outcome.Answered 409)) (cleared ∷ held_from 70 audited ∷ []) }
+    ensures routes { Routes (Outcome.Answered 409) 1 70 creating (cleared ∷ audited ∷ []) (answered creating 1 (Outcome.Answered 409))
+        (cleared ∷ held_from 70 audited ∷ []) }
+    ensures routes_given_up { Routes Outcome.GivenUp 1 70 creating (cleared ∷ audited ∷ []) (answered creating 1 Outcome.GivenUp)
+        (cleared ∷ audited ∷ []) }
 {}

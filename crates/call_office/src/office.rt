@@ -6,7 +6,7 @@ ghost use Rattle.call_routing.specs.Phases.{named_by};
 ghost use Rattle.call_routing.specs.declared.told.Told.TheVariants.{Flash};
 ghost use Rattle.call_routing.specs.declared.command.Outcome.TheVariants.{GivenUp};
 ghost use Rattle.call_routing.specs.Exchange.{opening, phase_of, flight_in, line_of, told, due, sent_to};
-ghost use Rattle.call_routing.specs.Numbers.{told_in};
+ghost use Rattle.call_routing.specs.Numbers.{told_in, tells_digits};
 ghost use Rattle.agent_texts.specs.Standings.{with_change};
 ghost use Rattle.agent_texts.specs.Telling.{change_told, Tells};
 ghost use Rattle.call_office.specs.declared.care.Duty.TheVariants.{Clear, Audit};
@@ -377,7 +377,8 @@ fn heard(
     was_found_off: bool,
     observed: &[Observed],
 ) -> Result<Option<Told>, OutOfMemory>
-    ensures { IfOk result (λ told. told ≡ notified was_found_off (told_in plan.now observed.now)) }
+    ensures told { IfOk result (λ told. told ≡ notified was_found_off (told_in plan.now observed.now)) }
+    ensures memory { OnErr result (tells_digits observed.now ≡ true) }
 {
     let told = told_in(alloc, plan, observed)?;
     Ok(notified(was_found_off, told))
@@ -395,6 +396,7 @@ fn hear(
     ensures ok { OnOk result (exchange.new
         ≡ heard_by exchange.old line (notified was_found_off (told_in plan.now observed.now))) }
     ensures err { OnErr result (exchange.new ≡ exchange.old) }
+    ensures memory { OnErr result (tells_digits observed.now ≡ true) }
 {
     match heard(alloc, plan, was_found_off, observed)? {
         Some(told) => exchange.tell(line, told),
@@ -403,7 +405,7 @@ fn hear(
     Ok(())
 }
 
-// A notification of the line told these events. Where memory is refused for that the line's hook is asked for.
+// A notification of the line told these events. Where memory is refused for their digits the line's hook is asked for.
 fn take_told(
     alloc: Global,
     exchange: &mut Exchange,
@@ -412,7 +414,8 @@ fn take_told(
     line: usize,
     observed: &[Observed],
 )
-    ensures { Hears (told_in plan.now observed.now) line exchange.old cares.old.items exchange.new cares.new.items }
+    ensures { Hears (told_in plan.now observed.now) (tells_digits observed.now) line exchange.old cares.old.items
+        exchange.new cares.new.items }
 {
     let was_off = was_found_off(change_at(cares, line, Change::Tell));
     match hear(alloc, exchange, plan, was_off, line, observed) {
@@ -651,11 +654,11 @@ impl Office {
         touch(&mut self.worklist, &self.exchange, line);
     }
 
-    /// A notification of the line told this, by which it may have dialled the number of a line of this plan. Where memory is refused the
-    /// line's hook is asked for.
+    /// A notification of the line told this, by which it may have dialled the number of a line of this plan. Where memory is refused for
+    /// its digits the line's hook is asked for.
     pub fn told(&mut self, alloc: Global, plan: &NumberPlan, line: usize, observed: &[Observed])
-        ensures hears { Hears (told_in plan.now observed.now) line self.old.exchange self.old.cares.items
-            self.new.exchange self.new.cares.items }
+        ensures hears { Hears (told_in plan.now observed.now) (tells_digits observed.now) line self.old.exchange
+            self.old.cares.items self.new.exchange self.new.cares.items }
         ensures waits { waits self.new.worklist.waiting.items self.new.worklist.is_all line ≡ true }
         ensures touches { Touches line self.old self.new }
         ensures rest { self.new ≡ record self.old { exchange = self.new.exchange; cares = self.new.cares; worklist = self.new.worklist } }

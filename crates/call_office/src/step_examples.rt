@@ -18,7 +18,7 @@ ghost use Rattle.call_office.specs.declared.office.Office.{Office};
 ghost use Rattle.call_office.specs.Duties.{announced, begun, changed_by, duty_answered, first_duty, found, held_from, held_or, is_due_at};
 ghost use Rattle.call_office.specs.Duties.{landed, last_duty, lost, new_care, owed, routed_by, told_care, told_of, told_still, woken};
 ghost use Rattle.call_office.specs.Hooks.{hook_at, hook_by, hook_or};
-ghost use Rattle.call_office.specs.Orders.{Shown as ShownOrder, fixed_or, ordered_by};
+ghost use Rattle.call_office.specs.Orders.{Shown as ShownOrder, cared, fixed_or, ordered_by};
 ghost use Rattle.call_office.specs.Showing.{Shows, ShowsIn, shown_in};
 ghost use Rattle.call_office.specs.Steps.{Begins, BeginsAs, Forgets, Hears, ToldOf, landed_if};
 ghost use Rattle.call_office.specs.Turns.{cleared_by, AnswersAudit, TakesAudit, TellsAudit};
@@ -35,12 +35,16 @@ pub fn steps_at_a_line_have_examples()
     ensures given_up { Forgets 1 creating (cleared ∷ begun cleared ∷ []) creating (cleared ∷ cleared ∷ []) }
     ensures given_up_routed { Forgets 1 creating (cleared ∷ begun audited ∷ []) (answered creating 1 Outcome.GivenUp)
         (cleared ∷ audited ∷ []) }
-    // What it told is told to the exchange; what an audit found before says nothing new; where that can't be read, its hook is asked for.
-    ensures told { Hears (Some Told.OffHook) 0 creating (audited ∷ cleared ∷ []) (told creating 0 Told.OffHook)
+    // What it told is told to the exchange; what an audit found before says nothing new; where memory is refused for digits, its hook is
+    // asked for, and where there are none it isn't.
+    ensures told { Hears (Some Told.OffHook) false 0 creating (audited ∷ cleared ∷ []) (told creating 0 Told.OffHook)
         (told_care audited ∷ cleared ∷ []) }
-    ensures found_before { Hears (Some Told.OffHook) 0 creating (found_off ∷ []) (told creating 0 Told.Flash) (told_care found_off ∷ []) }
-    ensures says_nothing { Hears None 0 creating (audited ∷ []) creating (told_care audited ∷ []) }
-    ensures unread { Hears (Some Told.OffHook) 0 creating (audited ∷ []) creating (owed (told_care audited) Audit ∷ []) }
+    ensures found_before { Hears (Some Told.OffHook) false 0 creating (found_off ∷ []) (told creating 0 Told.Flash)
+        (told_care found_off ∷ []) }
+    ensures says_nothing { Hears None false 0 creating (audited ∷ []) creating (told_care audited ∷ []) }
+    ensures unread { Hears (Some (Told.Dialled None)) true 0 creating (audited ∷ []) creating (owed (told_care audited) Audit ∷ []) }
+    ensures read { (cares kept : List Care) (was is : ExchangeState) → Hears (Some Told.OnHook) false 0 was cares is kept →
+        kept ≡ cared told_care cares 0 }
     // How it stands is kept as that is told.
     ensures stands { ToldOf 1 creating (cleared ∷ audited ∷ []) creating (cleared ∷ told_of (shown_in creating 1) audited ∷ []) }
     // What is next begins: a duty beside the exchange, or the exchange's command. While the line is held nothing does, and where the
