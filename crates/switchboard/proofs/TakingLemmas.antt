@@ -3,7 +3,7 @@ use Rattle.std.proofs.Common.{◌≡◌, ℕ, Bool, List, Option, Some, None, le
 use Rattle.std.specs.Prelude.{not, ◌==◌}
 use Rattle.std.specs.Global.{Box}
 use Rattle.event_values.specs.declared.observed.Observed.{Observed}
-use Rattle.call_routing.specs.Numbers.{told_in}
+use Rattle.call_routing.specs.Numbers.{told_in, tells_digits}
 use Rattle.call_office.specs.declared.office.Office.{Office}
 use Rattle.call_office.specs.Steps.{HearsSome}
 use Rattle.switchboard.specs.Steps.{OfOffice}
@@ -20,4 +20,4 @@ pub hears_some : (plan : List (List ℕ)) (line : ℕ) (told : List Observed) (w
     → OfOffice (HearsSome line) was is
 hears_some plan line told None is hears = hears
 hears_some plan line told (Some was) None hears = hears
-hears_some plan line told (Some was) (Some is) hears = (told_in plan told, hears.0)
+hears_some plan line told (Some was) (Some is) hears = (told_in plan told, tells_digits told, hears.0)

@@ -5,7 +5,7 @@ use Rattle.event_values.specs.declared.observed.Observed.{Observed}
 use Rattle.call_agent.specs.Agent.{observed_on}
 use Rattle.call_agent.specs.AgentStands.{AgentStands}
 use Rattle.call_agent.specs.Hearing.{AgentEvent, plain_agent}
-use Rattle.call_routing.specs.Numbers.{told_in}
+use Rattle.call_routing.specs.Numbers.{told_in, tells_digits}
 use Rattle.agent_texts.specs.declared.station.Station.{Station}
 use Rattle.switchboard.specs.declared.gateway.Gateway.{Gateway}
 use Rattle.call_office.specs.declared.office.Office.{Office}
@@ -24,7 +24,7 @@ IsObserved line gateway observed =
 abbrev pub HearsTold : List (List ℕ) → ℕ → List Observed → Option (Box Office) → Option (Box Office) → Type 0
 HearsTold plan line told None is = is ≡ None
 HearsTold plan line told (Some was) is =
-    IsSomeAnd is (λ office. Hears (told_in plan told) line was.value.exchange was.value.cares.items
+    IsSomeAnd is (λ office. Hears (told_in plan told) (tells_digits told) line was.value.exchange was.value.cares.items
     office.value.exchange office.value.cares.items × Touches line was.value office.value)
 
 abbrev pub HearsIf : Bool → List (List ℕ) → ℕ → List Observed → Option (Box Office) → Option (Box Office) → Type 0
