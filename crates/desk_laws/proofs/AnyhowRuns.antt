@@ -291,7 +291,8 @@ module _ (gateway after : Gateway) (was is : Box Office) where
   step_knows (steps.hears_line of) does knows line =
       let hears = does.1 in
       stood_knows line does.0
-      (heard hears.0 of gateway.ticked was.value.exchange is.value.exchange was.value.cares.items is.value.cares.items gateway.wakes.items hears.1)
+      (heard hears.0 hears.1 of gateway.ticked was.value.exchange is.value.exchange was.value.cares.items is.value.cares.items
+      gateway.wakes.items hears.2)
       (knows line)
   step_knows (steps.tells_of of) does knows line =
       stood_knows line does.0

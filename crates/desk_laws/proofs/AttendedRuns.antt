@@ -138,14 +138,14 @@ announced_all is_restart pattern first lines now was is cares kept wakes announc
 
 -- Told
 
-pub heard : (event : Option Told) (line now : ℕ) (was is : ExchangeState) (cares kept : List Care) (wakes : List Wake)
-    → Hears event line was cares is kept → Leads (both_at was now cares wakes) (both_at is now kept wakes)
-heard event line now was is cares kept wakes (inl told) =
+pub heard : (event : Option Told) (by_digits : Bool) (line now : ℕ) (was is : ExchangeState) (cares kept : List Care) (wakes : List Wake)
+    → Hears event by_digits line was cares is kept → Leads (both_at was now cares wakes) (both_at is now kept wakes)
+heard event by_digits line now was is cares kept wakes (inl told) =
     leads_to was (heard_by was line (notified (was_found_off (slice_get cares line)) event)) is now cares (cared told_care cares line) kept wakes
     (hears_told line event) refl (told_so was (desk_at now cares wakes) line event) told.0 told.1
-heard event line now was is cares kept wakes (inr unread) =
+heard event by_digits line now was is cares kept wakes (inr unread) =
     leads_to was was is now cares (cared (λ (care : Care). owed care Audit) (cared told_care cares line) line) kept wakes (misses_told line) refl
-    (refused_so was (desk_at now cares wakes) line) unread.0 unread.1
+    (refused_so was (desk_at now cares wakes) line) unread.1 unread.2
 
 pub told_of_it : (line now : ℕ) (was is : ExchangeState) (cares kept : List Care) (wakes : List Wake) → ToldOf line was cares is kept
     → Leads (both_at was now cares wakes) (both_at is now kept wakes)
@@ -324,7 +324,8 @@ module _ (gateway after : Gateway) where
   does_lead (calls.hears_line line) was is s does =
       let hears = does.1 in
       stood gateway after was.value is.value does.0
-      (heard hears.0 line gateway.ticked was.value.exchange is.value.exchange was.value.cares.items is.value.cares.items gateway.wakes.items hears.1)
+      (heard hears.0 hears.1 line gateway.ticked was.value.exchange is.value.exchange was.value.cares.items is.value.cares.items
+      gateway.wakes.items hears.2)
   does_lead (calls.tells_of line) was is s does =
       stood gateway after was.value is.value does.0
       (told_of_it line gateway.ticked was.value.exchange is.value.exchange was.value.cares.items is.value.cares.items gateway.wakes.items does.1)

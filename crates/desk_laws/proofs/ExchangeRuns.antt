@@ -130,10 +130,11 @@ announced_led is_restart pattern first (suc before) exchange =
     (announced_led is_restart pattern first before exchange)
     (if_led (is_meant pattern before) is_restart (line_behind first before) (exchange_announced is_restart pattern first before exchange))
 
-hears_led : (event : Option Told) (of : ℕ) (was is : ExchangeState) (cares kept : List Care) → Hears event of was cares is kept → Led was is
-hears_led event of was is cares kept (inl told_so) =
+hears_led : (event : Option Told) (by_digits : Bool) (of : ℕ) (was is : ExchangeState) (cares kept : List Care)
+    → Hears event by_digits of was cares is kept → Led was is
+hears_led event by_digits of was is cares kept (inl told_so) =
     heard_led was is of (notified (was_found_off (slice_get cares of)) event) told_so.0
-hears_led event of was is cares kept (inr unread) = led_none was is unread.0
+hears_led event by_digits of was is cares kept (inr unread) = led_none was is unread.1
 
 begun_led : (duty : Option Duty) (of : ℕ) (was is : ExchangeState) (cares kept : List Care) → BeginsBy duty of was cares is kept → Led was is
 begun_led None of was is cares kept begun_so = led_none was is begun_so.0
@@ -205,7 +206,7 @@ step_led (steps.announces_lines is_restart pattern first many) gateway after was
     (led_none (exchange_announced is_restart pattern first many was.value.exchange) is.value.exchange announces.0)
 step_led (steps.hears_line of) gateway after was is does =
     let hears = does.1 in
-    hears_led hears.0 of was.value.exchange is.value.exchange was.value.cares.items is.value.cares.items hears.1
+    hears_led hears.0 hears.1 of was.value.exchange is.value.exchange was.value.cares.items is.value.cares.items hears.2
 step_led (steps.tells_of of) gateway after was is does =
     let told_so = does.1 in led_none was.value.exchange is.value.exchange told_so.0
 step_led (steps.issues_to fails of) gateway after was is does = issues_led fails of was is does.1

@@ -1,5 +1,5 @@
 -- Gateways and an exchange's office of which so much is known, and what calls do to them.
-use Rattle.std.proofs.Common.{◌≡◌, ℕ, ◌+◌, ◌<◌, ◌≤◌, List, [], ◌∷◌, ◌++◌, Some, None, inl, inr, refl, sym, subst, ◌∙◌, arith}
+use Rattle.std.proofs.Common.{◌≡◌, ℕ, ◌+◌, ◌<◌, ◌≤◌, true, List, [], ◌∷◌, ◌++◌, Some, None, inl, inr, refl, sym, subst, ◌∙◌, arith}
 use Rattle.std.specs.Global.{Box}
 use Rattle.std.proofs.lemmas.Option.{none-some}
 use Rattle.call_routing.specs.declared.phase.Phase.TheVariants.{Resting}
@@ -45,7 +45,7 @@ carried Does was is exchange after cares kept of_was of_is does =
 -- Line 2 is dialled, and is asked to ring
 
 dialled_so : HearsSome 0 off_hook (kept_of routed_care routed_care) dials (kept_of (told_care routed_care) routed_care)
-dialled_so = (Some (Dialled (Some 2)), inl (refl, refl))
+dialled_so = (Some (Dialled (Some 2)), true, inl (refl, refl))
 
 asked_so : Begins 2 dials (kept_of (told_care routed_care) routed_care) rings (kept_of (told_care routed_care) (begun routed_care))
 unfolding on_examples

@@ -96,8 +96,8 @@ module _ (Stands : Standing) (stays : StaysSo Stands) (line : ℕ) (gateway afte
       let does = own.3 in
       let hears = does.1 in
       stood does.0
-      (heard Stands line gateway.ticked gateway.wakes.items hears.0 of was.value.exchange is.value.exchange was.value.cares.items
-      is.value.cares.items hears.1 s)
+      (heard Stands line gateway.ticked gateway.wakes.items hears.0 hears.1 of was.value.exchange is.value.exchange was.value.cares.items
+      is.value.cares.items hears.2 s)
   near (steps.tells_of of) own last s =
       let does = own.3 in
       stood does.0
@@ -133,7 +133,8 @@ module _ (Stands : Standing) (line now : ℕ) (wakes : List Wake) (caller behind
       is.value.cares.items does.1 s
   far (steps.hears_line of) own never does s =
       let hears = does.1 in
-      heard Stands line now wakes hears.0 of was.value.exchange is.value.exchange was.value.cares.items is.value.cares.items hears.1 s
+      heard Stands line now wakes hears.0 hears.1 of was.value.exchange is.value.exchange was.value.cares.items is.value.cares.items
+      hears.2 s
   far (steps.tells_of of) own never does s =
       told_of_it Stands line now wakes of was.value.exchange is.value.exchange was.value.cares.items is.value.cares.items does.1 s
   far (steps.issues_to fails of) own never does s = issued Stands line now wakes fails of was is does.1 s

@@ -139,11 +139,11 @@ module _ (Stands : Standing) (line now : ℕ) (wakes : List Wake) where
       unchanged (cares_announced is_restart pattern first many cares) kept announces_so.1
       (announced_lines is_restart pattern first many cares s)
 
-  pub heard : (event : Option Told) (of : ℕ) (was is : ExchangeState) (cares kept : List Care) → Hears event of was cares is kept → SoundIn cares
-      → SoundIn kept
-  heard event of was is cares kept (inl told) s = happened tells of cares kept told.1 s
-  heard event of was is cares kept (inr unread) s =
-      happened owes_audit of (cared told_care cares of) kept unread.1 (happened tells of cares (cared told_care cares of) refl s)
+  pub heard : (event : Option Told) (by_digits : Bool) (of : ℕ) (was is : ExchangeState) (cares kept : List Care)
+      → Hears event by_digits of was cares is kept → SoundIn cares → SoundIn kept
+  heard event by_digits of was is cares kept (inl told) s = happened tells of cares kept told.1 s
+  heard event by_digits of was is cares kept (inr unread) s =
+      happened owes_audit of (cared told_care cares of) kept unread.2 (happened tells of cares (cared told_care cares of) refl s)
 
   pub told_of_it : (of : ℕ) (was is : ExchangeState) (cares kept : List Care) → ToldOf of was cares is kept → SoundIn cares → SoundIn kept
   told_of_it of was is cares kept told s = happened (shows (shown_in was of)) of cares kept told.1 s

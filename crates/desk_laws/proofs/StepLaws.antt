@@ -98,18 +98,19 @@ announced_all is_restart pattern first lines gateway was is so =
 
 -- Told
 
-heard : (event : Option Told) (line now : ℕ) (was is : ExchangeState) (cares kept : List Care) (wakes : List Wake)
-    → Hears event line was cares is kept → Comes (desk_at now cares wakes) (desk_at now kept wakes)
-heard event line now was is cares kept wakes (inl told) = happened tells line now cares kept wakes told.1
-heard event line now was is cares kept wakes (inr unread) =
+heard : (event : Option Told) (by_digits : Bool) (line now : ℕ) (was is : ExchangeState) (cares kept : List Care) (wakes : List Wake)
+    → Hears event by_digits line was cares is kept → Comes (desk_at now cares wakes) (desk_at now kept wakes)
+heard event by_digits line now was is cares kept wakes (inl told) = happened tells line now cares kept wakes told.1
+heard event by_digits line now was is cares kept wakes (inr unread) =
     both (desk_at now cares wakes) (desk_at now (cared told_care cares line) wakes) (desk_at now kept wakes)
     (happened tells line now cares (cared told_care cares line) wakes refl)
-    (happened owes_audit line now (cared told_care cares line) kept wakes unread.1)
+    (happened owes_audit line now (cared told_care cares line) kept wakes unread.2)
 
 pub heard_some : (line : ℕ) (gateway : Gateway) (was is : Box Office) → OfOffice (HearsSome line) (Some was) (Some is)
     → Comes (desk_of gateway was.value) (desk_of gateway is.value)
 heard_some line gateway was is hears =
-    heard hears.0 line gateway.ticked was.value.exchange is.value.exchange was.value.cares.items is.value.cares.items gateway.wakes.items hears.1
+    heard hears.0 hears.1 line gateway.ticked was.value.exchange is.value.exchange was.value.cares.items is.value.cares.items
+    gateway.wakes.items hears.2
 
 -- how it stands was told
 pub told_so : (line : ℕ) (gateway : Gateway) (was is : Box Office) → OfOffice (ToldOf line) (Some was) (Some is)
