@@ -1,7 +1,7 @@
 //! Worked examples of what a step of a board does, as theorems.
 #![tactic(auto, unfolding(crate::proofs::Computing::on_examples))]
 
-ghost use Rattle.std.specs.Prelude.{◌≡◌, [], ◌∷◌, ℕ, Bool, true, false, List, Option, Some, None, Ok, Err, take};
+ghost use Rattle.std.specs.Prelude.{◌≡◌, ⊤, [], ◌∷◌, ℕ, Bool, true, false, List, Option, Some, None, Ok, Err, codes, take};
 ghost use Rattle.std.specs.Global.{Box};
 ghost use Rattle.call_routing.specs.Exchange.{told};
 ghost use Rattle.switchboard.specs.declared.gateway.Gateway.{Gateway};
@@ -17,23 +17,25 @@ ghost use Rattle.call_agent.specs.declared.issuing.Issued.{Issued};
 ghost use Rattle.call_agent.specs.declared.issuing.IssueFault.{IssueFault};
 ghost use Rattle.call_agent.specs.declared.issuing.IssueFault.TheVariants as faults;
 ghost use Rattle.call_agent.specs.Issuing.{no_more_ids, bad_command, issue_refusal};
-ghost use Rattle.call_agent.specs.AgentStands.{AgentStands, AgentStays};
+ghost use Rattle.call_agent.specs.AgentStands.{AgentStands, AgentStays, AgentTook};
 ghost use Rattle.gateway_rules.specs.declared.refusal.Refusal.TheVariants as refusals;
 ghost use Rattle.plain_machine.specs.Event.{tick};
-ghost use Rattle.call_agent.specs.Hearing.{AgentEvent, plain_agent};
+ghost use Rattle.call_agent.specs.Hearing.{AgentEvent, issues, plain_agent};
 ghost use Rattle.agent_texts.specs.declared.station.Station.{Station};
 ghost use Rattle.switchboard.specs.Boards.{Answers};
 ghost use Rattle.switchboard.specs.Dues.{FallsDue, FallsDueAt};
 ghost use Rattle.call_office.specs.Duties.{announced, begun, fixed_order, lost, new_care, outlived, owed};
-ghost use Rattle.switchboard.specs.Issuing.{ordered_in, FailsBy, Flies, IssuesOrder, IssuesSettled, IssuesTo, IssuesUnder, SendsAlone, SendsAtMost};
+ghost use Rattle.switchboard.specs.Issuing.{ordered_in, Fails, FailsBy, Flies, IssuesIn, IssuesOrder, IssuesSettled, IssuesTo};
+ghost use Rattle.switchboard.specs.Issuing.{IssuesUnder, RefusedBefore, SendsAlone, SendsAtMost};
 ghost use Rattle.call_office.specs.Orders.{Shown, routed};
 ghost use Rattle.call_office.specs.Steps.{Begins, Forgets};
 ghost use Rattle.call_office.specs.Waiting.{IsWaiting, Touches, WaitOn};
 ghost use Rattle.switchboard.specs.Hearing.{AnswersIn};
 ghost use Rattle.switchboard.specs.Taking.{HearsTold};
-ghost use Rattle.switchboard.specs.Steps.{has_line, Announces, AnnouncesBy, AnnouncesTo, InOffice, IssuesAt, LinesWaitOn, OfOffice, OthersStay};
+ghost use Rattle.switchboard.specs.Steps.{has_line, Announces, AnnouncesBy, AnnouncesTo, AtPlace, InOffice, IssuesAt};
+ghost use Rattle.switchboard.specs.Steps.{LinesWaitOn, OfOffice, OthersStay};
 ghost use Rattle.switchboard.specs.Steps.{Refuses, SameLines, Ticks, ToldAt, TouchesIf, TouchesMeant, WaitsIn, Wakens, settled_in};
-ghost use Rattle.switchboard.specs.TypedCommands.{typed_fault, IssuesCommand, IssuesMeant, IssuesThere};
+ghost use Rattle.switchboard.specs.TypedCommands.{typed_fault, IsOfAgent, IssuesCommand, IssuesMeant, IssuesNamed, IssuesThere};
 ghost use Rattle.call_office.specs.Example.{audited, creating, deleted_later, deleted_now};
 ghost use Rattle.switchboard.specs.Example.{wake_at, HasAgent};
 
@@ -229,4 +231,36 @@ pub fn who_waits_behind_a_step_has_examples()
     ensures announced { (was is : Box Office) → AnnouncesBy true (Ok Pattern.All) 4 2 (Some was) (Some is) → IsWaiting is.value.worklist 5 }
     ensures left { (was is : Office) → was.exchange ≡ creating → TouchesMeant true (Pattern.One 2) 0 2 was is → IsWaiting is.worklist 3 }
     ensures others { (was is : Office) → TouchesMeant true Pattern.All 4 2 was is → WaitOn was.worklist is.worklist }
+{}
+
+/// Which gateway does something, and what one issues.
+pub fn who_issues_has_examples()
+    // It is the one at that place, which is there still; where there is none, nobody does anything.
+    ensures at_place { (one two three : Gateway) →
+        AtPlace 1 (λ was is. (was ≡ two) × (is ≡ three)) (one ∷ two ∷ []) (one ∷ three ∷ []) }
+    ensures nobody { (one : Gateway) → AtPlace 1 (λ was is. ⊥) (one ∷ []) (one ∷ []) }
+    ensures gone { (one two : Gateway) → AtPlace 1 (λ was is. ⊤) (one ∷ two ∷ []) (one ∷ []) → ⊥ }
+    // So it is with the gateway of a line; where there is none, any command is a bad one.
+    ensures by_its_gateway { (order : Shown) (fault : IssueFault) (was is : Gateway) →
+        IssuesIn (codes "aaln/1@gw2") order 3 (Err fault) (Some was) (Some is) →
+        IssuesUnder (codes "aaln/1@gw2") order 3 (Err fault) was is }
+    ensures not_there { (order : Shown) (fault : IssueFault) (was : Gateway) → IssuesIn [] order 3 (Err fault) (Some was) None → ⊥ }
+    ensures bad { (order : Shown) (is : Option Gateway) → IssuesIn [] order 3 (Err faults.BadCommand) None is }
+    ensures not_for_ids { (order : Shown) (is : Option Gateway) → IssuesIn [] order 3 (Err faults.NoMoreIds) None is → ⊥ }
+    // Memory is refused whatever an agent's reason is; where it has none, it has no other.
+    ensures for_memory { (gateway : Gateway) → Fails [] [] [] faults.OutOfMemory gateway }
+    ensures without_reason { (gateway : Gateway) (events : List AgentEvent) → AgentStands gateway.agent.value events →
+        issue_refusal (plain_agent gateway.agent.value.setup events) [] [] [] ≡ None → Fails [] [] [] faults.NoMoreIds gateway → ⊥ }
+    ensures before { (gateways : List Gateway) → RefusedBefore faults.OutOfMemory gateways gateways }
+    ensures before_all { (were are : List Gateway) → RefusedBefore faults.OutOfMemory were are → are ≡ were }
+    ensures not_before { (were are : List Gateway) → RefusedBefore faults.NoMoreIds were are → ⊥ }
+    // What is typed is issued under the name with its gateway's domain, and is in flight to no line.
+    ensures of_agent { (gateway : Gateway) → IsOfAgent [] [] [] gateway TypedFault.OutOfMemory }
+    ensures not_of_agent { (gateway : Gateway) → IsOfAgent [] [] [] gateway TypedFault.Unknown → ⊥ }
+    ensures named { (issued : Issued) (was is : Gateway) →
+        IssuesNamed (codes "AUEP") (codes "aaln/1") [] (Ok issued) (record was { domain = codes "gw2" }) is →
+        AgentTook was.agent.value (issues (codes "AUEP") (codes "aaln/1@gw2") []) is.agent.value (issued.datagram ∷ []) }
+    ensures to_no_line { (issued : Issued) (was is : Gateway) → IssuesNamed [] [] [] (Ok issued) was is → Flies None issued was is }
+    ensures not_named { (fault : TypedFault) (was is : Gateway) → IssuesNamed [] [] [] (Err fault) was is →
+        is.flights.items ≡ was.flights.items }
 {}
