@@ -30,7 +30,7 @@ ghost use Rattle.switchboard.specs.Hearing.{AnnouncesAs, HearsMessage, HearsOutc
 ghost use Rattle.call_office.specs.Steps.{Forgets};
 ghost use Rattle.call_office.specs.Waiting.{Touches};
 ghost use Rattle.switchboard.specs.Steps.{AnnouncesTo, InOffice, OfOffice};
-ghost use Rattle.switchboard.specs.Taking.{first_of, with_taken, HearsIf, TakesTold};
+ghost use Rattle.switchboard.specs.Taking.{first_of, with_taken, HearsIf, IsObserved, TakesFrom, TakesTold};
 ghost use Rattle.call_office.specs.Example.{param};
 ghost use Rattle.switchboard.specs.Typed.{command_in, said_in};
 ghost use Rattle.switchboard.specs.Example.{flying, wake_at};
@@ -182,4 +182,15 @@ pub fn what_is_taken_has_examples()
     // The place of the first line of a gateway.
     ensures first { (gateway : Gateway) → gateway.first ≡ 4 → first_of (Some gateway) ≡ 4 }
     ensures none { first_of None ≡ 0 }
+{}
+
+/// What a line told is taken as far as it wasn't before.
+pub fn what_was_told_is_taken_once()
+    ensures told { (gateway : Gateway) (station after : Station) (one two : Observed) (was is : Option (Box Office)) →
+        IsObserved station.line gateway (one ∷ two ∷ []) → station.taken ≡ 1 → HearsIf true [] 3 (two ∷ []) was is →
+        after ≡ record station { taken = 2 } → TakesFrom [] 3 gateway station true was is after }
+    ensures not_again { (gateway : Gateway) (station : Station) (one : Observed) (office : Option (Box Office)) →
+        IsObserved station.line gateway (one ∷ []) → station.taken ≡ 1 → TakesFrom [] 3 gateway station false office office station }
+    ensures nothing { (gateway : Gateway) (station after : Station) (was is : Option (Box Office)) →
+        TakesFrom [] 3 gateway station false was is after → (is ≡ was) × (after ≡ station) }
 {}
