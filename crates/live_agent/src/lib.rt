@@ -13,6 +13,7 @@ mod recorder;
 mod serving;
 mod session;
 pub mod turn_examples;
+pub mod typed_examples;
 mod wire;
 
 pub use crate::loading::{LoadEnding, load_agent, load_over};
