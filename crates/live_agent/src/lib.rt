@@ -7,6 +7,7 @@
 //! between telephones (`load_bench`) are a part of it.
 #![tactic(auto)]
 
+pub mod command_examples;
 pub mod desk_examples;
 mod loading;
 mod recorder;

@@ -1,0 +1,56 @@
+use Rattle.std.proofs.Common.{◌≡◌, ◌⊎◌, inl, inr, ℕ, List, [], Option, Result, Ok, Err, refl, sym, ap, subst}
+use Rattle.std.specs.Prelude.{codes}
+use Rattle.std.specs.Fmt.{digits}
+use Rattle.std.specs.declared.net.socket_addr.SocketAddr.{SocketAddr}
+use Rattle.call_agent.specs.declared.issuing.Issued.{Issued}
+use Rattle.mg_bytes.specs.Lines.{cut}
+use Rattle.surroundings.specs.Hearing.{AnswersTo}
+use Rattle.switchboard.specs.declared.switchboard.Switchboard.{Switchboard}
+use Rattle.switchboard.specs.declared.typed.TypedFault.{TypedFault}
+use Rattle.switchboard.specs.declared.typed.TypedFault.TheVariants.{OutOfMemory, Unknown}
+use Rattle.live_agent.specs.AnyAround.{sends_any}
+use Rattle.live_agent.specs.TypedCommands.{fault_text, issued_text, AnswersAll, AnswersCommand, AnswersIssued}
+use Rattle.live_agent.specs.declared.wire.Wire.{Wire}
+use Rattle.live_agent.proofs.command_examples.what_a_command_is_answered_has_examples.Goals as goal
+
+issued_so : codes "issued 7\n" ≡ issued_text 7
+unfolding digits
+issued_so = refl
+
+pub returns-clause-issued : goal.returns-clause-issued
+returns-clause-issued c = λ issued board now was sent is issues sends id answered.
+    inr (Ok issued, issues, (sent, codes "issued 7\n", sends,
+    inl (subst (λ (one : ℕ). codes "issued 7\n" ≡ issued_text one) (sym id) issued_so), answered))
+
+pub returns-clause-refused : goal.returns-clause-refused
+unfolding cut
+returns-clause-refused c = λ board was is answered. inr (Err Unknown, (refl, refl), answered)
+
+pub returns-clause-before : goal.returns-clause-before
+returns-clause-before c = λ text board was is answered. inl (refl, answered)
+
+-- a text that is no command is answered as none, or memory is refused
+by_answer : {answers : ℕ → SocketAddr → List ℕ → ℕ → Type 0} (C : Type 0) (board now : Switchboard) (was is : Wire ℕ)
+    → (now ≡ board → (fault : TypedFault) → (fault ≡ OutOfMemory) ⊎ (fault ≡ Unknown) → AnswersAll answers (fault_text fault) was is → C)
+    → AnswersCommand sends_any answers [] board now was is → C
+unfolding cut
+by_answer C board now was is told (inl none) = told none.0 OutOfMemory (inl refl) none.1
+by_answer {answers} C board now was is told (inr some) =
+    told some.1.1 Unknown (inr refl)
+    (subst (λ (result : Result Issued TypedFault). AnswersIssued sends_any answers result was is) some.1.0 some.2)
+
+pub returns-clause-unknown : goal.returns-clause-unknown
+returns-clause-unknown c = λ board now was is. by_answer _ board now was is (λ stays fault which answered.
+    (stays, ap (λ (wire : Wire ℕ). wire.journal) answered.rest, answered.left))
+
+told_so : (text : List ℕ) (fault : TypedFault) → (fault ≡ OutOfMemory) ⊎ (fault ≡ Unknown) → text ≡ fault_text fault
+    → (text ≡ codes "! 1 OutOfMemory\n") ⊎ (text ≡ codes "? VERB NAME, counts, or stop\n")
+told_so text fault (inl memory) is = inl (subst (λ (one : TypedFault). text ≡ fault_text one) memory is)
+told_so text fault (inr unknown) is = inr (subst (λ (one : TypedFault). text ≡ fault_text one) unknown is)
+
+pub returns-clause-told : goal.returns-clause-told
+returns-clause-told c = λ sender text board now was is from. by_answer _ board now was is (λ stays fault which answered.
+    told_so text fault which
+    (subst (λ (one : Option SocketAddr).
+      AnswersTo (λ (before : ℕ) (to : SocketAddr) (said : List ℕ) (after : ℕ). text ≡ said) one was.around (fault_text fault) is.around)
+    from answered.answered))
