@@ -10,6 +10,7 @@
 pub mod command_examples;
 pub mod desk_examples;
 mod loading;
+pub mod next_examples;
 mod recorder;
 mod serving;
 mod session;
