@@ -12,6 +12,7 @@ pub mod desk_examples;
 mod loading;
 pub mod next_examples;
 mod recorder;
+pub mod report_examples;
 mod serving;
 mod session;
 pub mod turn_examples;
