@@ -1,7 +1,7 @@
 //! Worked examples of how a load is over, as theorems.
 #![tactic(auto)]
 
-ghost use Rattle.std.specs.Prelude.{◌≡◌, ◌⊎◌, ℕ, Bool, Ok, Err, None, Some};
+ghost use Rattle.std.specs.Prelude.{◌≡◌, ◌⊎◌, ℕ, Bool, true, false, Ok, Err, None, Some, is_some};
 ghost use Rattle.std.specs.Global.{Box};
 ghost use Rattle.agent_config.specs.declared.config.AgentConfig.{AgentConfig};
 ghost use Rattle.load_bench.specs.declared.settings.LoadFault.TheVariants as faults;
@@ -47,4 +47,8 @@ pub fn how_a_load_ends_has_examples()
         ServesBegun answers_any (λ result board before now after. (result ≡ Ok tt) × (after.load ≡ None)) writes_any config is_routed
         was ending is →
         (ending ≡ loads.Common CommonEnding.OutOfMemory) ⊎ (ending ≡ loads.Unmade faults.OutOfMemory) }
+    // An exchange routes its calls where that is asked for, and nowhere else.
+    ensures unrouted { (config : AgentConfig) (was is : Wire ℕ) (ending : LoadEnding) →
+        ServesBegun answers_any (λ result board before now after. is_some board.office ≡ true) writes_any config false was ending is →
+        ending ≡ loads.Common CommonEnding.OutOfMemory }
 {}

@@ -1,4 +1,4 @@
-use Rattle.std.proofs.Common.{◌≡◌, ◌⊎◌, inl, inr, ℕ, Bool, Option, None, Result, Ok, Err, ◌∙◌, ap, subst}
+use Rattle.std.proofs.Common.{◌≡◌, ◌⊎◌, inl, inr, ℕ, Bool, true, false, Option, None, Result, Ok, Err, ◌∙◌, sym, ap, subst, true≢false}
 use Rattle.std.specs.Prelude.{⊤, is_some}
 use Rattle.std.specs.Global.{Box}
 use Rattle.agent_config.specs.declared.config.AgentConfig.{AgentConfig}
@@ -63,3 +63,15 @@ to_its_end config is_routed was served is came ending (inr some) ends =
 pub returns-clause-served : goal.returns-clause-served
 returns-clause-served c = λ config is_routed was is ending begun.
     to_its_end config is_routed was begun.0 is begun.1 ending begun.2 begun.3
+
+unrouted : (config : AgentConfig) (was served is : Wire ℕ) (came : CommonEnding) (ending : LoadEnding)
+    → ServesLoad config false
+      (λ (result : Result ⊤ Fault) (board : Switchboard) (before : Wire ℕ) (now : Switchboard) (after : Wire ℕ).
+        is_some board.office ≡ true)
+      was served came
+    → Behind came served ending is → ending ≡ Common OutOfMemory
+unrouted config was served is came ending (inl none) ends = (behind_it came OutOfMemory served is ending none.0 ends).0
+unrouted config was served is came ending (inr some) ends = absurd (true≢false (sym some.4 ∙ some.3.1))
+
+pub returns-clause-unrouted : goal.returns-clause-unrouted
+returns-clause-unrouted c = λ config was is ending begun. unrouted config was begun.0 is begun.1 ending begun.2 begun.3
