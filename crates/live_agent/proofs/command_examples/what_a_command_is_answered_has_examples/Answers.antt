@@ -19,8 +19,17 @@ issued_so = refl
 
 pub returns-clause-issued : goal.returns-clause-issued
 returns-clause-issued c = λ issued board now was sent is issues sends id answered.
-    inr (Ok issued, issues, (sent, codes "issued 7\n", sends,
-    inl (subst (λ (one : ℕ). codes "issued 7\n" ≡ issued_text one) (sym id) issued_so), answered))
+    inr (
+      Ok issued,
+      issues,
+      (
+        sent,
+        codes "issued 7\n",
+        sends,
+        inl (subst (λ (one : ℕ). codes "issued 7\n" ≡ issued_text one) (sym id) issued_so),
+        answered,
+      ),
+    )
 
 pub returns-clause-refused : goal.returns-clause-refused
 unfolding cut
@@ -52,5 +61,5 @@ pub returns-clause-told : goal.returns-clause-told
 returns-clause-told c = λ sender text board now was is from. by_answer _ board now was is (λ stays fault which answered.
     told_so text fault which
     (subst (λ (one : Option SocketAddr).
-      AnswersTo (λ (before : ℕ) (to : SocketAddr) (said : List ℕ) (after : ℕ). text ≡ said) one was.around (fault_text fault) is.around)
+    AnswersTo (λ (before : ℕ) (to : SocketAddr) (said : List ℕ) (after : ℕ). text ≡ said) one was.around (fault_text fault) is.around)
     from answered.answered))

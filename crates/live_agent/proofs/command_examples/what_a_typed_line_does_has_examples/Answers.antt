@@ -16,8 +16,11 @@ use Rattle.live_agent.proofs.command_examples.what_a_typed_line_does_has_example
 
 pub returns-clause-next : goal.returns-clause-next
 returns-clause-next c = λ piece rest board now was is left answers.
-    inr (typed_text (line_of piece) rest,
-    subst (λ (pieces : List (List ℕ)). IsTypedNext pieces (typed_text (line_of piece) rest)) (sym left) (rest, refl, refl), answers)
+    inr (
+      typed_text (line_of piece) rest,
+      subst (λ (pieces : List (List ℕ)). IsTypedNext pieces (typed_text (line_of piece) rest)) (sym left) (rest, refl, refl),
+      answers,
+    )
 
 pub returns-clause-before : goal.returns-clause-before
 returns-clause-before c = λ board was is answered. inl (refl, answered)
@@ -40,7 +43,7 @@ by_nothing C board now was is told left (inl none) = told none.0 OutOfMemory (in
 by_nothing {answers} C board now was is told left (inr some) =
     by_answer C board now was is told
     (subst (λ (text : List ℕ). AnswersCommand sends_any answers text board now was is)
-      (subst (λ (pieces : List (List ℕ)). IsTypedNext pieces some.0) left some.1) some.2)
+    (subst (λ (pieces : List (List ℕ)). IsTypedNext pieces some.0) left some.1) some.2)
 
 pub returns-clause-nothing : goal.returns-clause-nothing
 returns-clause-nothing c = λ board now was is. by_nothing _ board now was is (λ stays fault which answered.
@@ -55,5 +58,5 @@ pub returns-clause-told : goal.returns-clause-told
 returns-clause-told c = λ sender text board now was is from. by_nothing _ board now was is (λ stays fault which answered.
     told_so text fault which
     (subst (λ (one : Option SocketAddr).
-      AnswersTo (λ (before : ℕ) (to : SocketAddr) (said : List ℕ) (after : ℕ). text ≡ said) one was.around (fault_text fault) is.around)
+    AnswersTo (λ (before : ℕ) (to : SocketAddr) (said : List ℕ) (after : ℕ). text ≡ said) one was.around (fault_text fault) is.around)
     from answered.answered))

@@ -25,6 +25,10 @@ returns-clause-not_made c = λ load was is ticked none some. true≢false (sym (
 
 pub returns-clause-stays : goal.returns-clause-stays
 returns-clause-stays c = λ was is ticked.
-    let rest = ticked.1 in
-    (ap (λ (wire : Wire ℕ). wire.lines) rest, ap (λ (wire : Wire ℕ). wire.read) rest, ap (λ (wire : Wire ℕ). wire.now.time) rest,
-    ap (λ (wire : Wire ℕ). wire.end) rest, ap (λ (wire : Wire ℕ). wire.is_offering) rest)
+    let rest = ticked.1 in (
+      ap (λ (wire : Wire ℕ). wire.lines) rest,
+      ap (λ (wire : Wire ℕ). wire.read) rest,
+      ap (λ (wire : Wire ℕ). wire.now.time) rest,
+      ap (λ (wire : Wire ℕ). wire.end) rest,
+      ap (λ (wire : Wire ℕ). wire.is_offering) rest,
+    )

@@ -15,10 +15,15 @@ returns-clause-asked c = λ board now was is schedule next does. (ap moment_in d
 
 pub returns-clause-begins : goal.returns-clause-begins
 returns-clause-begins c = λ board now was is schedule next does.
-    let begins = does.begins in
-    (ap (λ (wire : Wire ℕ). wire.around) begins, ap (λ (wire : Wire ℕ). wire.network) begins, ap (λ (wire : Wire ℕ). wire.now.clock) begins,
-    ap (λ (wire : Wire ℕ). wire.read) begins, ap (λ (wire : Wire ℕ). wire.end) begins, ap (λ (wire : Wire ℕ). wire.is_offering) begins,
-    ap (λ (wire : Wire ℕ). wire.load) begins)
+    let begins = does.begins in (
+      ap (λ (wire : Wire ℕ). wire.around) begins,
+      ap (λ (wire : Wire ℕ). wire.network) begins,
+      ap (λ (wire : Wire ℕ). wire.now.clock) begins,
+      ap (λ (wire : Wire ℕ). wire.read) begins,
+      ap (λ (wire : Wire ℕ). wire.end) begins,
+      ap (λ (wire : Wire ℕ). wire.is_offering) begins,
+      ap (λ (wire : Wire ℕ). wire.load) begins,
+    )
 
 pub returns-clause-settles : goal.returns-clause-settles
 returns-clause-settles c = λ board now was is schedule next does. does.settles

@@ -35,8 +35,8 @@ returns-clause-no_exchange c = λ config is_routed was is ending begun.
 
 failed : (fault : Fault) (config : AgentConfig) (is_routed : Bool) (was served is : Wire ℕ) (came : CommonEnding) (ending : LoadEnding)
     → ServesLoad config is_routed
-      (λ (result : Result ⊤ Fault) (board : Switchboard) (before : Wire ℕ) (now : Switchboard) (after : Wire ℕ). result ≡ Err fault)
-      was served came
+    (λ (result : Result ⊤ Fault) (board : Switchboard) (before : Wire ℕ) (now : Switchboard) (after : Wire ℕ). result ≡ Err fault)
+    was served came
     → Behind came served ending is → (ending ≡ Common OutOfMemory) ⊎ (ending ≡ Common Clock)
 failed fault config is_routed was served is came ending (inl none) ends = inl (behind_it came OutOfMemory served is ending none.0 ends).0
 failed fault config is_routed was served is came ending (inr some) ends =
@@ -51,9 +51,9 @@ is_made load = is_some load
 
 to_its_end : (config : AgentConfig) (is_routed : Bool) (was served is : Wire ℕ) (came : CommonEnding) (ending : LoadEnding)
     → ServesLoad config is_routed
-      (λ (result : Result ⊤ Fault) (board : Switchboard) (before : Wire ℕ) (now : Switchboard) (after : Wire ℕ).
-        (result ≡ Ok tt) × (after.load ≡ None))
-      was served came
+    (λ (result : Result ⊤ Fault) (board : Switchboard) (before : Wire ℕ) (now : Switchboard) (after : Wire ℕ).
+    (result ≡ Ok tt) × (after.load ≡ None))
+    was served came
     → Behind came served ending is → (ending ≡ Common OutOfMemory) ⊎ (ending ≡ Unmade faults.OutOfMemory)
 to_its_end config is_routed was served is came ending (inl none) ends = inl (behind_it came OutOfMemory served is ending none.0 ends).0
 to_its_end config is_routed was served is came ending (inr some) ends =
@@ -66,9 +66,9 @@ returns-clause-served c = λ config is_routed was is ending begun.
 
 unrouted : (config : AgentConfig) (was served is : Wire ℕ) (came : CommonEnding) (ending : LoadEnding)
     → ServesLoad config false
-      (λ (result : Result ⊤ Fault) (board : Switchboard) (before : Wire ℕ) (now : Switchboard) (after : Wire ℕ).
-        is_some board.office ≡ true)
-      was served came
+    (λ (result : Result ⊤ Fault) (board : Switchboard) (before : Wire ℕ) (now : Switchboard) (after : Wire ℕ).
+    is_some board.office ≡ true)
+    was served came
     → Behind came served ending is → ending ≡ Common OutOfMemory
 unrouted config was served is came ending (inl none) ends = (behind_it came OutOfMemory served is ending none.0 ends).0
 unrouted config was served is came ending (inr some) ends = absurd (true≢false (sym some.4 ∙ some.3.1))

@@ -12,10 +12,12 @@ is_made load = is_some load
 pub returns-clause-none : goal.returns-clause-none
 returns-clause-none c = λ was is ending none ends.
     let gone = ends.none (ap is_made none) in
-    let rest = ends.written.rest in
-    (gone.0, ap (λ (wire : Wire ℕ). wire.around) rest ∙ ap (λ (wire : Wire ℕ). wire.around) gone.1,
-    ap (λ (wire : Wire ℕ). wire.load) rest ∙ ap (λ (wire : Wire ℕ). wire.load) gone.1,
-    ends.written.wrote ∙ ap (λ (wire : Wire ℕ). wire.journal.value) gone.1)
+    let rest = ends.written.rest in (
+      gone.0,
+      ap (λ (wire : Wire ℕ). wire.around) rest ∙ ap (λ (wire : Wire ℕ). wire.around) gone.1,
+      ap (λ (wire : Wire ℕ). wire.load) rest ∙ ap (λ (wire : Wire ℕ). wire.load) gone.1,
+      ends.written.wrote ∙ ap (λ (wire : Wire ℕ). wire.journal.value) gone.1,
+    )
 
 pub returns-clause-reports : goal.returns-clause-reports
 returns-clause-reports c = λ load was is ending ends some. ends.ends (ap is_made some)

@@ -31,7 +31,7 @@ afar : (lines : Lines) (request : Request) (sender : Option SocketAddr) (left : 
 afar lines request sender left from is_afar left_is asks =
     asks.2
     ∙ ap (λ (one : Bool). first_request one (left_of lines))
-      (is_false asks.0 (λ (so : IsTrue asks.0). is_afar (subst IsNear from (asks.1.0 so))))
+    (is_false asks.0 (λ (so : IsTrue asks.0). is_afar (subst IsNear from (asks.1.0 so))))
     ∙ ap (first_request false) left_is
 
 abbrev stop : List (List ℕ)
@@ -70,9 +70,11 @@ unfolding on_examples
 counts_first = refl
 
 pub returns-clause-first : goal.returns-clause-first
-returns-clause-first c = λ lines from left.
-    (false, ((λ so. absurd cc), (λ is_near. absurd (subst IsNear from is_near))),
-    sym (ap (first_request false) left ∙ counts_first))
+returns-clause-first c = λ lines from left. (
+  false,
+  ((λ so. absurd cc), (λ is_near. absurd (subst IsNear from is_near))),
+  sym (ap (first_request false) left ∙ counts_first),
+)
 
 nothing_left : (is_near : Bool) → first_request is_near [] ≡ Nothing
 nothing_left is_near = refl

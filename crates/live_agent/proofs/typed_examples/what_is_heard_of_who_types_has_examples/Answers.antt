@@ -25,7 +25,12 @@ returns-clause-came c = λ source was is left read hears.
 
 pub returns-clause-stays : goal.returns-clause-stays
 returns-clause-stays c = λ was is hears.
-    let rest = hears.3 in
-    (ap (λ (wire : Wire ℕ). wire.network) rest, ap (λ (wire : Wire ℕ). wire.journal) rest, ap (λ (wire : Wire ℕ). wire.now) rest,
-    ap (λ (wire : Wire ℕ). wire.is_behind) rest, ap (λ (wire : Wire ℕ). wire.end) rest,
-    ap (λ (wire : Wire ℕ). wire.is_offering) rest, ap (λ (wire : Wire ℕ). wire.load) rest)
+    let rest = hears.3 in (
+      ap (λ (wire : Wire ℕ). wire.network) rest,
+      ap (λ (wire : Wire ℕ). wire.journal) rest,
+      ap (λ (wire : Wire ℕ). wire.now) rest,
+      ap (λ (wire : Wire ℕ). wire.is_behind) rest,
+      ap (λ (wire : Wire ℕ). wire.end) rest,
+      ap (λ (wire : Wire ℕ). wire.is_offering) rest,
+      ap (λ (wire : Wire ℕ). wire.load) rest,
+    )

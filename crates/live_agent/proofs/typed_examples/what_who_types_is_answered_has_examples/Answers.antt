@@ -11,13 +11,13 @@ use Rattle.live_agent.proofs.typed_examples.what_who_types_is_answered_has_examp
 pub returns-clause-sender : goal.returns-clause-sender
 returns-clause-sender c = λ sender other text was is from with.
     subst (λ (one : Option SocketAddr).
-      AnswersTo (λ (before : ℕ) (to : SocketAddr) (said : List ℕ) (after : ℕ). (to ≡ other) × (said ≡ text) × (after ≡ before + 1))
-      one was.around (codes "done\n") is.around) from with.0
+    AnswersTo (λ (before : ℕ) (to : SocketAddr) (said : List ℕ) (after : ℕ). (to ≡ other) × (said ≡ text) × (after ≡ before + 1))
+    one was.around (codes "done\n") is.around) from with.0
 
 pub returns-clause-nobody : goal.returns-clause-nobody
 returns-clause-nobody c = λ was is from with.
     subst (λ (one : Option SocketAddr).
-      AnswersTo (λ (before : ℕ) (to : SocketAddr) (said : List ℕ) (after : ℕ). ⊥) one was.around (codes "done\n") is.around) from with.0
+    AnswersTo (λ (before : ℕ) (to : SocketAddr) (said : List ℕ) (after : ℕ). ⊥) one was.around (codes "done\n") is.around) from with.0
 
 stop_next : requests_from (codes "\n" ∷ codes "stop\n" ∷ codes "quit\n" ∷ []) ≡ codes "stop\n" ∷ codes "quit\n" ∷ []
 unfolding on_examples
@@ -28,7 +28,13 @@ returns-clause-next c = λ was is left with. with.1 ∙ ap (λ (pieces : List (L
 
 pub returns-clause-stays : goal.returns-clause-stays
 returns-clause-stays c = λ was is with.
-    let rest = with.2 in
-    (ap (λ (wire : Wire ℕ). wire.network) rest, ap (λ (wire : Wire ℕ). wire.journal) rest, ap (λ (wire : Wire ℕ). wire.now) rest,
-    ap (λ (wire : Wire ℕ). wire.is_behind) rest, ap (λ (wire : Wire ℕ). wire.read) rest, ap (λ (wire : Wire ℕ). wire.end) rest,
-    ap (λ (wire : Wire ℕ). wire.is_offering) rest, ap (λ (wire : Wire ℕ). wire.load) rest)
+    let rest = with.2 in (
+      ap (λ (wire : Wire ℕ). wire.network) rest,
+      ap (λ (wire : Wire ℕ). wire.journal) rest,
+      ap (λ (wire : Wire ℕ). wire.now) rest,
+      ap (λ (wire : Wire ℕ). wire.is_behind) rest,
+      ap (λ (wire : Wire ℕ). wire.read) rest,
+      ap (λ (wire : Wire ℕ). wire.end) rest,
+      ap (λ (wire : Wire ℕ). wire.is_offering) rest,
+      ap (λ (wire : Wire ℕ). wire.load) rest,
+    )
