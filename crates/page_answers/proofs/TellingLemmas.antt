@@ -1,17 +1,19 @@
 -- What is told of what happened, as it is gone through from the oldest.
-use Rattle.std.proofs.Common.{◌≡◌, ℕ, suc, ◌+◌, ◌-◌, ◌<◌, ◌≤◌, refl, codes, List, [], ◌∷◌, ◌++◌, length, map, nat_lt, true, false, Option, Some, None, append_assoc, length-append, arith}
+use Rattle.std.proofs.Common.{◌≡◌, ℕ, suc, ◌+◌, ◌-◌, ◌<◌, ◌≤◌, refl, codes, List, [], ◌∷◌, ◌++◌, length, map, nat_lt, Bool, true, false, Option, Some, None, append_assoc, length-append, arith, rules}
+use Rattle.std.specs.Prelude.{◌==◌, not}
 use Rattle.std.proofs.lemmas.List.{map-append}
 use Rattle.std.proofs.lemmas.Bool.Decides.{nat_tests}
 use Rattle.serde_json.specs.declared.value.Value.{Value}
 use Rattle.hex.specs.Hex.{encode_lower}
-use Rattle.serde_json.specs.Data.{Data, string, object, no_members, put}
+use Rattle.serde_json.specs.Data.{Data, array, boolean, string, object, no_members, put}
 use Rattle.serde_json.specs.View.{view, items_of}
 use Rattle.serde_json.specs.Written.{has_float, items_have_float, compact_text}
 use Rattle.page_board.specs.declared.label.MessageLabel.{MessageLabel}
 use Rattle.page_board.specs.Keeping.{Event, RingState}
 use Rattle.page_answers.specs.Labelling.{label_data, with_said}
-use Rattle.page_answers.specs.Telling.{event_data, put_circumstances, told_after, last_number, events_data}
-use Rattle.page_answers.specs.Texts.{number_data}
+use Rattle.page_answers.specs.declared.telling.TheConstants.{MOST_TOLD}
+use Rattle.page_answers.specs.Telling.{event_data, put_circumstances, told_after, last_number, next_after, is_any, has_more, first_number, events_data}
+use Rattle.page_answers.specs.Texts.{number_data, put_number, put_shown}
 
 is_newer : (after n : ℕ) → after < n → nat_lt after n ≡ true
 is_newer after n h = grind (arith, nat_tests)
@@ -57,6 +59,24 @@ pub goes_on_from : (most after : ℕ) (list : List Value) (v : Value) (last next
     → last_number e.number (told_after (most - length (list ++ v ∷ [])) after es) ≡ next
 goes_on_from most after list v last next e es newer room told =
     rw (length-append list (v ∷ [])) (rw (told_next most (length list) after e es newer room) at told)
+
+-- anything is told where its values are
+pub any_told : (values : List Value) (events : List Event) → map view values ≡ map event_data events
+    → not (length values == 0) ≡ is_any events
+any_told [] [] same = refl
+any_told [] (e ∷ es) same = absurd (search rules)
+any_told (v ∷ vs) [] same = absurd (search rules)
+any_told (v ∷ vs) (e ∷ es) same =
+    let filled : (length (v ∷ vs) == 0) ≡ false = grind (arith, nat_tests) in
+    rw filled refl
+
+-- an object of these members is what is told
+pub told_as : (ring : RingState) (after version clock next first : ℕ) (more : Bool) (events : Data) → next ≡ next_after after ring
+    → first ≡ first_number ring.last ring.events → events ≡ array (items_of (map event_data (told_after MOST_TOLD after ring.events)))
+    → more ≡ has_more after ring
+    → object (put (codes "more") (boolean more) (put_number (codes "next") next (put (codes "events") events
+    (put_number (codes "first") first (put_shown version clock no_members))))) ≡ events_data ring after version clock
+told_as ring after version clock next first more events is begins are left = rw (is, begins, are, left) refl
 
 -- no number that is told has a fraction
 number_whole : (number : Option ℕ) → has_float (number_data number) ≡ false

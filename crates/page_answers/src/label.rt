@@ -1,12 +1,13 @@
 //! What a gateway tells of a message, as JSON.
-ghost use Rattle.std.specs.Prelude.{◌≡◌, map, IfOk, OnOk};
-ghost use Rattle.serde_json.specs.Data.{array};
-ghost use Rattle.serde_json.specs.View.{view, members_view, items_of};
+ghost use Rattle.std.specs.Prelude.{◌≡◌, map, IfOk};
+ghost use Rattle.serde_json.specs.Data.{Members, array};
+ghost use Rattle.serde_json.specs.View.{view, items_of};
 ghost use Rattle.page_answers.specs.Labelling.{message_word as word_of_message, label_data, with_said};
+ghost use Rattle.page_answers.specs.Objects.{Holds};
 
-use crate::members::{number_value, put_item, put_text};
+use crate::members::{Object, put_item};
 use page_board::{MessageKind, MessageLabel};
-use serde_json::{Map, Value, put};
+use serde_json::Value;
 use std::alloc::{AllocError, Global};
 
 #[tactic(auto, unfolding(crate::specs::Labelling::message_word))]
@@ -32,13 +33,13 @@ fn message_word(kind: MessageKind) -> &'static str
 fn label_value(alloc: Global, label: MessageLabel) -> Result<Value, AllocError>
     ensures { IfOk result (λ value. view value ≡ label_data label) }
 {
-    let mut map = Map::new(alloc);
-    put_text(alloc, &mut map, "what", message_word(label.kind))?;
-    put(&mut map, alloc, "line", number_value(label.line))?;
-    put(&mut map, alloc, "id", number_value(label.id))?;
-    put(&mut map, alloc, "code", number_value(label.code))?;
-    put(&mut map, alloc, "send", number_value(label.send))?;
-    Ok(Value::from(map))
+    let mut object = Object::new(alloc);
+    object.put_text("what", message_word(label.kind));
+    object.put_maybe("line", label.line);
+    object.put_maybe("id", label.id);
+    object.put_maybe("code", label.code);
+    object.put_maybe("send", label.send);
+    object.end()
 }
 
 fn labels_value(alloc: Global, labels: &[MessageLabel]) -> Result<Value, AllocError>
@@ -52,18 +53,11 @@ fn labels_value(alloc: Global, labels: &[MessageLabel]) -> Result<Value, AllocEr
 }
 
 /// Puts what is told of messages, where something is.
-pub(crate) fn put_said(
-    alloc: Global,
-    map: &mut Map<String, Value>,
-    said: &[MessageLabel],
-) -> Result<(), AllocError>
-    ensures { OnOk result (members_view map.new.entries ≡ with_said said.now (members_view map.old.entries)) }
+pub(crate) fn put_said(alloc: Global, object: &mut Object, said: &[MessageLabel])
+    ensures { (was : Members) → Holds object.old was → Holds object.new (with_said said.now was) }
 {
     match said {
-        [] => Ok(()),
-        [_, ..] => {
-            let labels = labels_value(alloc, said)?;
-            put(map, alloc, "said", labels)
-        }
+        [] => {}
+        [_, ..] => object.put_made("said", labels_value(alloc, said)),
     }
 }

@@ -1,11 +1,12 @@
 //! What the gateway is, as JSON.
 ghost use Rattle.std.specs.Prelude.{◌≡◌, map, fold, IfOk, OnOk, string_bytes};
-ghost use Rattle.serde_json.specs.Data.{array};
+ghost use Rattle.serde_json.specs.Data.{Members, array, no_members, object as object_data};
 ghost use Rattle.serde_json.specs.View.{view, members_view, items_of};
+ghost use Rattle.page_answers.specs.Objects.{Holds};
 ghost use Rattle.page_answers.specs.Texts.{state_data, TellsState, signal_data, connection_data, hook_word, line_data, lines_data, with_verb, with_code, given_up_in, put_counted, counts_data};
 ghost use Rattle.gateway_metrics.specs.Totals.{totals_of};
 
-use crate::members::{number_value, put_item, put_name, put_numbers, put_shown, put_text};
+use crate::members::{Object, put_item};
 use gateway_metrics::{
     CodeCount, ConnectionView, Counts, LineView, Picture, SignalView, VerbCount, code_digits,
     verb_word,
@@ -16,25 +17,24 @@ use std::alloc::{AllocError, Global};
 fn signal_value(alloc: Global, signal: SignalView) -> Result<Value, AllocError>
     ensures { IfOk result (λ value. view value ≡ signal_data signal) }
 {
-    let mut map = Map::new(alloc);
-    put_name(alloc, &mut map, "name", signal.name)?;
-    put(&mut map, alloc, "end", number_value(signal.end))?;
-    Ok(Value::from(map))
+    let mut object = Object::new(alloc);
+    object.put_name("name", signal.name);
+    object.put_maybe("end", signal.end);
+    object.end()
 }
 
 fn connection_value(alloc: Global, connection: &ConnectionView) -> Result<Value, AllocError>
     ensures { IfOk result (λ value. view value ≡ connection_data connection.now) }
 {
-    let mut map = Map::new(alloc);
-    put_name(alloc, &mut map, "call", connection.call.as_slice())?;
-    put_name(alloc, &mut map, "mode", connection.mode)?;
-    put_name(alloc, &mut map, "codec", connection.codec)?;
-    put_name(alloc, &mut map, "local", connection.local.as_slice())?;
-    put_name(alloc, &mut map, "remote", connection.remote.as_slice())?;
-    let time = u64::from(connection.packet_time);
-    put(&mut map, alloc, "ptime", Value::from(time))?;
-    put(&mut map, alloc, "number", Value::from(connection.number))?;
-    Ok(Value::from(map))
+    let mut object = Object::new(alloc);
+    object.put_name("call", connection.call.as_slice());
+    object.put_name("mode", connection.mode);
+    object.put_name("codec", connection.codec);
+    object.put_name("local", connection.local.as_slice());
+    object.put_name("remote", connection.remote.as_slice());
+    object.put_number("ptime", u64::from(connection.packet_time));
+    object.put_number("number", u64::from(connection.number));
+    object.end()
 }
 
 fn signals_value(alloc: Global, signals: &[SignalView]) -> Result<Value, AllocError>
@@ -66,14 +66,13 @@ fn hook_word(is_off_hook: bool) -> &'static str
 fn line_value(alloc: Global, line: &LineView) -> Result<Value, AllocError>
     ensures { IfOk result (λ value. view value ≡ line_data line.now) }
 {
-    let mut map = Map::new(alloc);
-    put_text(alloc, &mut map, "hook", hook_word(line.is_off_hook))?;
-    put(&mut map, alloc, "lost", Value::from(line.lost))?;
-    let signals = signals_value(alloc, line.signals.as_slice())?;
-    put(&mut map, alloc, "signals", signals)?;
-    let connections = connections_value(alloc, line.connections.as_slice())?;
-    put(&mut map, alloc, "connections", connections)?;
-    Ok(Value::from(map))
+    let mut object = Object::new(alloc);
+    object.put_text("hook", hook_word(line.is_off_hook));
+    object.put_number("lost", line.lost);
+    object.put_made("signals", signals_value(alloc, line.signals.as_slice()));
+    let connections = connections_value(alloc, line.connections.as_slice());
+    object.put_made("connections", connections);
+    object.end()
 }
 
 fn lines_value(alloc: Global, lines: &[LineView]) -> Result<Value, AllocError>
@@ -87,17 +86,19 @@ fn lines_value(alloc: Global, lines: &[LineView]) -> Result<Value, AllocError>
 }
 
 // How many commands of each verb came.
-fn put_commands(
-    alloc: Global,
-    map: &mut Map<String, Value>,
-    commands: &[VerbCount],
-) -> Result<(), AllocError>
-    ensures { OnOk result (members_view map.new.entries ≡ fold with_verb (members_view map.old.entries) commands.now) }
+fn commands_value(alloc: Global, commands: &[VerbCount]) -> Result<Value, AllocError>
+    ensures { IfOk result (λ value. view value ≡ object_data (fold with_verb no_members commands.now)) }
 {
+    let mut map = Map::new(alloc);
     for count in commands {
-        put(map, alloc, verb_word(count.verb), Value::from(count.number))?;
+        put(
+            &mut map,
+            alloc,
+            verb_word(count.verb),
+            Value::from(count.number),
+        )?;
     }
-    Ok(())
+    Ok(Value::from(map))
 }
 
 // How many answers with a code went out.
@@ -110,17 +111,14 @@ fn put_code(alloc: Global, map: &mut Map<String, Value>, count: CodeCount) -> Re
 }
 
 // How many answers with each code went out.
-fn put_answers(
-    alloc: Global,
-    map: &mut Map<String, Value>,
-    answers: &[CodeCount],
-) -> Result<(), AllocError>
-    ensures { OnOk result (members_view map.new.entries ≡ fold with_code (members_view map.old.entries) answers.now) }
+fn answers_value(alloc: Global, answers: &[CodeCount]) -> Result<Value, AllocError>
+    ensures { IfOk result (λ value. view value ≡ object_data (fold with_code no_members answers.now)) }
 {
+    let mut map = Map::new(alloc);
     for count in answers {
-        put_code(alloc, map, *count)?;
+        put_code(alloc, &mut map, *count)?;
     }
-    Ok(())
+    Ok(Value::from(map))
 }
 
 // How many commands of its own nobody answered.
@@ -133,12 +131,8 @@ fn given_up_in(counts: &Counts) -> u64
 }
 
 // What was counted as one number each.
-fn put_counted(
-    alloc: Global,
-    map: &mut Map<String, Value>,
-    counts: &Counts,
-) -> Result<(), AllocError>
-    ensures { OnOk result (members_view map.new.entries ≡ put_counted counts.now (members_view map.old.entries)) }
+fn put_counted(object: &mut Object, counts: &Counts)
+    ensures { (was : Members) → Holds object.old was → Holds object.new (put_counted counts.now was) }
 {
     let numbers = [
         ("datagrams_in", counts.datagrams_in),
@@ -156,21 +150,20 @@ fn put_counted(
         ("send_faults", counts.send_faults),
         ("transactions", counts.transactions),
     ];
-    put_numbers(alloc, map, &numbers)
+    object.put_numbers(&numbers);
 }
 
 fn counts_value(alloc: Global, counts: &Counts) -> Result<Value, AllocError>
     ensures { IfOk result (λ value. view value ≡ counts_data counts.now) }
 {
-    let mut map = Map::new(alloc);
-    put_counted(alloc, &mut map, counts)?;
-    let mut commands = Map::new(alloc);
-    put_commands(alloc, &mut commands, counts.commands.as_slice())?;
-    put(&mut map, alloc, "commands", Value::from(commands))?;
-    let mut answers = Map::new(alloc);
-    put_answers(alloc, &mut answers, counts.answers.as_slice())?;
-    put(&mut map, alloc, "answers", Value::from(answers))?;
-    Ok(Value::from(map))
+    let mut object = Object::new(alloc);
+    put_counted(&mut object, counts);
+    object.put_made(
+        "commands",
+        commands_value(alloc, counts.commands.as_slice()),
+    );
+    object.put_made("answers", answers_value(alloc, counts.answers.as_slice()));
+    object.end()
 }
 
 fn state_value(alloc: Global, picture: &Picture, version: u64) -> Result<Value, AllocError>
@@ -178,20 +171,15 @@ fn state_value(alloc: Global, picture: &Picture, version: u64) -> Result<Value, 
         picture.now.is_serving picture.now.unanswered_since (totals_of picture.now.lines.items).lost
         (lines_data picture.now.lines.items) (counts_data picture.now.counts)) }
 {
-    let mut map = Map::new(alloc);
-    let first = u64::from(picture.first);
-    put_shown(alloc, &mut map, version, picture.clock, first)?;
-    put(&mut map, alloc, "serving", Value::from(picture.is_serving))?;
-    let answers = picture.agent_answers();
-    put(&mut map, alloc, "agent_answers", Value::from(answers))?;
-    let unanswered = number_value(picture.unanswered_since);
-    put(&mut map, alloc, "unanswered_since", unanswered)?;
-    put(&mut map, alloc, "lost", Value::from(picture.totals().lost))?;
-    let lines = lines_value(alloc, picture.lines.as_slice())?;
-    put(&mut map, alloc, "lines", lines)?;
-    let counts = counts_value(alloc, &picture.counts)?;
-    put(&mut map, alloc, "counts", counts)?;
-    Ok(Value::from(map))
+    let mut object = Object::new(alloc);
+    object.put_shown(version, picture.clock, u64::from(picture.first));
+    object.put_truth("serving", picture.is_serving);
+    object.put_truth("agent_answers", picture.agent_answers());
+    object.put_maybe("unanswered_since", picture.unanswered_since);
+    object.put_number("lost", picture.totals().lost);
+    object.put_made("lines", lines_value(alloc, picture.lines.as_slice()));
+    object.put_made("counts", counts_value(alloc, &picture.counts));
+    object.end()
 }
 
 /// What the gateway is: its clock in ms, the number with which its ids began, whether it serves (RFC 3435, 4.4.6), whether its agent

@@ -1,14 +1,19 @@
 //! What happened, as JSON. What came from outside goes in hexadecimal digits alone.
-ghost use Rattle.std.specs.Prelude.{◌≡◌, [], map, IfOk, OnOk, string_bytes};
-ghost use Rattle.serde_json.specs.View.{view, members_view};
+ghost use Rattle.std.specs.Prelude.{◌≡◌, ◌==◌, ◌&&◌, not, nat_lt, length, [], map, IfOk, OnOk, string_bytes};
+ghost use Rattle.std.specs.Net.Text.{socket_v4_text};
+ghost use Rattle.hex.specs.Hex.{encode_lower};
+ghost use Rattle.serde_json.specs.Data.{Members, string};
+ghost use Rattle.serde_json.specs.View.{view};
 ghost use Rattle.page_board.specs.Keeping.{event_of};
+ghost use Rattle.page_answers.specs.Objects.{Holds};
 ghost use Rattle.page_answers.specs.Telling.{kind_word as word_of_kind, put_circumstances as with_circumstances, event_data, told_after, next_after, first_number, events_data, events_text as text_of_events};
 
 use crate::label::put_said;
-use crate::members::{put_shown, put_text};
+use crate::members::Object;
 use page_board::{Happening, Kind, Ring};
-use serde_json::{Map, Value, put};
+use serde_json::Value;
 use std::alloc::{AllocError, Global};
+use std::net::SocketAddrV4;
 
 // So many are told at once.
 const MOST_TOLD: usize = 128;
@@ -25,32 +30,40 @@ fn kind_word(kind: Kind) -> &'static str
     }
 }
 
-// When something happened, what it was, and with whom.
-fn put_circumstances(
-    alloc: Global,
-    map: &mut Map<String, Value>,
-    happening: &Happening,
-) -> Result<(), AllocError>
-    ensures { OnOk result (members_view map.new.entries
-        ≡ with_circumstances (event_of happening.now) (members_view map.old.entries)) }
+fn peer_value(alloc: Global, peer: SocketAddrV4) -> Result<Value, AllocError>
+    ensures { IfOk result (λ value. view value ≡ string (socket_v4_text peer)) }
 {
-    put(map, alloc, "n", Value::from(happening.number))?;
-    put(map, alloc, "at", Value::from(happening.moment))?;
-    put_text(alloc, map, "kind", kind_word(happening.kind))?;
-    let peer = happening.peer.to_string(alloc)?;
-    put(map, alloc, "peer", Value::from(peer))
+    let text = peer.to_string(alloc)?;
+    Ok(Value::from(text))
+}
+
+// The text in hexadecimal digits.
+fn hex_value(alloc: Global, text: &[u8]) -> Result<Value, AllocError>
+    ensures { IfOk result (λ value. view value ≡ string (encode_lower text.now)) }
+{
+    let hex = hex::encode(alloc, text)?;
+    Ok(Value::from(hex))
+}
+
+// When something happened, what it was, and with whom.
+fn put_circumstances(alloc: Global, object: &mut Object, happening: &Happening)
+    ensures { (was : Members) → Holds object.old was → Holds object.new (with_circumstances (event_of happening.now) was) }
+{
+    object.put_number("n", happening.number);
+    object.put_number("at", happening.moment);
+    object.put_text("kind", kind_word(happening.kind));
+    object.put_made("peer", peer_value(alloc, happening.peer));
 }
 
 // One that happened. Nothing of its text but hexadecimal digits is told, and what its messages are.
 fn happening_value(alloc: Global, happening: &Happening) -> Result<Value, AllocError>
     ensures { IfOk result (λ value. view value ≡ event_data (event_of happening.now)) }
 {
-    let mut map = Map::new(alloc);
-    put_circumstances(alloc, &mut map, happening)?;
-    let hex = hex::encode(alloc, happening.text.as_slice())?;
-    put(&mut map, alloc, "hex", Value::from(hex))?;
-    put_said(alloc, &mut map, happening.said.as_slice())?;
-    Ok(Value::from(map))
+    let mut object = Object::new(alloc);
+    put_circumstances(alloc, &mut object, happening);
+    object.put_made("hex", hex_value(alloc, happening.text.as_slice()));
+    put_said(alloc, &mut object, happening.said.as_slice());
+    object.end()
 }
 
 // Puts what is told of those behind a number. Gives the number of the last of them.
@@ -84,6 +97,13 @@ fn first_of(ring: &Ring) -> u64
     }
 }
 
+// Whether there is more than what is told, where anything is: the last of it has this number.
+fn has_more(ring: &Ring, told: &[Value], last: u64) -> bool
+    ensures { result ≡ (nat_lt last ring.now.last && not (length told.now == 0)) }
+{
+    last < ring.last() && !told.is_empty()
+}
+
 fn events_value(
     alloc: Global,
     ring: &Ring,
@@ -93,15 +113,15 @@ fn events_value(
 ) -> Result<Value, AllocError>
     ensures { IfOk result (λ value. view value ≡ events_data ring.now after version clock) }
 {
-    let mut map = Map::new(alloc);
     let mut list = Vec::new(alloc);
     let next = put_told(alloc, &mut list, ring, after)?;
-    let more = next < ring.last() && !list.is_empty();
-    put_shown(alloc, &mut map, version, clock, first_of(ring))?;
-    put(&mut map, alloc, "events", Value::from(list))?;
-    put(&mut map, alloc, "next", Value::from(next))?;
-    put(&mut map, alloc, "more", Value::from(more))?;
-    Ok(Value::from(map))
+    let more = has_more(ring, list.as_slice(), next);
+    let mut object = Object::new(alloc);
+    object.put_shown(version, clock, first_of(ring));
+    object.put("events", Value::from(list));
+    object.put_number("next", next);
+    object.put_truth("more", more);
+    object.end()
 }
 
 /// What happened after a number, oldest first: at most 128, and where to go on. `version` says which state is shown, `clock` is
