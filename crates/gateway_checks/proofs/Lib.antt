@@ -5,3 +5,4 @@ pub mod PieceLemmas
 pub mod SignLemmas
 pub mod PartingLemmas
 pub mod PutLemmas
+pub mod NameLemmas

@@ -1,6 +1,6 @@
 -- Pieces that are put one behind the other.
 use Rattle.std.proofs.Common.{◌≡◌, ℕ, List, [], ◌++◌, ap, ◌∙◌, append_assoc}
-use Rattle.std.specs.Prelude.{codes}
+use Rattle.std.specs.Prelude.{codes, decimal}
 use Rattle.gateway_checks.specs.declared.report.Tally.{Tally}
 use Rattle.gateway_checks.specs.Junit.{all_in, skipped_in, suite_head, suite_text}
 
@@ -23,6 +23,16 @@ pub put_five : (out a b c d e first second third fourth fifth : List ℕ) → fi
 put_five out a b c d e first second third fourth fifth puts_first puts_second puts_third puts_fourth puts_fifth =
     put_more out (a ++ b ++ c ++ d) e fourth fifth
     (put_four out a b c d first second third fourth puts_first puts_second puts_third puts_fourth) puts_fifth
+
+pub put_six : (out a b c d e f first second third fourth fifth sixth : List ℕ) → first ≡ out ++ a → second ≡ first ++ b
+    → third ≡ second ++ c → fourth ≡ third ++ d → fifth ≡ fourth ++ e → sixth ≡ fifth ++ f → sixth ≡ out ++ (a ++ b ++ c ++ d ++ e ++ f)
+put_six out a b c d e f first second third fourth fifth sixth puts_first puts_second puts_third puts_fourth puts_fifth puts_sixth =
+    put_more out (a ++ b ++ c ++ d ++ e) f fifth sixth
+    (put_five out a b c d e first second third fourth fifth puts_first puts_second puts_third puts_fourth puts_fifth) puts_sixth
+
+-- a count was put, and what came so often
+pub count_on : (was is whole name : List ℕ) (n : ℕ) → was ≡ whole → is ≡ was ++ decimal n ++ name → is ≡ whole ++ decimal n ++ name
+count_on was is whole name n so_far puts = puts ∙ ap (λ (before : List ℕ). before ++ decimal n ++ name) so_far
 
 -- three that were put, where nothing was before
 pub three_put : (begun a b c first second third : List ℕ) → begun ≡ [] → first ≡ begun ++ a → second ≡ first ++ b → third ≡ second ++ c

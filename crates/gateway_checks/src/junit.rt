@@ -7,7 +7,7 @@ ghost use Rattle.gateway_checks.specs.Junit.{skipped_in, all_in, with_count, sui
 use crate::check::Check;
 use crate::judging::Verdict;
 use crate::report::{Tally, word_of};
-use crate::texts::append;
+use crate::texts::{append, put_plain};
 use mg_bytes::{Draft, OutOfMemory};
 
 // What stands for a byte in a text of XML.
@@ -39,13 +39,13 @@ fn put_outcome(out: &mut Draft, element: &str, message: &str, said: &str)
     ensures { out.new ≡ out.old ++ outcome_text element.now message.now said.now }
 {
     out.put(b"<");
-    out.put(element.as_bytes());
+    put_plain(out, element);
     out.put(b" message=\"");
     put_text(out, message);
     out.put(b"\">");
     put_text(out, said);
     out.put(b"</");
-    out.put(element.as_bytes());
+    put_plain(out, element);
     out.put(b">");
 }
 
@@ -67,13 +67,6 @@ fn put_verdict(out: &mut Draft, verdict: Option<Verdict>, due: &str, said: &str)
         Some(Verdict::NotSupported) => put_skipped(out, verdict, said),
         None => put_skipped(out, verdict, said),
     }
-}
-
-// Puts a text as it stands.
-fn put_plain(out: &mut Draft, text: &str)
-    ensures { out.new ≡ out.old ++ text.now }
-{
-    out.put(text.as_bytes());
 }
 
 // Puts what a case begins with: the check's name, and the sections of its rule.

@@ -9,7 +9,7 @@ ghost use Rattle.gateway_checks.specs.Naming.{id_by, id_in, is_own, differ, name
 ghost use Rattle.gateway_checks.specs.Sending.{datagram};
 
 use crate::signs::{end_line, put_signs};
-use crate::texts::text_of;
+use crate::texts::{put_plain, text_of};
 use mg_bytes::{Draft, OutOfMemory, decimal, split_once};
 use std::alloc::Global;
 
@@ -71,9 +71,9 @@ fn meaning_of(name: &[u8]) -> Meaning
 fn put_endpoint(out: &mut Draft, local: &str, domain: &str)
     ensures { out.new ≡ out.old ++ endpoint_name local.now domain.now }
 {
-    out.put(local.as_bytes());
+    put_plain(out, local);
     out.put(b"@");
-    out.put(domain.as_bytes());
+    put_plain(out, domain);
 }
 
 // Puts a text in upper case.
@@ -193,8 +193,7 @@ impl<'a> Names<'a> {
         let mut digits = Draft::new(self.alloc);
         digits.put_decimal(u64::from(id));
         let value = text_of(self.alloc, digits)?;
-        self.keep(name, value)?;
-        Ok(())
+        self.keep(name, value)
     }
 
     // The value that was kept first under a name.
@@ -234,12 +233,12 @@ impl<'a> Names<'a> {
             Meaning::Line => put_endpoint(out, places.local, places.domain),
             Meaning::UpperLine => put_upper_endpoint(out, places.local, places.domain),
             Meaning::Other => put_endpoint(out, places.other, places.domain),
-            Meaning::Local => out.put(places.local.as_bytes()),
-            Meaning::Domain => out.put(places.domain.as_bytes()),
-            Meaning::Here => out.put(places.here.as_bytes()),
-            Meaning::There => out.put(places.there.as_bytes()),
+            Meaning::Local => put_plain(out, places.local),
+            Meaning::Domain => put_plain(out, places.domain),
+            Meaning::Here => put_plain(out, places.here),
+            Meaning::There => put_plain(out, places.there),
             Meaning::Call => out.put_decimal(u64::from(self.base)),
-            Meaning::Description => out.put(SDP.as_bytes()),
+            Meaning::Description => put_plain(out, SDP),
             Meaning::Kept => self.put_kept(out, name),
         }
     }
@@ -299,7 +298,7 @@ impl<'a> Names<'a> {
     {
         let mut out = Draft::new(self.alloc);
         self.fill(&mut out, text.as_bytes());
-        Ok(text_of(self.alloc, out)?)
+        text_of(self.alloc, out)
     }
 
     /// The transaction id that a text says; 0 where it says none.
@@ -316,7 +315,7 @@ impl<'a> Names<'a> {
     {
         let first = self.filled(first)?;
         let second = self.filled(second)?;
-        Ok(first.as_str() != second.as_str())
+        Ok(first != second)
     }
 
     /// The bytes of a datagram that a step sends: each of its lines ends in CRLF, or as its text says.

@@ -8,7 +8,7 @@ ghost use Rattle.gateway_checks.specs.Reporting.{rule_line, in_room, said_line, 
 
 use crate::check::Check;
 use crate::judging::Verdict;
-use crate::texts::append;
+use crate::texts::{append, put_plain};
 use mg_bytes::{Draft, OutOfMemory};
 
 /// How many checks have come to what.
@@ -79,11 +79,11 @@ const ROOM: &[u8] = b"              ";
 fn put_rule(out: &mut Draft, check: &Check<'_>)
     ensures { out.new ≡ out.old ++ rule_line check.now }
 {
-    out.put(check.name.as_bytes());
+    put_plain(out, check.name);
     out.put(b" (");
-    out.put(check.sections.as_bytes());
+    put_plain(out, check.sections);
     out.put(b"): ");
-    out.put(check.rule.as_bytes());
+    put_plain(out, check.rule);
     out.put(b"\n");
 }
 
@@ -102,7 +102,7 @@ fn put_line(out: &mut Draft, line: &str)
     ensures { out.new ≡ out.old ++ said_line line.now }
 {
     out.put(b"    ");
-    out.put(line.as_bytes());
+    put_plain(out, line);
     out.put(b"\n");
 }
 

@@ -4,4 +4,4 @@ use Rattle.gateway_checks.proofs.names.Names.value_kept.Given as goal
 
 abbrev pub invariant-loop-kept : goal.invariant-loop-kept
 invariant-loop-kept l =
-    value_kept l.name (map kept_as (drop l.kept-index l.self.kept.items)) ≡ value_kept l.name (map kept_as l.self.kept.items)
+    value_kept l.name (map kept_as (drop l.kept-index l.kept-items)) ≡ value_kept l.name (map kept_as l.self.kept.items)
