@@ -15,7 +15,7 @@ ghost use Rattle.exchange_log.specs.Pausing.{pause_line};
 ghost use Rattle.exchange_log.specs.Example.{stamp_at, noon, own};
 
 /// Each sentence at an example.
-pub fn each_sentence_has_an_example()
+pub fn times_of_day_have_examples()
     // A day has 24 hours of 60 minutes of 60 seconds of 1,000 milliseconds; what is below a millisecond isn't shown.
     ensures begins { time_of_day 0 ≡ codes "00:00:00.000" }
     ensures millisecond { time_of_day 1999 ≡ codes "00:00:00.001" }
@@ -27,6 +27,10 @@ pub fn each_sentence_has_an_example()
     ensures noon { time_of_day noon ≡ codes "12:03:07.123" }
     // 1,234,567,890 seconds after 1970 began it was 23:31:30 on 13 February 2009.
     ensures a_moment_has_a_time_of_day_later { time_of_day 1234567890450000 ≡ codes "23:31:30.450" }
+{}
+
+/// Each sentence at an example.
+pub fn dates_have_examples()
     // Months have their lengths, February 29 days in a leap year: each fourth is one, but of those that end a century only each fourth.
     ensures a_day_has_a_date_first { date_of 0 ≡ codes "1970-01-01" }
     ensures month { date_of 30 ≡ codes "1970-01-31" }
@@ -48,6 +52,10 @@ pub fn each_sentence_has_an_example()
     ensures a_moment_has_a_date_last { date_and_time 86399999999 ≡ codes "1970-01-01T23:59:59.999Z" }
     ensures next { date_and_time 86400000000 ≡ codes "1970-01-02T00:00:00.000Z" }
     ensures a_moment_has_a_date_later { date_and_time 1234567890450000 ≡ codes "2009-02-13T23:31:30.450Z" }
+{}
+
+/// Each sentence at an example.
+pub fn escaped_bytes_have_examples()
     // From the blank to the tilde each byte is shown as it is, but the backslash; any other by two hexadecimal digits.
     ensures plain { escaped (codes " L/hd(N), ~!") ≡ codes " L/hd(N), ~!" }
     ensures ends { escaped (13 ∷ 10 ∷ []) ≡ (92 ∷ codes "x0d") ++ (92 ∷ codes "x0a") }
@@ -60,7 +68,7 @@ pub fn each_sentence_has_an_example()
 {}
 
 /// Each sentence at an example.
-pub fn further_sentences_have_examples()
+pub fn values_have_examples()
     // A value of 64 bytes is shown whole, and of a longer one the first 64, whatever their escapes take.
     ensures whole { shown (codes "0123456789012345678901234567890123456789012345678901234567890123")
         ≡ codes "0123456789012345678901234567890123456789012345678901234567890123" }
@@ -69,12 +77,20 @@ pub fn further_sentences_have_examples()
     ensures escapes { shown (10 ∷ codes "123456789012345678901234567890123456789012345678901234567890123")
         ≡ 92 ∷ codes "x0a123456789012345678901234567890123456789012345678901234567890123" }
     ensures long_values_are_cut_empty { shown [] ≡ [] }
+{}
+
+/// Each sentence at an example.
+pub fn numbers_have_examples()
     // A number of more than three digits has commas.
     ensures numbers_have_commas_nothing { number_shown 0 ≡ codes "0" }
     ensures three { number_shown 999 ≡ codes "999" }
     ensures four { number_shown 1024 ≡ codes "1,024" }
     ensures six { grouped (codes "600000") ≡ codes "600,000" }
     ensures seven { grouped (codes "1048576") ≡ codes "1,048,576" }
+{}
+
+/// Each sentence at an example.
+pub fn headers_have_examples()
     // Of a header the first three words are shown, of a name of the gateway's own domain what stands before the first `@`.
     ensures a_header_is_shown_without_the_own_domain_command { header_of own
         (codes "NTFY 10000003 aaln/1@rgw.example.net MGCP 1.0\r\nX: A1\r\n")
@@ -84,6 +100,10 @@ pub fn further_sentences_have_examples()
     ensures short { header_of own (codes "200 1207\r\n") ≡ codes " 200 1207" }
     ensures word { header_of own (codes "hello@rgw.example.net") ≡ codes " hello@rgw.example.net" }
     ensures a_header_is_shown_without_the_own_domain_nothing { header_of own [] ≡ [] }
+{}
+
+/// Each sentence at an example.
+pub fn names_of_a_domain_have_examples()
     // The domain is left out where it is the gateway's own, whatever the case of its letters, and nowhere else.
     ensures own_case { header_of (codes "Rgw.b") (codes "AUEP 1 a@rGW.B") ≡ codes " AUEP 1 a" }
     ensures another_domain_is_shown_other { header_of own (codes "AUEP 118 aaln/1@other.example.net MGCP 1.0\r\n")
@@ -98,6 +118,10 @@ pub fn further_sentences_have_examples()
     ensures another_domain_is_shown_none { header_of [] (codes "AUEP 1 a@b") ≡ codes " AUEP 1 a@b" }
     ensures none_empty { header_of [] (codes "AUEP 1 a@") ≡ codes " AUEP 1 a@" }
     ensures none_local { header_of [] (codes "AUEP 1 a") ≡ codes " AUEP 1 a" }
+{}
+
+/// Each sentence at an example.
+pub fn messages_have_examples()
     // Behind it come the further lines that aren't empty, in their order.
     ensures a_message_is_shown_in_one_line_command { message_shown own
         (codes "RQNT 1207 aaln/1@rgw.example.net MGCP 1.0\r\nX: A1\r\nR: L/hd(N), L/hf\r\nS: L/rg\r\n")
@@ -111,7 +135,7 @@ pub fn further_sentences_have_examples()
 {}
 
 /// Each sentence at an example.
-pub fn more_sentences_have_examples()
+pub fn pauses_have_examples()
     // A pause is noted in seconds, rounded, with how many datagrams had come, where that was counted.
     ensures several { pause_line noon 30600 (Some 12) ≡ codes "1970-01-02T12:03:07.123Z ! paused for 31 s, 12 datagrams were waiting\n" }
     ensures one { pause_line noon 1499 (Some 1) ≡ codes "1970-01-02T12:03:07.123Z ! paused for 1 s, 1 datagram was waiting\n" }
@@ -119,6 +143,10 @@ pub fn more_sentences_have_examples()
         ≡ codes "1970-01-02T12:03:07.123Z ! paused for 1 s, 0 datagrams were waiting\n" }
     ensures half { pause_line noon 1500 (Some 2) ≡ codes "1970-01-02T12:03:07.123Z ! paused for 2 s, 2 datagrams were waiting\n" }
     ensures uncounted { pause_line noon 200000 None ≡ codes "1970-01-02T12:03:07.123Z ! paused for 200 s\n" }
+{}
+
+/// Each sentence at an example.
+pub fn notes_have_examples()
     // What is noted, of each kind.
     ensures again { note_text (notes.AnsweredAgain 1205) ≡ codes "repeat of 1205, answered again" }
     ensures unanswered { note_text (notes.Unanswered 1205) ≡ codes "repeat of 1205, confirmed, not answered" }
@@ -140,6 +168,10 @@ pub fn more_sentences_have_examples()
     // What is noted of the program itself, of each kind.
     ensures dropped { notice_text (Dropped 1234) ≡ codes "dropped 1234 lines, which nobody took" }
     ensures line { notice_line noon (Dropped 1) ≡ codes "1970-01-02T12:03:07.123Z ! dropped 1 lines, which nobody took\n" }
+{}
+
+/// Each sentence at an example.
+pub fn lines_have_examples()
     // Each line begins with the date, the time of day and the other end, and says by a sign what it is.
     ensures came { message_line own (stamp_at noon) Came (codes "RQNT 1207 aaln/1@rgw.example.net MGCP 1.0\r\nS: L/rg\r\n") None
         ≡ codes "1970-01-02T12:03:07.123Z 10.0.0.7:2727 > RQNT 1207 aaln/1 S: L/rg\n" }

@@ -61,6 +61,13 @@ fn put_around(out: &mut Draft, before: &[u8], number: u64, after: &[u8])
     out.put(after);
 }
 
+// That the command with this id came or went again, and what became of it.
+fn put_repeat(out: &mut Draft, id: TransactionId, fate: &[u8])
+    ensures { out.new ≡ out.old ++ (codes "repeat of " ++ decimal id ++ fate.now) }
+{
+    put_around(out, b"repeat of ", number_of(id), fate);
+}
+
 // What the standard says of a return code, behind a blank, where it is one of this gateway's.
 fn put_words(out: &mut Draft, code: u16)
     ensures { out.new ≡ out.old ++ words_from (code_with code) }
@@ -137,21 +144,9 @@ pub(crate) fn put_note_text(out: &mut Draft, note: Note)
     ensures { out.new ≡ out.old ++ note_text note }
 {
     match note {
-        Note::AnsweredAgain(id) => put_around(
-            out,
-            b"repeat of ",
-            number_of(id),
-            b", answered again",
-        ),
-        Note::Unanswered(id) => {
-            put_around(
-                out,
-                b"repeat of ",
-                number_of(id),
-                b", confirmed, not answered",
-            )
-        }
-        Note::SentAgain(id) => put_around(out, b"repeat of ", number_of(id), b", no answer yet"),
+        Note::AnsweredAgain(id) => put_repeat(out, id, b", answered again"),
+        Note::Unanswered(id) => put_repeat(out, id, b", confirmed, not answered"),
+        Note::SentAgain(id) => put_repeat(out, id, b", no answer yet"),
         Note::Refused { id, code } => put_refusal(out, id, code),
         Note::Unreadable => out.put(b"no message"),
         Note::TooLong { length } => {

@@ -3,15 +3,15 @@ use Rattle.exchange_log.proofs.note.put_note_text.Goals as goal
 
 pub returns-in-AnsweredAgain : goal.returns-in-AnsweredAgain
 unfolding note_text
-returns-in-AnsweredAgain c = rw (c.in-AnsweredAgain.is) (rw (c.number_of.ensures) at c.put_around.ensures)
+returns-in-AnsweredAgain c = rw (c.in-AnsweredAgain.is) c.put_repeat.ensures
 
 pub returns-in-Unanswered : goal.returns-in-Unanswered
 unfolding note_text
-returns-in-Unanswered c = rw (c.in-Unanswered.is) (rw (c.number_of-in-Unanswered.ensures) at c.put_around-in-Unanswered.ensures)
+returns-in-Unanswered c = rw (c.in-Unanswered.is) c.put_repeat-in-Unanswered.ensures
 
 pub returns-in-SentAgain : goal.returns-in-SentAgain
 unfolding note_text
-returns-in-SentAgain c = rw (c.in-SentAgain.is) (rw (c.number_of-in-SentAgain.ensures) at c.put_around-in-SentAgain.ensures)
+returns-in-SentAgain c = rw (c.in-SentAgain.is) c.put_repeat-in-SentAgain.ensures
 
 pub returns-in-Refused : goal.returns-in-Refused
 unfolding note_text
@@ -23,7 +23,7 @@ returns-in-Unreadable c = rw (c.in-Unreadable.is) c.put.ensures
 
 pub returns-in-TooLong : goal.returns-in-TooLong
 unfolding note_text
-returns-in-TooLong c = rw (c.in-TooLong.is) c.put_around-in-TooLong.ensures
+returns-in-TooLong c = rw (c.in-TooLong.is) c.put_around.ensures
 
 pub returns-in-Unsent : goal.returns-in-Unsent
 unfolding note_text
