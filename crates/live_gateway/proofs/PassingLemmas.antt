@@ -1,6 +1,6 @@
 -- What the network before the socket hands out, packet by packet.
 use Rattle.std.proofs.Common.{◌≡◌, ◌⊎◌, ℕ, ◌+◌, Bool, true, false, List, [], ◌∷◌, ◌++◌, length, take, Option, Some, None, refl, sym, ◌∙◌, ap, subst, arith}
-use Rattle.std.specs.Prelude.{⊤, Result}
+use Rattle.std.specs.Prelude.{⊤, is_some, Result}
 use Rattle.std.specs.Global.{Box}
 use Rattle.std.specs.declared.net.socket_addr.SocketAddrV4.{SocketAddrV4}
 use Rattle.bad_network.specs.declared.packet.Packet.{Packet}
@@ -12,7 +12,7 @@ use Rattle.live_gateway.specs.declared.exchange.Exchange.{Exchange}
 use Rattle.live_gateway.specs.declared.spoilt_way.SpoiltWay.{SpoiltWay}
 use Rattle.live_gateway.specs.Exchanging.{handed_by}
 use Rattle.live_gateway.specs.Noting.{NotesReceived, TurnsAway}
-use Rattle.live_gateway.specs.Passing.{SendsNext, TurnsNextAway, PassesEach, GoesWhereHeard, GivesWhereHeard, GoesOver}
+use Rattle.live_gateway.specs.Passing.{SendsNext, TurnsNextAway, PassesEach, GoesWhereHeard, GivesWhereHeard, GoesOver, LooksDirectly, LooksBy, Looks}
 
 -- one more of those that were handed out
 pub one_longer : (packets : List Packet) (packet : Packet) (count : ℕ) → length packets ≡ count → length (packets ++ packet ∷ []) ≡ count + 1
@@ -76,3 +76,11 @@ module _ {S : Type 0} where
       → handed_by is.network (traffic is.around).sent ≡ handed_by was.network (traffic was.around).sent
   handed_late traffic was mid is network behind =
       ap (λ (o : Option (Box SpoiltWay)). handed_by o (traffic is.around).sent) network ∙ behind (traffic is.around).sent
+
+  -- where no network is, a look is one at the socket
+  pub looks_here : (receives : S → Result (Option (SocketAddrV4 × ℕ)) Fault → List ℕ → S → Type 0)
+      (sends : S → SocketAddrV4 → List ℕ → Result ⊤ Fault → S → Type 0) (admission : Admission) (given : Option (SocketAddrV4 × ℕ)) (room : List ℕ)
+      (was is : Exchange S) → is_some was.network ≡ false → LooksDirectly receives admission given room was is
+      → Looks receives sends admission given room was is
+  looks_here receives sends admission given room was is none directly =
+      subst (λ (b : Bool). LooksBy receives sends b admission given room was is) (sym none) directly

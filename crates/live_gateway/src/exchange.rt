@@ -390,32 +390,6 @@ impl<S: Surroundings + Drop> Exchange<S> {
         }
     }
 
-    // A datagram of the socket, where no network is before it, if one has come that is heard.
-    fn receive_directly(
-        &mut self,
-        admission: &Admission,
-        room: &mut [u8],
-    ) -> Option<(SocketAddrV4, usize)>
-        requires { is_some self.old.network ≡ false }
-        ensures length { length room.new ≡ length room.old }
-        ensures within { IfSome result (λ p. p.1 ≤ length room.new) }
-        ensures admitted { IfSome result (λ p. is_heard admission.now p.0 ≡ true) }
-        ensures handed { handed_by self.new.network (S.traffic self.new.around).sent
-            ≡ handed_by self.old.network (S.traffic self.old.around).sent }
-        ensures refused { self.new.faults.refused ≡ self.old.faults.refused }
-        ensures counts { CountsReceived S.receives admission.now self.old result room.new self.new }
-        ensures turn { IsSameTurn self.old self.new }
-        ensures came { FoundSince S.traffic admission.now self.old result room.new self.new }
-        ensures tally { CountsFound self.old.journal.tally.value result self.new.journal.tally.value }
-        ensures looks { LooksDirectly S.receives admission.now result room.new self.old self.new }
-    {
-        let (source, len) = self.read_socket(room)?;
-        if self.come(admission, source, &room[..len], 0) {
-            return Some((source, len));
-        }
-        None
-    }
-
     // A datagram that the network before the socket hands over from who is heard, if one is due. What comes of the socket goes over that
     // network, but a stranger's: so nothing that one sends changes what becomes of what others send.
     fn receive_spoilt(
@@ -467,10 +441,13 @@ impl<S: Surroundings + Drop> Exchange<S> {
         ensures looks { Looks S.receives S.sends admission.now result room.new self.old self.new }
     {
         if self.network.is_some() {
-            self.receive_spoilt(admission, room)
-        } else {
-            self.receive_directly(admission, room)
+            return self.receive_spoilt(admission, room);
         }
+        let (source, len) = self.read_socket(room)?;
+        if self.come(admission, source, &room[..len], 0) {
+            return Some((source, len));
+        }
+        None
     }
 
     // Sends a datagram, over the network where there is one: what becomes of it.

@@ -4,30 +4,30 @@ use Rattle.live_gateway.specs.Exchanging.{handed_by, received_by}
 use Rattle.live_gateway.proofs.ArrivalLemmas.{found_none, found_between, arrival_found, arrival_strange, heard_looked, strange_looked}
 use Rattle.live_gateway.proofs.HearingLemmas.{heard_still, hears_nothing, hears_one, passes_over}
 use Rattle.live_gateway.proofs.CountingLemmas.{looked_before, heard_given, strange_kept}
-use Rattle.live_gateway.proofs.PassingLemmas.{heard_gives, strange_gives, handed_still}
-use Rattle.live_gateway.proofs.exchange.Exchange.receive_directly.Goals as goal
+use Rattle.live_gateway.proofs.PassingLemmas.{heard_gives, strange_gives, handed_still, looks_here}
+use Rattle.live_gateway.proofs.exchange.Exchange.receive.Goals as goal
 
 pub returns-in_err-source-clause-came : goal.returns-in_err-source-clause-came
 returns-in_err-source-clause-came g c =
     rw (c.from_residual.ensures)
-    (hears_nothing c.args.admission.now c.args.self.now.network c.read_socket.new.self.network _ _ c.requires (ap (λ e. e.network) c.read_socket.ensures.rest)
+    (hears_nothing c.args.admission.now c.args.self.now.network c.read_socket.new.self.network _ _ (sym c.is_some.ensures ∙ c.if-is_some.false) (ap (λ e. e.network) c.read_socket.ensures.rest)
     c.in_err-source.ensures.received)
 
 pub returns-then-come-clause-came : goal.returns-then-come-clause-came
 returns-then-come-clause-came g c =
     heard_still c.args.admission.now _ _ _ _
-    (hears_one c.args.admission.now c.args.self.now.network c.read_socket.new.self.network _ _ _ _ _ c.requires (ap (λ e. e.network) c.read_socket.ensures.rest)
+    (hears_one c.args.admission.now c.args.self.now.network c.read_socket.new.self.network _ _ _ _ _ (sym c.is_some.ensures ∙ c.if-is_some.false) (ap (λ e. e.network) c.read_socket.ensures.rest)
     c.in_ok-source.ensures.received (sym c.come.ensures.heard ∙ c.if-come.true))
     (ap (λ e. received_by e.network (g.S.Surroundings.traffic e.around).received) c.come.ensures.rest)
 
 pub returns-in_err-source-clause-counts : goal.returns-in_err-source-clause-counts
 returns-in_err-source-clause-counts g c =
-    inl (c.requires, (None, c.in_err-source.ensures.counts, c.from_residual.ensures, ap (λ e. e.journal.tally.value) c.read_socket.ensures.rest))
+    inl (sym c.is_some.ensures ∙ c.if-is_some.false, (None, c.in_err-source.ensures.counts, c.from_residual.ensures, ap (λ e. e.journal.tally.value) c.read_socket.ensures.rest))
 
 pub returns-then-come-clause-counts : goal.returns-then-come-clause-counts
 returns-then-come-clause-counts g c =
     inl (
-      c.requires,
+      sym c.is_some.ensures ∙ c.if-is_some.false,
       (
         Some (c.in_ok-source.source, c.in_ok-source.len),
         looked_before _ _ _ _ _ _ c.in_ok-source.ensures.counts (ap (λ e. e.around) c.come.ensures.rest)
@@ -46,14 +46,14 @@ returns-then-come-clause-turn g c =
 pub returns-clause-came : goal.returns-clause-came
 returns-clause-came g c =
     heard_still c.args.admission.now _ _ _ _
-    (passes_over c.args.admission.now c.args.self.now.network c.read_socket.new.self.network _ _ _ _ _ c.requires (ap (λ e. e.network) c.read_socket.ensures.rest)
+    (passes_over c.args.admission.now c.args.self.now.network c.read_socket.new.self.network _ _ _ _ _ (sym c.is_some.ensures ∙ c.if-is_some.false) (ap (λ e. e.network) c.read_socket.ensures.rest)
     c.in_ok-source.ensures.received (sym c.come.ensures.heard ∙ c.if-come.false))
     (ap (λ e. received_by e.network (g.S.Surroundings.traffic e.around).received) c.come.ensures.rest)
 
 pub returns-clause-counts : goal.returns-clause-counts
 returns-clause-counts g c =
     inl (
-      c.requires,
+      sym c.is_some.ensures ∙ c.if-is_some.false,
       (
         Some (c.in_ok-source.source, c.in_ok-source.len),
         looked_before _ _ _ _ _ _ c.in_ok-source.ensures.counts (ap (λ e. e.around) c.come.ensures.rest)
@@ -90,13 +90,16 @@ pub returns-in_err-source-clause-turn : goal.returns-in_err-source-clause-turn
 returns-in_err-source-clause-turn g c = (ap (λ e. e.now) c.read_socket.ensures.rest, ap (λ e. e.is_offering) c.read_socket.ensures.rest)
 
 pub returns-in_err-source-clause-looks : goal.returns-in_err-source-clause-looks
-returns-in_err-source-clause-looks g c = record {
-  after = c.read_socket.new.self;
-  found = None;
-  looked = c.in_err-source.ensures.counts;
-  only = c.read_socket.ensures.rest;
-  gives = (c.from_residual.ensures, refl);
-}
+returns-in_err-source-clause-looks g c =
+    looks_here g.S.Surroundings.receives g.S.Surroundings.sends c.args.admission.now c.from_residual.result c.read_socket.new.room c.args.self.now c.read_socket.new.self
+    (sym c.is_some.ensures ∙ c.if-is_some.false)
+    (record {
+      after = c.read_socket.new.self;
+      found = None;
+      looked = c.in_err-source.ensures.counts;
+      only = c.read_socket.ensures.rest;
+      gives = (c.from_residual.ensures, refl);
+    })
 
 pub returns-then-come-clause-handed : goal.returns-then-come-clause-handed
 returns-then-come-clause-handed g c =
@@ -109,14 +112,16 @@ returns-then-come-clause-refused g c = ap (λ e. e.faults.refused) c.come.ensure
 pub returns-then-come-clause-looks : goal.returns-then-come-clause-looks
 returns-then-come-clause-looks g c =
     let may = sym c.come.ensures.heard ∙ c.if-come.true in
-    record {
+    looks_here g.S.Surroundings.receives g.S.Surroundings.sends c.args.admission.now (Some (c.in_ok-source.source, c.in_ok-source.len)) c.read_socket.new.room c.args.self.now c.come.new.self
+    (sym c.is_some.ensures ∙ c.if-is_some.false)
+    (record {
       after = c.read_socket.new.self;
       found = Some (c.in_ok-source.source, c.in_ok-source.len);
       looked = c.in_ok-source.ensures.counts;
       only = c.read_socket.ensures.rest;
       gives = heard_gives (is_heard c.args.admission.now c.in_ok-source.source) (c.in_ok-source.source, c.in_ok-source.len) c.read_socket.new.room
           c.read_socket.new.self c.come.new.self may (c.come.ensures.received may) c.come.ensures.rest;
-    }
+    })
 
 pub returns-clause-handed : goal.returns-clause-handed
 returns-clause-handed g c =
@@ -129,11 +134,13 @@ returns-clause-refused g c = ap (λ e. e.faults.refused) c.come.ensures.rest ∙
 pub returns-clause-looks : goal.returns-clause-looks
 returns-clause-looks g c =
     let other = sym c.come.ensures.heard ∙ c.if-come.false in
-    record {
+    looks_here g.S.Surroundings.receives g.S.Surroundings.sends c.args.admission.now None c.read_socket.new.room c.args.self.now c.come.new.self
+    (sym c.is_some.ensures ∙ c.if-is_some.false)
+    (record {
       after = c.read_socket.new.self;
       found = Some (c.in_ok-source.source, c.in_ok-source.len);
       looked = c.in_ok-source.ensures.counts;
       only = c.read_socket.ensures.rest;
       gives = strange_gives (is_heard c.args.admission.now c.in_ok-source.source) (c.in_ok-source.source, c.in_ok-source.len) c.read_socket.new.room
           c.read_socket.new.self c.come.new.self other (c.come.ensures.noted.strange other) c.come.ensures.rest;
-    }
+    })
