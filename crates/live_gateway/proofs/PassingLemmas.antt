@@ -59,11 +59,6 @@ module _ {S : Type 0} where
       → ◌≡◌ {A = Exchange S} (record was { journal = journal }) (record was { journal = record was.journal { log = journal.log } })
   lost_noted was journal noted = ap (λ (x : Journal). record was { journal = x }) noted
 
-  -- what is around it was handed something, and then that was noted
-  pub left_so : (was is : Exchange S) (around : S) → is ≡ record was { around = around; journal = is.journal }
-      → is ≡ record was { around = is.around; journal = is.journal }
-  left_so was is around next = next ∙ ap (λ (one : Exchange S). record was { around = one.around; journal = is.journal }) (sym next)
-
   -- ---- what was handed to it, where only some of it changes
 
   pub handed_still : (traffic : S → Traffic) (was is : Exchange S) → is.network ≡ was.network → (traffic is.around).sent ≡ (traffic was.around).sent

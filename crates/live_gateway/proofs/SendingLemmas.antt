@@ -43,11 +43,6 @@ sent_directly sends was is to bytes became sent none still sends' so =
     subst (λ (o : Option (Box SpoiltWay)). SendsOver sends to bytes was.now.clock became o was.around is.network is.around) (sym none)
     (subst (λ (o : Option (Box SpoiltWay)). SendsOver sends to bytes was.now.clock became None was.around o is.around) (sym still) (sent, sends', so))
 
--- what goes out late went as the surroundings say, behind which nothing is asked of them
-pub late_so : {S : Type 0} (sends : S → SocketAddrV4 → List ℕ → Result ⊤ Fault → S → Type 0) (before mid after : S) (to : SocketAddrV4) (bytes : List ℕ)
-    (sent : Result ⊤ Fault) → after ≡ mid → sends before to bytes sent mid → sends before to bytes sent after
-late_so {S} sends before mid after to bytes sent same went = subst (λ (s : S). sends before to bytes sent s) (sym same) went
-
 -- ---- what comes
 
 pub lost_over : (source : SocketAddrV4) (bytes : List ℕ) (now : ℕ) (lost : Bool) (old new : Option (Box SpoiltWay)) (way next : Box SpoiltWay)

@@ -10,7 +10,7 @@ ghost use Rattle.live_gateway.specs.Exchanging.{handed_by, received_by, came_by,
 ghost use Rattle.live_gateway.specs.Visiting.{ServesOnce};
 ghost use Rattle.live_gateway.specs.Leaving.{OnlyTells};
 ghost use Rattle.live_gateway.specs.Noting.{NotesReceived, TurnsAway, NotesArrival, NotesLate, CountsFound};
-ghost use Rattle.live_gateway.specs.Passing.{HandsOut, GoesOver, LooksOver, LooksDirectly, Looks};
+ghost use Rattle.live_gateway.specs.Passing.{HandsOut, GoesOver, LooksOver, Looks};
 ghost use Rattle.live_play.specs.Readable.{first_unread};
 
 use crate::admission::Admission;
@@ -258,19 +258,7 @@ impl<S: Surroundings + Drop> Exchange<S> {
         true
     }
 
-    // That a datagram couldn't be sent which the network handed out the log alone tells: the turn that it is of is over.
-    fn note_late(&mut self, to: SocketAddrV4, sent: Result<(), Fault>)
-        ensures rest { self.new ≡ record self.old { journal = self.new.journal } }
-        ensures noted { NotesLate self.old.journal self.old.now.time to sent self.new.journal }
-        ensures tally { self.new.journal.tally ≡ self.old.journal.tally }
-    {
-        match sent {
-            Ok(()) => {}
-            Err(_) => self.journal.unsent(self.now, to),
-        }
-    }
-
-    // A datagram that the network hands out now is sent.
+    // A datagram that the network hands out now is sent. That it couldn't be the log alone tells: the turn that it is of is over.
     fn send_late(&mut self, to: SocketAddrV4, bytes: &[u8])
         ensures rest { self.new ≡ record self.old { around = self.new.around; journal = self.new.journal } }
         ensures received { (S.traffic self.new.around).received ≡ (S.traffic self.old.around).received }
@@ -278,8 +266,10 @@ impl<S: Surroundings + Drop> Exchange<S> {
             × NotesLate self.old.journal self.old.now.time to sent self.new.journal }
         ensures tally { self.new.journal.tally ≡ self.old.journal.tally }
     {
-        let sent = self.around.send(to, bytes);
-        self.note_late(to, sent);
+        match self.around.send(to, bytes) {
+            Ok(()) => {}
+            Err(_) => self.journal.unsent(self.now, to),
+        }
     }
 
     // A datagram that the network hands to the gateway now, if there is one, from who is heard. Those that go out now are sent.
