@@ -1,6 +1,6 @@
 -- What a gateway's sending leaves of an exchange.
 use Rattle.std.proofs.Common.{◌≡◌, ℕ, ◌+◌, Bool, true, false, List, [], ◌∷◌, Option, None, Some, refl, sym, ◌∙◌, ap, subst, arith}
-use Rattle.std.specs.Prelude.{⊤, not, is_ok, Result, Ok, Err, OnOk, OnErr}
+use Rattle.std.specs.Prelude.{⊤, is_ok, Result, Ok, Err, OnOk, OnErr}
 use Rattle.std.specs.declared.net.socket_addr.SocketAddrV4.{SocketAddrV4}
 use Rattle.gateway_core.specs.GatewayState.{GatewayState}
 use Rattle.gateway_core.specs.Wire.{counted}
@@ -114,20 +114,18 @@ same_now {S} sends (Err why) was from sent input event is t same = ap (λ (x : E
 
 -- ---- what is noted
 
--- an input was taken: nothing was counted, and then the log was told
-pub notes_taken : {S : Type 0} (is_taken : Bool) (admitted : Admitted) (sent : List SentMessage) (was mid is : Exchange S) → is_taken ≡ true
-    → mid ≡ record was { faults = with_refused (not is_taken) was.faults }
-    → SaysUnheard admitted mid.now.time sent mid.journal.log.value is.journal.log.value → OnlyNotes mid is → Notes is_taken admitted sent was is
-notes_taken {S} true admitted sent was mid is so counted says rest =
-    let same : mid ≡ was = counted in
-    subst (λ (x : Exchange S). SaysUnheard admitted x.now.time sent x.journal.log.value is.journal.log.value × OnlyNotes x is) same (says, rest)
-notes_taken false admitted sent was mid is so counted says rest = absurd cc
+-- an input was taken: the log was told
+pub notes_taken : {S : Type 0} (is_taken : Bool) (admitted : Admitted) (sent : List SentMessage) (was is : Exchange S) → is_taken ≡ true
+    → SaysUnheard admitted was.now.time sent was.journal.log.value is.journal.log.value → OnlyNotes was is → Notes is_taken admitted sent was is
+notes_taken true admitted sent was is so says rest = (says, rest)
+notes_taken false admitted sent was is so says rest = absurd cc
 
--- or refused: the log was told nothing
-pub notes_refused : {S : Type 0} (is_taken : Bool) (admitted : Admitted) (sent : List SentMessage) (was is : Exchange S) → is_taken ≡ false
-    → is ≡ record was { faults = with_refused (not is_taken) was.faults } → Notes is_taken admitted sent was is
-notes_refused true admitted sent was is so counted = absurd cc
-notes_refused false admitted sent was is so counted = counted
+-- or refused: that was counted
+pub notes_refused : {S : Type 0} (is_taken : Bool) (admitted : Admitted) (sent : List SentMessage) (was : Exchange S) (refused : ℕ) → is_taken ≡ false
+    → refused ≡ counted was.faults.refused 1
+    → Notes is_taken admitted sent was (record was { faults = record was.faults { refused = refused } })
+notes_refused true admitted sent was refused so one = absurd cc
+notes_refused false admitted sent was refused so one = ap (λ (n : ℕ). record was { faults = record was.faults { refused = n } }) one
 
 -- so it was with a datagram before that
 pub explains_taken : {S : Type 0} (is_taken : Bool) (outcomes : List TextOutcome) (source : SocketAddrV4) (bytes : List ℕ) (was is : Exchange S)

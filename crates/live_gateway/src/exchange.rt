@@ -6,7 +6,7 @@ ghost use Rattle.surroundings.specs.Hearing.{Hears};
 ghost use Rattle.surroundings.specs.Sending.{Sent, Grows, found_by};
 ghost use Rattle.live_gateway.specs.Admitting.{is_heard};
 ghost use Rattle.live_gateway.specs.Offering.{brought, TakesDue};
-ghost use Rattle.live_gateway.specs.Exchanging.{handed_by, received_by, came_by, next_due, moment_at, faultless, with_refused, with_read, faults_by, Waits, Becomes, HandsOver, LosesOver, IsSameTurn, LooksOnce, CountsReceived, FoundSince};
+ghost use Rattle.live_gateway.specs.Exchanging.{handed_by, received_by, came_by, next_due, moment_at, faultless, with_read, faults_by, Waits, Becomes, HandsOver, LosesOver, IsSameTurn, LooksOnce, CountsReceived, FoundSince};
 ghost use Rattle.live_gateway.specs.Visiting.{ServesOnce};
 ghost use Rattle.live_gateway.specs.Leaving.{OnlyTells};
 ghost use Rattle.live_gateway.specs.Noting.{NotesReceived, TurnsAway, NotesArrival, NotesLate, CountsFound};
@@ -122,15 +122,6 @@ impl<S: Surroundings + Drop> Exchange<S> {
             clock: ticked,
             time: self.around.time(),
         };
-    }
-
-    /// The gateway took an input, or refused it.
-    pub fn count_refused(&mut self, is_refused: bool)
-        ensures { self.new ≡ record self.old { faults = with_refused is_refused self.old.faults } }
-    {
-        if is_refused {
-            count(&mut self.faults.refused);
-        }
     }
 
     /// The moment at which the network hands something out, in ms, if it will.

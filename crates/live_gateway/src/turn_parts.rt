@@ -22,6 +22,7 @@ use crate::visitors::{Visitors, are_ready, next_deadline};
 use exchange_log::Note;
 use gateway_core::{Refusal, SentMessage, TextOutcome};
 use live_telephones::{Typist, act_answer, take_act, typist_of};
+use small_rules::count;
 use std::alloc::Global;
 use std::net::SocketAddrV4;
 use surroundings::{Lines, Speakers, Surroundings};
@@ -84,11 +85,12 @@ pub(crate) fn note_taken<S: Surroundings + Drop>(
 )
     ensures { Notes is_taken (admitted_by speakers.now) sent.now exchange.old exchange.new }
 {
-    exchange.count_refused(!is_taken);
     if is_taken {
         let now = exchange.now;
         let log = &mut exchange.journal.log;
         log.unheard(now, sent, speakers);
+    } else {
+        count(&mut exchange.faults.refused);
     }
 }
 
