@@ -18,7 +18,7 @@ use live_ends::{
 };
 use live_gateway::{Desk, agents_line, boxed, end_desk, open_desk};
 use live_journal::Trace;
-use live_page::{PageProgram, Reception, run_with_site};
+use live_page::{PageProgram, Reception};
 use mg_bytes::Draft;
 use rgw_scenes::{flaw_of, read_config, told, told_setup};
 use rgw_scripts::LIMIT;
@@ -356,51 +356,30 @@ fn run_with<R: AllocGlobal + Files + Net + Clock + RandomSource + Clone + Drop, 
     end(rt, &mut recording.outlets, text, status, is_asked)
 }
 
-/// Runs the program, whose page's visitors are received so, and gives its exit status.
-pub fn run<R: AllocGlobal + Env + Files + Net + Clock + RandomSource + Clone + Drop, P: Reception>(
-    rt: &R,
-) -> u8
-where
-    R::File: AsRawFd,
-{
-    let Ok(runtime) = rt.clone() else {
-        return CommonEnding::OutOfMemory.status();
-    };
-    let Some(begun) = begin(rt) else {
-        return CommonEnding::OutOfMemory.status();
-    };
-    let (words, outlets, _held) = begun.parts();
-    let mut recording = Recording {
-        rt: runtime,
-        outlets,
-        files: None,
-    };
-    run_with::<R, P>(rt, &words, &mut recording)
-}
-
 /// The program, over what its machine gives it.
-#[derive(Drop)]
-struct Program<'r, R> {
-    rt: &'r R,
+#[derive(Clone, Copy)]
+pub(crate) struct Program<'r, R> {
+    pub rt: &'r R,
 }
 
-impl<R: AllocGlobal + Env + Files + Net + Clock + RandomSource + Clone + Drop> PageProgram
-    for Program<'_, R>
+impl<R> PageProgram for Program<'_, R>
 where
+    R: AllocGlobal + Env + Files + Net + Clock + RandomSource + Clone + Drop,
     R::File: AsRawFd,
 {
     fn run<P: Reception>(&self) -> u8 {
-        run::<R, P>(self.rt)
+        let Ok(runtime) = self.rt.clone() else {
+            return CommonEnding::OutOfMemory.status();
+        };
+        let Some(begun) = begin(self.rt) else {
+            return CommonEnding::OutOfMemory.status();
+        };
+        let (words, outlets, _held) = begun.parts();
+        let mut recording = Recording {
+            rt: runtime,
+            outlets,
+            files: None,
+        };
+        run_with::<R, P>(self.rt, &words, &mut recording)
     }
-}
-
-/// Runs the program with a page at a socket of this machine, and gives its exit status.
-pub(crate) fn run_on_site<R: AllocGlobal + Env + Files + Net + Clock + RandomSource + Clone + Drop>(
-    rt: &R,
-) -> u8
-where
-    R::File: AsRawFd,
-{
-    let program = Program { rt };
-    run_with_site(&program)
 }
