@@ -14,7 +14,7 @@ use crate::words::read_words;
 use exchange_log::put_peer;
 use gateway_core::Gateway;
 use live_ends::{
-    CaptureFiles, CommonEnding, Live, LiveClock, Parting, begin, end, open_capture, read_file,
+    CaptureFiles, CommonEnding, Live, Parting, begin, end, open_capture, read_file,
 };
 use live_gateway::{Desk, agents_line, boxed, end_desk, open_desk};
 use live_journal::Trace;
@@ -90,18 +90,8 @@ fn begin_records<R: Files + Alloc + Clone + Drop>(
     Ok(())
 }
 
-// Waits as long as a start waits, before its clock begins: so what is recorded of the gateway doesn't tell it. Whether the clock began.
-fn wait_first<R: Clock>(rt: &R, clock: &mut LiveClock<'_, R>, begun: Begun) -> bool {
-    match begun.waits {
-        Some(waits) => {
-            sleep(rt, Duration::from_millis(waits));
-            clock.begin_anew().is_ok()
-        }
-        None => true,
-    }
-}
-
-// Serves at this desk until the end, and answers who asked for that once all is written.
+// Serves at this desk until the end, and answers who asked for that once all is written. As long as a start waits it waits first, before
+// its clock begins: so what is recorded of the gateway doesn't tell it.
 fn serve_desk<R: Files + Net + Clock + RandomSource, P: Reception>(
     rt: &R,
     begun: Begun,
@@ -109,8 +99,11 @@ fn serve_desk<R: Files + Net + Clock + RandomSource, P: Reception>(
     visitors: &mut Option<Box<PageReception<P>>>,
     recording: &mut Recording<R>,
 ) -> Ending {
-    if !wait_first(rt, &mut desk.exchange.around.clock, begun) {
-        return Ending::Common(CommonEnding::Clock);
+    if let Some(waits) = begun.waits {
+        sleep(rt, Duration::from_millis(waits));
+        if desk.exchange.around.clock.begin_anew().is_err() {
+            return Ending::Common(CommonEnding::Clock);
+        }
     }
     desk.run(visitors, recording);
     Ending::Common(end_desk(rt, desk, recording))
