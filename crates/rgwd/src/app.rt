@@ -145,7 +145,7 @@ fn checked<R: Files>(
 
 // A gateway of the configuration in this text, which has no flaw, at this start: without one memory alone is refused.
 fn gateway_of(alloc: Global, text: &[u8], start: &Start) -> Result<Box<Gateway>, AllocError> {
-    let Some(config) = read_config(alloc, text)? else {
+    let Ok(Some(config)) = read_config(alloc, text) else {
         return Err(AllocError);
     };
     match Gateway::starting_at(alloc, config, start.first.number()) {

@@ -19,7 +19,10 @@ pub const REPLAY: &str = "--replay";
 
 // The trace in this file.
 fn trace_in<R: Files>(rt: &R, alloc: Global, file: &str) -> io::Result<BufReader<R::File>> {
-    BufReader::new(alloc, File::open(rt, file)?)
+    match File::open(rt, file) {
+        Ok(file) => BufReader::new(alloc, file),
+        Err(fault) => Err(fault),
+    }
 }
 
 // What is found in it.
