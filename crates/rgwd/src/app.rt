@@ -13,9 +13,7 @@ use crate::telling::{TELL, tell_line};
 use crate::words::read_words;
 use exchange_log::put_peer;
 use gateway_core::Gateway;
-use live_ends::{
-    CaptureFiles, CommonEnding, Live, Parting, begin, end, open_capture, read_file,
-};
+use live_ends::{CaptureFiles, CommonEnding, Live, Parting, begin, end, open_capture, read_file};
 use live_gateway::{Desk, agents_line, boxed, end_desk, open_desk};
 use live_journal::Trace;
 use live_page::{PageProgram, Reception};
