@@ -234,27 +234,6 @@ fn serve_with<R: Files + Net + Clock + RandomSource + Alloc + Clone + Drop, P: R
     serve_desk(rt, begun, &mut desk, &mut visitors, recording)
 }
 
-// Serves with a gateway of the configuration in this text, which has no flaw; or says what it will be.
-fn serve_config<R: Files + Net + Clock + RandomSource + Alloc + Clone + Drop, P: Reception>(
-    rt: &R,
-    alloc: Global,
-    settings: &Settings<'_>,
-    text: &[u8],
-    recording: &mut Recording<R>,
-) -> Ending {
-    let Some(start) = Start::now(rt, settings) else {
-        return Ending::NoTimeOfDay;
-    };
-    let Ok(gateway) = gateway_of(alloc, text, &start) else {
-        return Ending::Common(CommonEnding::OutOfMemory);
-    };
-    if settings.check {
-        return checked(alloc, settings, &gateway, recording);
-    }
-    let begun = start.begun(gateway.setup().names.domain.as_bytes());
-    serve_with::<R, P>(rt, alloc, settings, begun, text, gateway, recording)
-}
-
 // What is said of the flaw that the configuration in this file with this text has, if it has one: a line that names the file.
 fn flaw_text(alloc: Global, file: &str, text: &[u8]) -> Result<Option<Vec<u8>>, AllocError>
     ensures flawed { IfOk result (λ said. is_some said ≡ is_some (flaw_of text.now)) }
@@ -272,7 +251,7 @@ fn flaw_text(alloc: Global, file: &str, text: &[u8]) -> Result<Option<Vec<u8>>, 
     Ok(Some(said.end()?))
 }
 
-// Serves with the configuration in this text, or says on standard error which flaw that has.
+// Serves with a gateway of the configuration in this text, or says what it will be; or says on standard error which flaw the text has.
 fn serve_text<R: Files + Net + Clock + RandomSource + Alloc + Clone + Drop, P: Reception>(
     rt: &R,
     alloc: Global,
@@ -283,11 +262,21 @@ fn serve_text<R: Files + Net + Clock + RandomSource + Alloc + Clone + Drop, P: R
     let Ok(flaw) = flaw_text(alloc, settings.config, text) else {
         return Ending::Common(CommonEnding::OutOfMemory);
     };
-    let Some(said) = flaw else {
-        return serve_config::<R, P>(rt, alloc, settings, text, recording);
+    if let Some(said) = flaw {
+        recording.say(said.as_slice());
+        return Ending::Common(CommonEnding::Told);
+    }
+    let Some(start) = Start::now(rt, settings) else {
+        return Ending::NoTimeOfDay;
     };
-    recording.say(said.as_slice());
-    Ending::Common(CommonEnding::Told)
+    let Ok(gateway) = gateway_of(alloc, text, &start) else {
+        return Ending::Common(CommonEnding::OutOfMemory);
+    };
+    if settings.check {
+        return checked(alloc, settings, &gateway, recording);
+    }
+    let begun = start.begun(gateway.setup().names.domain.as_bytes());
+    serve_with::<R, P>(rt, alloc, settings, begun, text, gateway, recording)
 }
 
 // Does what the settings ask: how the program ends then, and what it says, which names the files of the settings.
