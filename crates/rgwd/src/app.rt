@@ -322,20 +322,6 @@ fn said_by<R: AllocGlobal + Files + Net + Clock + RandomSource + Clone + Drop, P
     perform::<R, P>(rt, rt.alloc(), &settings, recording)
 }
 
-// Runs the program with these words, or without them, and gives its exit status.
-fn run_with<R: AllocGlobal + Files + Net + Clock + RandomSource + Clone + Drop, P: Reception>(
-    rt: &R,
-    words: &Result<Vec<String>, CommonEnding>,
-    recording: &mut Recording<R>,
-) -> u8 {
-    let Said { ending, text } = match words {
-        Ok(words) => said_by::<R, P>(rt, words.as_slice(), recording),
-        Err(ending) => Ending::Common(*ending).said_of_no_file(rt.alloc()),
-    };
-    let (status, is_asked) = (ending.status(), ending.is_asked());
-    end(rt, &mut recording.outlets, text, status, is_asked)
-}
-
 /// The program, over what its machine gives it.
 #[derive(Clone, Copy)]
 pub(crate) struct Program<'r, R> {
@@ -360,6 +346,11 @@ where
             outlets,
             files: None,
         };
-        run_with::<R, P>(self.rt, &words, &mut recording)
+        let Said { ending, text } = match &words {
+            Ok(words) => said_by::<R, P>(self.rt, words.as_slice(), &mut recording),
+            Err(ending) => Ending::Common(*ending).said_of_no_file(self.rt.alloc()),
+        };
+        let (status, is_asked) = (ending.status(), ending.is_asked());
+        end(self.rt, &mut recording.outlets, text, status, is_asked)
     }
 }
