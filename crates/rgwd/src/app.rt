@@ -262,7 +262,7 @@ fn serve_text<R: Files + Net + Clock + RandomSource + Alloc + Clone + Drop, P: R
     let Ok(flaw) = flaw_text(alloc, settings.config, text) else {
         return Ending::Common(CommonEnding::OutOfMemory);
     };
-    if let Some(said) = flaw {
+    if let Some(said) = &flaw {
         recording.say(said.as_slice());
         return Ending::Common(CommonEnding::Told);
     }
