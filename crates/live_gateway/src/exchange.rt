@@ -10,7 +10,7 @@ ghost use Rattle.live_gateway.specs.Exchanging.{handed_by, received_by, came_by,
 ghost use Rattle.live_gateway.specs.Visiting.{ServesOnce};
 ghost use Rattle.live_gateway.specs.Leaving.{OnlyTells};
 ghost use Rattle.live_gateway.specs.Noting.{NotesReceived, TurnsAway, NotesArrival, NotesLate, CountsFound};
-ghost use Rattle.live_gateway.specs.Passing.{HandsOut, GoesOver, LooksOver, Looks};
+ghost use Rattle.live_gateway.specs.Passing.{HandsOut, LooksOver, Looks};
 ghost use Rattle.live_play.specs.Readable.{first_unread};
 
 use crate::admission::Admission;
@@ -317,37 +317,6 @@ impl<S: Surroundings + Drop> Exchange<S> {
         }
     }
 
-    // A datagram of who is heard goes over the network, which may lose it, or hand over another one.
-    fn pass(
-        &mut self,
-        admission: &Admission,
-        source: SocketAddrV4,
-        len: usize,
-        room: &mut [u8],
-    ) -> Option<(SocketAddrV4, usize)>
-        requires within { len ≤ length room.old }
-        requires heard { is_heard admission.now source ≡ true }
-        ensures length { length room.new ≡ length room.old }
-        ensures within { IfSome result (λ p. p.1 ≤ length room.new) }
-        ensures admitted { IfSome result (λ p. is_heard admission.now p.0 ≡ true) }
-        ensures handed { handed_by self.new.network (S.traffic self.new.around).sent
-            ≡ handed_by self.old.network (S.traffic self.old.around).sent }
-        ensures faults { self.new.faults ≡ self.old.faults }
-        ensures read { self.new.read ≡ self.old.read }
-        ensures turn { IsSameTurn self.old self.new }
-        ensures spoilt { is_some self.new.network ≡ is_some self.old.network }
-        ensures came { FoundSince S.traffic admission.now self.old result room.new self.new }
-        ensures tally { CountsFound self.old.journal.tally.value result self.new.journal.tally.value }
-        ensures over { GoesOver S.sends admission.now source (take len room.old) result room.new self.old self.new }
-    {
-        if self.is_lost(source, &room[..len]) {
-            self.journal
-                .untaken(self.now, source, &room[..len], Note::Lost);
-            return None;
-        }
-        self.handed_over(admission, room)
-    }
-
     // A datagram of the socket, if one has come.
     fn read_socket(&mut self, room: &mut [u8]) -> Option<(SocketAddrV4, usize)>
         ensures length { length room.new ≡ length room.old }
@@ -372,7 +341,8 @@ impl<S: Surroundings + Drop> Exchange<S> {
     }
 
     // A datagram that the network before the socket hands over from who is heard, if one is due. What comes of the socket goes over that
-    // network, but a stranger's: so nothing that one sends changes what becomes of what others send.
+    // network, which may lose it, or hand over another one; but a stranger's doesn't: so nothing that one sends changes what becomes of what
+    // others send.
     fn receive_spoilt(
         &mut self,
         admission: &Admission,
@@ -399,7 +369,12 @@ impl<S: Surroundings + Drop> Exchange<S> {
             self.turn_away(source);
             return None;
         }
-        self.pass(admission, source, len, room)
+        if self.is_lost(source, &room[..len]) {
+            self.journal
+                .untaken(self.now, source, &room[..len], Note::Lost);
+            return None;
+        }
+        self.handed_over(admission, room)
     }
 
     /// A datagram for the gateway, put at the start of the room, if one has come from one of those who are heard: from where, and how
