@@ -104,13 +104,6 @@ impl Trace {
         self.room = room;
     }
 
-    // Whether it is told more.
-    fn takes_more(&self) -> bool
-        ensures { result ≡ is_telling self.now }
-    {
-        self.record.is_on() && !self.is_broken_off
-    }
-
     /// Whether it was broken off since this was asked last: its record ends with that.
     pub fn has_ended(&mut self) -> bool
         ensures ended { result ≡ has_ended self.old }
@@ -147,7 +140,7 @@ impl Teller for Trace {
     fn is_telling(&self) -> bool
         ensures { result ≡ is_telling self.now }
     {
-        self.takes_more()
+        self.record.is_on() && !self.is_broken_off
     }
 
     // It has its place; or the trace is broken off before it.
@@ -157,7 +150,7 @@ impl Teller for Trace {
         ensures no_room { is_telling self.old ≡ true → self.old.room < length text.now
             → self.new ≡ record self.old { is_broken_off = true } }
     {
-        if !self.takes_more() {
+        if !self.is_telling() {
             return;
         }
         if text.len() > self.room {
