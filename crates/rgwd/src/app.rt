@@ -82,7 +82,7 @@ fn begin_records<R: Files + Alloc + Clone + Drop>(
     }
     // For want of memory that line alone isn't said.
     if let Ok(line) = start_line(alloc, places, begun) {
-        recording.say(line.as_slice());
+        recording.outlets.error.say(line.as_slice());
     }
     recording.outlets.offer();
     Ok(())
@@ -137,7 +137,7 @@ fn checked<R: Files>(
     let Ok(text) = setup_text(alloc, settings, gateway) else {
         return Ending::Common(CommonEnding::OutOfMemory);
     };
-    recording.print(text.as_slice());
+    recording.outlets.output.say(text.as_slice());
     Ending::Checked
 }
 
@@ -263,7 +263,7 @@ fn serve_text<R: Files + Net + Clock + RandomSource + Alloc + Clone + Drop, P: R
         return Ending::Common(CommonEnding::OutOfMemory);
     };
     if let Some(said) = &flaw {
-        recording.say(said.as_slice());
+        recording.outlets.error.say(said.as_slice());
         return Ending::Common(CommonEnding::Told);
     }
     let Some(start) = Start::now(rt, settings) else {
@@ -323,7 +323,7 @@ fn said_by<R: AllocGlobal + Files + Net + Clock + RandomSource + Clone + Drop, P
 }
 
 /// The program, over what its machine gives it.
-#[derive(Clone, Copy)]
+#[derive(Drop)]
 pub(crate) struct Program<'r, R> {
     pub rt: &'r R,
 }

@@ -13,18 +13,6 @@ pub struct Recording<R: Files> {
     pub files: Option<Box<CaptureFiles>>,
 }
 
-impl<R: Files> Recording<R> {
-    /// Says lines on standard error.
-    pub(crate) fn say(&mut self, lines: &[u8]) {
-        self.outlets.error.say(lines);
-    }
-
-    /// Prints lines on standard output.
-    pub(crate) fn print(&mut self, lines: &[u8]) {
-        self.outlets.output.say(lines);
-    }
-}
-
 // What is captured goes on in the next file; where that can't be made the capture has failed.
 fn begin_next<R: Files>(
     rt: &R,

@@ -60,9 +60,9 @@ fn tell_verdict<R: Files>(
     put_verdict(alloc, &mut text, verdict)?;
     if matches!(verdict, Verdict::Broken { .. }) {
         let said = broken_text(alloc, file, text.as_slice())?;
-        recording.say(said.as_slice());
+        recording.outlets.error.say(said.as_slice());
     } else {
-        recording.print(text.as_slice());
+        recording.outlets.output.say(text.as_slice());
     }
     Ok(())
 }

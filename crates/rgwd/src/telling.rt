@@ -57,7 +57,7 @@ pub fn tell_line<R: AllocGlobal + Files + Net + Clock>(
     };
     match ask(rt, address, line.as_bytes(), &mut room) {
         Ok(()) => {
-            recording.print(room.as_slice());
+            recording.outlets.output.say(room.as_slice());
             Ending::Answered
         }
         Err(fault) => unanswered(address, fault),
