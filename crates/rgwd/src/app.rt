@@ -18,6 +18,7 @@ use live_gateway::{Desk, agents_line, boxed, end_desk, open_desk};
 use live_journal::Trace;
 use live_page::{PageProgram, Reception};
 use mg_bytes::Draft;
+use plain_machine::Setup;
 use rgw_scenes::{flaw_of, read_config, told, told_setup};
 use rgw_scripts::LIMIT;
 use rgwd_words::{Begun, Ending, Said, Settings, Start};
@@ -107,14 +108,14 @@ fn serve_desk<R: Files + Net + Clock + RandomSource, P: Reception>(
     Ending::Common(end_desk(rt, desk, recording))
 }
 
-// What this gateway will be, who may speak to it, and its sockets.
+// What a gateway that is set up so will be, who may speak to it, and its sockets.
 fn setup_text(
     alloc: Global,
     settings: &Settings<'_>,
-    gateway: &Gateway,
+    setup: &Setup,
 ) -> Result<Vec<u8>, AllocError> {
-    let lines = told_setup(alloc, gateway.setup())?;
-    let agents = agents_line(alloc, settings.sockets.agents, gateway.setup())?;
+    let lines = told_setup(alloc, setup)?;
+    let agents = agents_line(alloc, settings.sockets.agents, setup)?;
     let mut text = Draft::new(alloc);
     text.put(lines.as_slice());
     text.put(agents.as_slice());
@@ -125,20 +126,6 @@ fn setup_text(
     put_behind(&mut text, b" --http ", settings.sockets.http);
     text.put(b"\n");
     text.end()
-}
-
-// Says on standard output what this gateway will be.
-fn checked<R: Files>(
-    alloc: Global,
-    settings: &Settings<'_>,
-    gateway: &Gateway,
-    recording: &mut Recording<R>,
-) -> Ending {
-    let Ok(text) = setup_text(alloc, settings, gateway) else {
-        return Ending::Common(CommonEnding::OutOfMemory);
-    };
-    recording.outlets.output.say(text.as_slice());
-    Ending::Checked
 }
 
 // A gateway of the configuration in this text, which has no flaw, at this start: without one memory alone is refused.
@@ -214,7 +201,7 @@ fn serve_with<R: Files + Net + Clock + RandomSource + Alloc + Clone + Drop, P: R
         Err(ending) => return ending,
     };
     let own = live.own();
-    let admission = match admission_of(alloc, settings, &gateway, own) {
+    let admission = match admission_of(alloc, settings, gateway.setup(), own) {
         Ok(admission) => admission,
         Err(fault) => return fault.ending(),
     };
@@ -251,7 +238,8 @@ fn flaw_text(alloc: Global, file: &str, text: &[u8]) -> Result<Option<Vec<u8>>, 
     Ok(Some(said.end()?))
 }
 
-// Serves with a gateway of the configuration in this text, or says what it will be; or says on standard error which flaw the text has.
+// Serves with a gateway of the configuration in this text, or says on standard output what it will be; or on standard error which flaw the
+// text has.
 fn serve_text<R: Files + Net + Clock + RandomSource + Alloc + Clone + Drop, P: Reception>(
     rt: &R,
     alloc: Global,
@@ -273,7 +261,11 @@ fn serve_text<R: Files + Net + Clock + RandomSource + Alloc + Clone + Drop, P: R
         return Ending::Common(CommonEnding::OutOfMemory);
     };
     if settings.check {
-        return checked(alloc, settings, &gateway, recording);
+        let Ok(said) = setup_text(alloc, settings, gateway.setup()) else {
+            return Ending::Common(CommonEnding::OutOfMemory);
+        };
+        recording.outlets.output.say(said.as_slice());
+        return Ending::Checked;
     }
     let begun = start.begun(gateway.setup().names.domain.as_bytes());
     serve_with::<R, P>(rt, alloc, settings, begun, text, gateway, recording)

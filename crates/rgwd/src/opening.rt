@@ -8,11 +8,11 @@ ghost use Rattle.rgwd_words.specs.Opening.{names_asked, RefusesNames, RefusesSpe
 ghost use Rattle.rgwd_words.specs.Statuses.{fails};
 
 use crate::reception::PageReception;
-use gateway_core::Gateway;
 use live_ends::{AddressWord, CommonEnding, Live, Readiness, SocketWanted};
 use live_gateway::{Admission, DeskSettings, boxed, speakers_of};
 use live_page::Reception;
 use page_access::HostNames;
+use plain_machine::Setup;
 use rgwd_words::{Ending, ListFault, Settings, hosts_in, speakers_in};
 use std::alloc::Global;
 use std::net::{Ipv4Addr, Net, SocketAddrV4};
@@ -75,24 +75,24 @@ pub fn open_site<R: Net, P: Reception>(
     }
 }
 
-/// Whom this gateway hears, whose sockets are at these addresses, and who may type.
+/// Whom a gateway hears that is set up so, whose sockets are at these addresses, and who may type.
 pub fn admission_of(
     alloc: Global,
     settings: &Settings<'_>,
-    gateway: &Gateway,
+    setup: &Setup,
     own: [SocketAddrV4; 2],
 ) -> Result<Admission, ListFault>
     ensures own { IfOk result (λ admission. admission.own ≡ own) }
     ensures open { IfOk result (λ admission. admission.are_phones_open ≡ settings.now.sockets.phones_open) }
     ensures known { IfNone settings.now.sockets.agents
-        (IfOk result (λ admission. admitted_by admission.speakers ≡ known_to gateway.now.setup)) }
+        (IfOk result (λ admission. admitted_by admission.speakers ≡ known_to setup.now)) }
     ensures said { IfSome settings.now.sockets.agents (λ agents.
         IfOk result (λ admission. admitted_in agents.now ≡ Some (admitted_by admission.speakers))) }
     ensures refused { IfErr result (λ fault. RefusesSpeakers settings.now.sockets.agents fault) }
 {
     let speakers = match settings.sockets.agents {
         Some(text) => speakers_in(alloc, text)?,
-        None => speakers_of(alloc, gateway.setup())?,
+        None => speakers_of(alloc, setup)?,
     };
     Ok(Admission {
         speakers,
