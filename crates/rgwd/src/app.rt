@@ -16,7 +16,7 @@ use gateway_core::Gateway;
 use live_ends::{CaptureFiles, CommonEnding, Live, Parting, begin, end, open_capture, read_file};
 use live_gateway::{Desk, agents_line, boxed, end_desk, open_desk};
 use live_journal::Trace;
-use live_page::{PageProgram, Reception};
+use live_page::{PageProgram, Reception, run_with_site};
 use mg_bytes::Draft;
 use plain_machine::Setup;
 use rgw_scenes::{flaw_of, read_config, told, told_setup};
@@ -316,8 +316,8 @@ fn said_by<R: AllocGlobal + Files + Net + Clock + RandomSource + Clone + Drop, P
 
 /// The program, over what its machine gives it.
 #[derive(Drop)]
-pub(crate) struct Program<'r, R> {
-    pub rt: &'r R,
+struct Program<'r, R> {
+    rt: &'r R,
 }
 
 impl<R> PageProgram for Program<'_, R>
@@ -345,4 +345,15 @@ where
         let (status, is_asked) = (ending.status(), ending.is_asked());
         end(self.rt, &mut recording.outlets, text, status, is_asked)
     }
+}
+
+/// Runs the program with a page at a socket of this machine, and gives its exit status.
+pub(crate) fn run_on_site<R: AllocGlobal + Env + Files + Net + Clock + RandomSource + Clone + Drop>(
+    rt: &R,
+) -> u8
+where
+    R::File: AsRawFd,
+{
+    let program = Program { rt };
+    run_with_site(&program)
 }

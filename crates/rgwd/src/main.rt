@@ -10,10 +10,9 @@ mod replaying;
 mod telling;
 mod words;
 
-use crate::app::Program;
-use live_page::run_with_site;
+use crate::app::run_on_site;
 use std::process::ExitCode;
 
 fn main(rt: HostRuntime) -> ExitCode {
-    ExitCode::from(run_with_site(&Program { rt: &rt }))
+    ExitCode::from(run_on_site(&rt))
 }
