@@ -1,5 +1,4 @@
 //! A line is sent to somebody's socket, and the answer is waited for.
-use std::io;
 use std::io::ErrorKind;
 use std::net::{Ipv4Addr, Net, SocketAddrV4, UdpSocket};
 use std::rt::Clock;
@@ -20,11 +19,20 @@ pub enum AskFault {
 }
 
 // A socket that is connected with this address, by which a line was sent there: from there alone it takes datagrams, and it is told
-// where nobody is there.
-fn sent<R: Net>(rt: &R, address: SocketAddrV4, line: &[u8]) -> io::Result<UdpSocket> {
-    let socket = UdpSocket::bind(rt, SocketAddrV4::new(Ipv4Addr::UNSPECIFIED, 0))?;
-    socket.connect(address)?;
-    let _ = socket.send(line)?;
+// where nobody is there. An error is of the system's kind.
+fn sent<R: Net>(rt: &R, address: SocketAddrV4, line: &[u8]) -> Result<UdpSocket, ErrorKind> {
+    let socket = match UdpSocket::bind(rt, SocketAddrV4::new(Ipv4Addr::UNSPECIFIED, 0)) {
+        Ok(socket) => socket,
+        Err(fault) => return Err(fault.kind()),
+    };
+    match socket.connect(address) {
+        Ok(()) => {}
+        Err(fault) => return Err(fault.kind()),
+    }
+    match socket.send(line) {
+        Ok(_) => {}
+        Err(fault) => return Err(fault.kind()),
+    }
     Ok(socket)
 }
 
@@ -36,10 +44,15 @@ fn unsent(kind: ErrorKind) -> AskFault {
     AskFault::Refused { kind }
 }
 
-// How long an answer is still waited for, in ms.
-fn time_left<R: Clock>(rt: &R, start: Instant) -> io::Result<u64> {
-    let passed = start.elapsed(rt)?.as_millis();
-    Ok(LONGEST_WAIT.saturating_sub(u64::try_from(passed).unwrap_or(u64::MAX)))
+// How long an answer is still waited for, in ms; nothing where the clock can't be read.
+fn time_left<R: Clock>(rt: &R, start: Instant) -> Option<u64> {
+    match start.elapsed(rt) {
+        Ok(passed) => {
+            let passed = u64::try_from(passed.as_millis()).unwrap_or(u64::MAX);
+            Some(LONGEST_WAIT.saturating_sub(passed))
+        }
+        Err(_) => None,
+    }
 }
 
 // What came of waiting.
@@ -52,10 +65,16 @@ enum Heard {
     Nothing,
 }
 
-// Waits so long, in ms, for a datagram of the peer's.
-fn take_from_peer(socket: &UdpSocket, left: u64, room: &mut [u8]) -> io::Result<Heard> {
-    let peer = socket.peer_addr()?;
-    socket.set_read_timeout(Some(Duration::from_millis(left)))?;
+// Waits so long, in ms, for a datagram of the peer's. An error is of the system's kind.
+fn take_from_peer(socket: &UdpSocket, left: u64, room: &mut [u8]) -> Result<Heard, ErrorKind> {
+    let peer = match socket.peer_addr() {
+        Ok(peer) => peer,
+        Err(fault) => return Err(fault.kind()),
+    };
+    match socket.set_read_timeout(Some(Duration::from_millis(left))) {
+        Ok(()) => {}
+        Err(fault) => return Err(fault.kind()),
+    }
     match socket.recv_from(room) {
         Ok((length, source)) if source == peer => Ok(Heard::Answer { length }),
         // It came before the socket was connected.
@@ -73,9 +92,9 @@ fn hear<R: Clock>(rt: &R, socket: &UdpSocket, room: &mut Vec<u8>) -> Result<(), 
     };
     for _ in 0..u16::MAX {
         let left = match time_left(rt, start) {
-            Ok(0) => break,
-            Ok(left) => left,
-            Err(_) => return Err(AskFault::Clock),
+            Some(0) => break,
+            Some(left) => left,
+            None => return Err(AskFault::Clock),
         };
         match take_from_peer(socket, left, room.as_mut_slice()) {
             Ok(Heard::Answer { length }) => {
@@ -84,7 +103,7 @@ fn hear<R: Clock>(rt: &R, socket: &UdpSocket, room: &mut Vec<u8>) -> Result<(), 
             }
             Ok(Heard::Other) => {}
             Ok(Heard::Nothing) => break,
-            Err(fault) => return Err(unsent(fault.kind())),
+            Err(kind) => return Err(unsent(kind)),
         }
     }
     Err(AskFault::NoAnswer)
@@ -99,6 +118,6 @@ pub fn ask<R: Net + Clock>(
 ) -> Result<(), AskFault> {
     match sent(rt, address, line) {
         Ok(socket) => hear(rt, &socket, room),
-        Err(fault) => Err(unsent(fault.kind())),
+        Err(kind) => Err(unsent(kind)),
     }
 }

@@ -51,7 +51,9 @@ impl<'a, R: Clock> LiveClock<'a, R> {
 
     /// How long it is since the start, in ms.
     pub fn passed(&self) -> io::Result<u64> {
-        let passed = self.start.elapsed(self.rt)?.as_millis();
-        Ok(u64::try_from(passed).unwrap_or(u64::MAX))
+        match self.start.elapsed(self.rt) {
+            Ok(passed) => Ok(u64::try_from(passed.as_millis()).unwrap_or(u64::MAX)),
+            Err(fault) => Err(fault),
+        }
     }
 }

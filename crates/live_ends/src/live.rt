@@ -91,7 +91,7 @@ impl<'a, R: Net + Clock> Live<'a, R> {
         let own = [address_of(&socket), address_of(&commands)];
         let ready = match Readiness::watch(rt, alloc, &mut socket, &mut commands) {
             Ok(ready) => ready,
-            Err(fault) => return Err(fault.kind()),
+            Err(kind) => return Err(kind),
         };
         let Ok(ready) = boxed(alloc, ready) else {
             return Err(ErrorKind::OutOfMemory);

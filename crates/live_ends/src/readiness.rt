@@ -75,21 +75,35 @@ fn is_any_visit(visits: &[Visit]) -> bool
 }
 
 impl Readiness {
-    /// Watches these sockets, of which the second one is for commands: to each something may have come already.
+    /// Watches these sockets, of which the second one is for commands: to each something may have come already. An error is of the system's
+    /// kind.
     pub fn watch<R: Net>(
         rt: &R,
         alloc: Global,
         socket: &mut UdpSocket,
         commands: &mut UdpSocket,
-    ) -> io::Result<Readiness> {
+    ) -> Result<Readiness, ErrorKind> {
         let Ok(events) = Events::with_capacity(alloc, SOCKETS) else {
-            return Err(io::Error::from(ErrorKind::OutOfMemory));
+            return Err(ErrorKind::OutOfMemory);
         };
-        let poll = Poll::new(rt)?;
-        poll.registry()
-            .register(socket, Token(SOCKET), Interest::READABLE)?;
-        poll.registry()
-            .register(commands, Token(COMMANDS), Interest::READABLE)?;
+        let poll = match Poll::new(rt) {
+            Ok(poll) => poll,
+            Err(fault) => return Err(fault.kind()),
+        };
+        match poll
+            .registry()
+            .register(socket, Token(SOCKET), Interest::READABLE)
+        {
+            Ok(()) => {}
+            Err(fault) => return Err(fault.kind()),
+        }
+        match poll
+            .registry()
+            .register(commands, Token(COMMANDS), Interest::READABLE)
+        {
+            Ok(()) => {}
+            Err(fault) => return Err(fault.kind()),
+        }
         Ok(Readiness {
             poll,
             events,
@@ -131,8 +145,13 @@ impl Readiness {
 
     /// Waits until something comes, but no longer than this, in ms.
     pub fn wait(&mut self, longest: u64) -> io::Result<()> {
-        self.poll
-            .poll(&mut self.events, Some(Duration::from_millis(longest)))?;
+        match self
+            .poll
+            .poll(&mut self.events, Some(Duration::from_millis(longest)))
+        {
+            Ok(()) => {}
+            Err(fault) => return Err(fault),
+        }
         for event in self.events.iter() {
             match usize::from(event.token()) {
                 SOCKET => self.socket = true,
