@@ -56,13 +56,6 @@ fn is_old(files: u64, number: u64, next: u64) -> bool
     number.saturating_add(files) <= next
 }
 
-// Whether a file is full that has so many bytes.
-fn is_full(size: u64, written: u64, more: u64) -> bool
-    ensures { result ≡ is_full size written more }
-{
-    written > 0 && written.saturating_add(more) > size
-}
-
 // The number that an entry of a folder has behind this name, if it has one. A name that is no text is no capture's.
 fn number_in<R: Files + Alloc + Clone + Drop>(
     name: &str,
@@ -162,7 +155,7 @@ impl CaptureFiles {
     pub fn is_full(&self, more: usize) -> bool
         ensures { result ≡ is_full self.now.parting.size self.now.written more }
     {
-        is_full(self.parting.size, self.written, more as u64)
+        self.written > 0 && self.written.saturating_add(more as u64) > self.parting.size
     }
 
     /// So many bytes are put into the file that is written.
