@@ -73,11 +73,14 @@ fn address_of(socket: &UdpSocket) -> SocketAddrV4 {
 
 // The socket gave nothing for this reason: whether it failed. One that is empty isn't looked at again before it is told.
 fn has_failed(is_told: &mut bool, kind: ErrorKind) -> bool {
-    if kind == ErrorKind::WouldBlock {
-        *is_told = false;
-        return false;
+    match kind {
+        ErrorKind::WouldBlock => {
+            *is_told = false;
+            false
+        }
+        ErrorKind::Interrupted => false,
+        _ => true,
     }
-    kind != ErrorKind::Interrupted
 }
 
 impl<'a, R: Net + Clock> Live<'a, R> {

@@ -34,11 +34,13 @@ pub struct CaptureFiles {
 
 // The folder of a file, and its name there.
 fn sides_of(file: &str) -> (&str, &str) {
-    match file.rsplit_once('/') {
-        Some(("", name)) => ("/", name),
-        Some((folder, name)) => (folder, name),
-        None => (".", file),
+    let Some((folder, name)) = file.rsplit_once('/') else {
+        return (".", file);
+    };
+    if folder.is_empty() {
+        return ("/", name);
     }
+    (folder, name)
 }
 
 // The number that a file's name has behind this one, if it has one.
