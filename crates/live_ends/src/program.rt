@@ -15,28 +15,14 @@ use std::rt::{Clock, Env, Files};
 /// What is said where memory is refused.
 pub const OUT_OF_MEMORY: &[u8] = b"out of memory\n";
 
-/// The program's words, of which the first is its name. An error is of the system's kind.
-pub fn words_of<R: AllocGlobal + Env>(rt: &R) -> Result<Vec<String>, ErrorKind> {
+// The program's words, of which the first is its name, or how it ends without them.
+fn words_of<R: AllocGlobal + Env>(rt: &R) -> Result<Vec<String>, CommonEnding> {
     match env::args(rt) {
         Ok(args) => match args.collect::<Vec<String>>(rt.alloc()) {
             Ok(words) => Ok(words),
-            Err(_) => Err(ErrorKind::OutOfMemory),
+            Err(_) => Err(CommonEnding::OutOfMemory),
         },
-        Err(fault) => Err(fault.kind()),
-    }
-}
-
-/// Standard output and standard error; `None` where memory is refused for them, and then that is said.
-pub fn open_outlets<R: AllocGlobal + Files>(rt: &R) -> Option<Outlets<R::File>>
-where
-    R::File: AsRawFd,
-{
-    match Outlets::open(rt, rt.alloc()) {
-        Ok(outlets) => Some(outlets),
-        Err(_) => {
-            let _ = Stream::error(rt).take(OUT_OF_MEMORY);
-            None
-        }
+        Err(fault) => Err(CommonEnding::wordless(fault.kind())),
     }
 }
 
@@ -84,13 +70,12 @@ where
     R::File: AsRawFd,
 {
     let held = hold_standard(rt, rt.alloc());
-    let outlets = open_outlets(rt)?;
-    let words = match words_of(rt) {
-        Ok(words) => Ok(words),
-        Err(kind) => Err(CommonEnding::wordless(kind)),
+    let Ok(outlets) = Outlets::open(rt, rt.alloc()) else {
+        let _ = Stream::error(rt).take(OUT_OF_MEMORY);
+        return None;
     };
     Some(Begun {
-        words,
+        words: words_of(rt),
         outlets,
         held,
     })
