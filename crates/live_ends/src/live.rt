@@ -96,9 +96,6 @@ impl<'a, R: Net + Clock> Live<'a, R> {
             Ok(ready) => ready,
             Err(kind) => return Err(kind),
         };
-        let Ok(ready) = boxed(alloc, ready) else {
-            return Err(ErrorKind::OutOfMemory);
-        };
         let clock = match LiveClock::start(rt) {
             Ok(clock) => clock,
             Err(fault) => return Err(fault.kind()),

@@ -3,6 +3,7 @@ ghost use Rattle.std.specs.Prelude.{◌≡◌, replicate};
 ghost use Rattle.std.specs.List.{list_any};
 ghost use Rattle.live_ends.specs.Looking.{no_visit, is_visit, has_visits};
 
+use live_outlets::boxed;
 use mio::event::Event;
 use mio::net::{TcpListener, TcpStream, UdpSocket};
 use mio::{Events, Interest, Poll, Token};
@@ -82,7 +83,7 @@ impl Readiness {
         alloc: Global,
         socket: &mut UdpSocket,
         commands: &mut UdpSocket,
-    ) -> Result<Readiness, ErrorKind> {
+    ) -> Result<Box<Readiness>, ErrorKind> {
         let Ok(events) = Events::with_capacity(alloc, SOCKETS) else {
             return Err(ErrorKind::OutOfMemory);
         };
@@ -104,14 +105,18 @@ impl Readiness {
             Ok(()) => {}
             Err(fault) => return Err(fault.kind()),
         }
-        Ok(Readiness {
+        let ready = Readiness {
             poll,
             events,
             socket: true,
             commands: true,
             listener: false,
             visits: [NO_VISIT; MOST_VISITORS],
-        })
+        };
+        match boxed(alloc, ready) {
+            Ok(ready) => Ok(ready),
+            Err(_) => Err(ErrorKind::OutOfMemory),
+        }
     }
 
     /// Watches the site's socket too.
