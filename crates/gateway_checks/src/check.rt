@@ -1,5 +1,7 @@
 //! A check, as its text says it.
 ghost use Rattle.std.specs.Prelude.{◌≡◌, ◌<◌, ◌∷◌, [], length, map, option_map, MatchOption};
+ghost use Rattle.gateway_checks.specs.declared.checks.TheConstants.{CHECKS};
+ghost use Rattle.gateway_checks.specs.declared.notices.TheConstants.{NOTICES, TELEPHONES};
 ghost use Rattle.gateway_checks.specs.Parting.{holds, parted};
 ghost use Rattle.gateway_checks.specs.Checks.{written, undo_meant, check_by, check_in, checks_in, check_texts, named_among, check_named};
 ghost use Rattle.gateway_checks.specs.Checks.{is_open, is_slow, needs_other_line, hears, announces, needs_telephone, needs_restart};
@@ -86,13 +88,33 @@ pub fn first_check(text: &str) -> Option<(Check<'_>, &str)>
     }
 }
 
-/// All checks as texts, each with a block for each of its checks, behind a first one that is none. They stand in this function alone, since
-/// a check of this crate pays at each step of a function for all constants that it has.
-#[tactic(auto, unfolding(crate::specs::Checks::check_texts))]
+// The checks of what is asked of a gateway. Each text stands in a function of its own, since a check of this crate pays at each step of a
+// function for all constants that it has.
+fn asked() -> &'static str
+    ensures { result.now ≡ CHECKS.now }
+{
+    CHECKS
+}
+
+// Those of what it notifies without anyone at the telephones.
+fn notified() -> &'static str
+    ensures { result.now ≡ NOTICES.now }
+{
+    NOTICES
+}
+
+// Those of what it notifies by someone at the line's telephone, and of a restart.
+fn acted() -> &'static str
+    ensures { result.now ≡ TELEPHONES.now }
+{
+    TELEPHONES
+}
+
+/// All checks as texts, each with a block for each of its checks, behind a first one that is none.
 pub fn all_checks() -> [&'static str; 3]
     ensures { map (λ text. text.now) result ≡ check_texts }
 {
-    [CHECKS, NOTICES, TELEPHONES]
+    [asked(), notified(), acted()]
 }
 
 // The first check with this name among those of a text.

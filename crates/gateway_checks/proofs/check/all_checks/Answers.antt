@@ -4,4 +4,4 @@ use Rattle.gateway_checks.proofs.check.all_checks.Goals as goal
 
 pub returns : goal.returns
 unfolding check_texts
-returns c = refl
+returns c = rw (c.asked.ensures, c.notified.ensures, c.acted.ensures) refl
