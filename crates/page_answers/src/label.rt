@@ -47,7 +47,7 @@ fn labels_value(alloc: Global, labels: &[MessageLabel]) -> Result<Value, AllocEr
 {
     let mut list = Vec::new(alloc);
     for label in labels {
-        put_item(&mut list, label_value(alloc, *label)?)?;
+        put_item(&mut list, label_value(alloc, *label))?;
     }
     Ok(Value::from(list))
 }

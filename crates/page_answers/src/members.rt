@@ -135,11 +135,15 @@ impl Object {
     }
 }
 
-/// Puts a value behind the others of a list.
-pub(crate) fn put_item(list: &mut Vec<Value>, value: Value) -> Result<(), AllocError>
-    ensures { OnOk result (map view list.new.items ≡ map view list.old.items ++ view value ∷ []) }
+/// Puts a value that was made behind the others of a list, unless memory was refused for it.
+pub(crate) fn put_item(
+    list: &mut Vec<Value>,
+    made: Result<Value, AllocError>,
+) -> Result<(), AllocError>
+    ensures { (what : Data) → IfOk made (λ value. view value ≡ what)
+        → OnOk result (map view list.new.items ≡ map view list.old.items ++ what ∷ []) }
 {
-    list.push(value)?;
+    list.push(made?)?;
     Ok(())
 }
 

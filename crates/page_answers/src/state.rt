@@ -42,7 +42,7 @@ fn signals_value(alloc: Global, signals: &[SignalView]) -> Result<Value, AllocEr
 {
     let mut list = Vec::new(alloc);
     for signal in signals {
-        put_item(&mut list, signal_value(alloc, *signal)?)?;
+        put_item(&mut list, signal_value(alloc, *signal))?;
     }
     Ok(Value::from(list))
 }
@@ -52,7 +52,7 @@ fn connections_value(alloc: Global, connections: &[ConnectionView]) -> Result<Va
 {
     let mut list = Vec::new(alloc);
     for connection in connections {
-        put_item(&mut list, connection_value(alloc, connection)?)?;
+        put_item(&mut list, connection_value(alloc, connection))?;
     }
     Ok(Value::from(list))
 }
@@ -80,7 +80,7 @@ fn lines_value(alloc: Global, lines: &[LineView]) -> Result<Value, AllocError>
 {
     let mut list = Vec::new(alloc);
     for line in lines {
-        put_item(&mut list, line_value(alloc, line)?)?;
+        put_item(&mut list, line_value(alloc, line))?;
     }
     Ok(Value::from(list))
 }

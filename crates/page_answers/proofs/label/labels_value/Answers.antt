@@ -1,8 +1,9 @@
+use Rattle.std.proofs.Common.{refl}
 use Rattle.page_answers.specs.Labelling.{label_data}
 use Rattle.page_answers.proofs.ValuesLemmas.{put_value}
 use Rattle.page_answers.proofs.label.labels_value.Goals as goal
 
 pub loop-label-preserved : goal.loop-label-preserved
 loop-label-preserved c =
-    put_value label_data c.args.labels.now c.loop-label.label-index _ _ _ _ _ c.loop-label-test.true c.in_ok-label_value.ensures
-    c.in_ok-put_item.ensures c.loop-label.invariant
+    put_value label_data c.args.labels.now c.loop-label.label-index _ _ _ _ _ c.loop-label-test.true refl
+    (c.in_ok-put_item.ensures _ c.label_value.ensures) c.loop-label.invariant

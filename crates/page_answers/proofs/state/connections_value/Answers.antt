@@ -1,4 +1,4 @@
-use Rattle.std.proofs.Common.{◌∙◌, ap}
+use Rattle.std.proofs.Common.{ap}
 use Rattle.page_answers.specs.Texts.{connection_data}
 use Rattle.page_answers.proofs.ValuesLemmas.{put_value}
 use Rattle.page_answers.proofs.state.connections_value.Goals as goal
@@ -6,4 +6,4 @@ use Rattle.page_answers.proofs.state.connections_value.Goals as goal
 pub loop-connection-preserved : goal.loop-connection-preserved
 loop-connection-preserved c =
     put_value connection_data c.args.connections.now c.loop-connection.connection-index _ _ _ _ _ c.loop-connection-test.true
-    (c.in_ok-connection_value.ensures ∙ ap connection_data c.connection-item.is) c.in_ok-put_item.ensures c.loop-connection.invariant
+    (ap connection_data c.connection-item.is) (c.in_ok-put_item.ensures _ c.connection_value.ensures) c.loop-connection.invariant

@@ -1,4 +1,4 @@
-use Rattle.std.proofs.Common.{◌∙◌, ap}
+use Rattle.std.proofs.Common.{ap}
 use Rattle.page_answers.specs.Texts.{line_data}
 use Rattle.page_answers.proofs.ValuesLemmas.{put_value}
 use Rattle.page_answers.proofs.state.lines_value.Goals as goal
@@ -6,4 +6,4 @@ use Rattle.page_answers.proofs.state.lines_value.Goals as goal
 pub loop-line-preserved : goal.loop-line-preserved
 loop-line-preserved c =
     put_value line_data c.args.lines.now c.loop-line.line-index _ _ _ _ _ c.loop-line-test.true
-    (c.in_ok-line_value.ensures ∙ ap line_data c.line-item.is) c.in_ok-put_item.ensures c.loop-line.invariant
+    (ap line_data c.line-item.is) (c.in_ok-put_item.ensures _ c.line_value.ensures) c.loop-line.invariant

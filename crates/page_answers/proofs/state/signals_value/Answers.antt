@@ -1,8 +1,9 @@
+use Rattle.std.proofs.Common.{refl}
 use Rattle.page_answers.specs.Texts.{signal_data}
 use Rattle.page_answers.proofs.ValuesLemmas.{put_value}
 use Rattle.page_answers.proofs.state.signals_value.Goals as goal
 
 pub loop-signal-preserved : goal.loop-signal-preserved
 loop-signal-preserved c =
-    put_value signal_data c.args.signals.now c.loop-signal.signal-index _ _ _ _ _ c.loop-signal-test.true c.in_ok-signal_value.ensures
-    c.in_ok-put_item.ensures c.loop-signal.invariant
+    put_value signal_data c.args.signals.now c.loop-signal.signal-index _ _ _ _ _ c.loop-signal-test.true refl
+    (c.in_ok-put_item.ensures _ c.signal_value.ensures) c.loop-signal.invariant
