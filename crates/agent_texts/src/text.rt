@@ -6,13 +6,7 @@ pub(crate) fn header_word(text: &[u8], place: usize) -> &[u8] {
     let Some(line) = lines(text).next() else {
         return &[];
     };
-    let mut left = words(line);
-    for _ in 0..place {
-        if left.next().is_none() {
-            return &[];
-        }
-    }
-    match left.next() {
+    match words(line).nth(place) {
         Some(word) => word,
         None => &[],
     }
