@@ -1,11 +1,15 @@
 -- What is told, one text behind another, and where nothing is.
-use Rattle.std.proofs.Common.{inl, inr, ◌≡◌, ℕ, Bool, true, false, List, [], ◌++◌, refl, sym, ap, ◌∙◌, append_assoc, append-nil}
-use Rattle.std.specs.Prelude.{if◌then◌else◌}
+use Rattle.std.proofs.Common.{inl, inr, ◌≡◌, ℕ, Bool, true, false, List, [], ◌∷◌, ◌++◌, refl, sym, ap, ◌∙◌, append_assoc, append-nil}
+use Rattle.std.specs.Prelude.{if◌then◌else◌, codes, decimal}
+use Rattle.std.specs.Borrow.{Bor}
 use Rattle.live_outlets.specs.declared.record.Record.{Record}
 use Rattle.live_outlets.specs.declared.record.RecordState.{RecordState}
 use Rattle.live_outlets.specs.declared.record.RecordState.TheVariants as records
 use Rattle.live_outlets.specs.Recording.{is_told}
-use Rattle.agent_texts.specs.Telling.{Tells}
+use Rattle.agent_texts.specs.Refusals.{refusal_line}
+use Rattle.agent_texts.specs.Stations.{number_at}
+use Rattle.agent_texts.specs.Telling.{call_line, line_of_pieces, Tells}
+use Rattle.agent_texts.specs.declared.station.Station.{Station}
 
 pub tells_text : (text : List ℕ) (was is : Record) → is_told was.state ≡ true → is.state ≡ was.state
     → is.out.items ≡ was.out.items ++ text → Tells text was is
@@ -46,3 +50,22 @@ tells_both a b was mid is (inr gone) (inl two) =
       two.1 ∙ ap (λ (s : RecordState). if is_told s then mid.out.items ++ b else mid.out.items) gone.0 ∙ gone.1,
     )
 tells_both a b was mid is (inr gone) (inr end) = inr end
+
+-- A line of pieces is that of a call, or that of a refusal
+
+pub call_told : (stations : List Station) (call line other : ℕ) (begin number between caller to called words : Bor (List ℕ))
+    (was is : Record)
+    → begin.now ≡ codes "call " → number.now ≡ decimal call → between.now ≡ codes ": " → caller.now ≡ number_at stations line
+    → to.now ≡ codes " -> " → called.now ≡ number_at stations other
+    → Tells (line_of_pieces (begin ∷ number ∷ between ∷ caller ∷ to ∷ called ∷ words ∷ [])) was is
+    → Tells (call_line stations call line other words.now) was is
+unfolding call_line line_of_pieces
+call_told stations call line other begin number between caller to called words was is b n m c t d tells =
+    rw (b, n, m, c, t, d) at tells
+
+pub refusal_told : (code : ℕ) (begin number words digits : Bor (List ℕ)) (was is : Record)
+    → begin.now ≡ codes "line " → digits.now ≡ decimal code
+    → Tells (line_of_pieces (begin ∷ number ∷ words ∷ digits ∷ [])) was is
+    → Tells (refusal_line number.now words.now code) was is
+unfolding refusal_line line_of_pieces
+refusal_told code begin number words digits was is b d tells = rw (b, d) at tells
