@@ -66,11 +66,7 @@ pub struct Order {
 fn new_cares(alloc: Global, count: usize) -> Result<Vec<Care>, OutOfMemory>
     ensures { IfOk result (λ cares. cares.items ≡ replicate count new_care) }
 {
-    let mut cares = Vec::new(alloc);
-    for _ in 0..count {
-        cares.push(NEW_CARE)?;
-    }
-    Ok(cares)
+    vec![in alloc; NEW_CARE; count]
 }
 
 // Something happens to a line: it waits, and so does the other end of its call. To be said before and behind it.
