@@ -1,5 +1,6 @@
 //! What an answer to an audit tells of a line's hook, and what the exchange is told by that.
-ghost use Rattle.std.specs.Prelude.{◌≡◌, IfOk};
+ghost use Rattle.std.specs.Prelude.{◌≡◌, ◌||◌, IfOk};
+ghost use Rattle.mg_bytes.specs.Case.{same_but_case};
 ghost use Rattle.mg_bytes.specs.Items.{items_of};
 ghost use Rattle.mgcp_text.specs.Reading.{read_text};
 ghost use Rattle.call_office.specs.Hooks.{hook_of, hook_among, hook_told, hook_by, is_lifted, is_off, was_off, changed, told_by_hook, is_off_hook, notified};
@@ -9,13 +10,20 @@ use mg_bytes::{OutOfMemory, list_items, same_no_case};
 use mgcp_text::{Param, TextFault, param_at, read_message};
 use std::alloc::{AllocError, Global};
 
+// Whether a text is one of these two, but for the case of letters.
+fn is_either(text: &[u8], one: &[u8], other: &[u8]) -> bool
+    ensures { result ≡ (same_but_case text.now one.now || same_but_case text.now other.now) }
+{
+    same_no_case(text, one) || same_no_case(text, other)
+}
+
 // Whether a telephone is off the hook, as an event state says it (RFC 3435, 2.3.10).
 fn hook_of(state: &[u8]) -> Option<bool>
     ensures { result ≡ hook_of state.now }
 {
-    if same_no_case(state, b"L/hd") || same_no_case(state, b"hd") {
+    if is_either(state, b"L/hd", b"hd") {
         Some(true)
-    } else if same_no_case(state, b"L/hu") || same_no_case(state, b"hu") {
+    } else if is_either(state, b"L/hu", b"hu") {
         Some(false)
     } else {
         None
