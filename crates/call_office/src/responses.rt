@@ -86,7 +86,7 @@ pub(crate) fn outcome_of(
     ensures memory { OnErr result (is_creation code flight ≡ true) }
 {
     if is_creation(code, flight) {
-        Ok(creation(alloc, code, text)?)
+        creation(alloc, code, text)
     } else {
         Ok(Outcome::Answered(code))
     }
