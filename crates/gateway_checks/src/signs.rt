@@ -1,5 +1,5 @@
 //! Signs of a datagram's text, and what they stand for.
-ghost use Rattle.std.specs.Prelude.{◌≡◌, ◌++◌, OnOk};
+ghost use Rattle.std.specs.Prelude.{◌≡◌, ◌++◌, IfOk};
 ghost use Rattle.gateway_checks.specs.Sending.{sign_at, stands_for, bytes_behind, put_at, left_behind, bytes_of, length_behind};
 ghost use Rattle.gateway_checks.specs.Sending.{written_out, ended};
 
@@ -96,12 +96,14 @@ pub(crate) fn put_signs(out: &mut Draft, text: &[u8])
     }
 }
 
-/// The last line ends, where it doesn't yet.
-pub(crate) fn end_line(out: &mut Vec<u8>) -> Result<(), OutOfMemory>
-    ensures { OnOk result (out.new.items ≡ ended out.old.items) }
+/// All that was put, whose last line ends. Its only error is want of memory, also for what was put.
+pub(crate) fn ended(draft: Draft) -> Result<Vec<u8>, OutOfMemory>
+    ensures { IfOk result (λ bytes. bytes.items ≡ ended draft) }
 {
-    if out.as_slice().ends_with(b"\n") {
-        return Ok(());
+    let mut bytes = draft.end()?;
+    if bytes.as_slice().ends_with(b"\n") {
+        return Ok(bytes);
     }
-    out.extend_from_slice(b"\r\n")
+    bytes.extend_from_slice(b"\r\n")?;
+    Ok(bytes)
 }
