@@ -7,6 +7,7 @@
 mod check;
 mod checks;
 pub mod examples;
+pub mod filling_examples;
 mod judging;
 mod junit;
 pub mod laws;
