@@ -5,6 +5,7 @@
 //! itself in a `Mailbox`. Nothing here has a socket or a clock.
 #![tactic(auto)]
 
+pub mod answer_examples;
 pub mod examples;
 mod expecting;
 mod gaps;
@@ -15,6 +16,7 @@ mod matching;
 mod socket;
 mod step;
 mod unasked;
+pub mod unasked_examples;
 mod waiting;
 
 pub use crate::expecting::{is_as_due, is_told, keep_value, name_id};
