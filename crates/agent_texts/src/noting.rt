@@ -61,14 +61,6 @@ fn note_for(
     }
 }
 
-// What is noted of a text that is read whole.
-fn whole_note(alloc: Global, is_repeat: bool, text: &[u8]) -> Result<Option<Note>, OutOfMemory>
-    ensures { IfOk result (λ note. note ≡ note_of_text is_repeat text.now) }
-{
-    let read = read_message(alloc, text);
-    note_for(&read, is_repeat)
-}
-
 /// What is noted in its place of a text that came or is sent, for the first time or again, if anything is. An error is for want of memory.
 pub(crate) fn text_note(
     alloc: Global,
@@ -77,5 +69,6 @@ pub(crate) fn text_note(
 ) -> Result<Option<Note>, OutOfMemory>
     ensures { IfOk result (λ note. note ≡ note_of_text is_repeat text.now) }
 {
-    whole_note(alloc, is_repeat, header_in(text))
+    let read = read_message(alloc, header_in(text));
+    note_for(&read, is_repeat)
 }
