@@ -60,7 +60,7 @@ pub(crate) struct Gateway {
     // The lines of which commands were put off. Each is sent again as long behind its answer, so they stand in the order of that.
     wakes: Vec<Wake>,
     // The moment of the agent's clock, in ms.
-    ticked: u64,
+    pub(crate) ticked: u64,
     // The id of the last announcement, and when it came.
     announced: Option<(u32, u64)>,
 }
@@ -265,13 +265,6 @@ impl Gateway {
         let outputs = self.agent.step(Event::Tick { moment })?;
         self.ticked = moment;
         Ok(outputs)
-    }
-
-    /// The moment of its clock, in ms.
-    pub(crate) fn ticked(&self) -> u64
-        ensures { result ≡ self.now.ticked }
-    {
-        self.ticked
     }
 
     /// A command to the line at this place is sent again at a moment, in ms: no earlier one than those before. An error is for want of

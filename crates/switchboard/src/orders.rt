@@ -76,8 +76,7 @@ pub(crate) fn answer_at(
     ensures touches { Touches line office.old office.new }
     ensures rest { gateway.new ≡ record gateway.old { wakes = gateway.new.wakes } }
 {
-    let moment = gateway.ticked();
-    let Some(again) = office.answered(alloc, line, moment, code, text) else {
+    let Some(again) = office.answered(alloc, line, gateway.ticked, code, text) else {
         return;
     };
     match gateway.put_off(line, again) {
