@@ -1,5 +1,5 @@
 //! A board: the gateways that a call agent works with, and their lines; how it is made, and what its agents hear.
-ghost use Rattle.std.specs.Prelude.{◌≡◌, ◌&&◌, ◌+◌, [], ◌∷◌, ◌++◌, true, None, Ok, All, length, map, position, slice_get};
+ghost use Rattle.std.specs.Prelude.{◌≡◌, ◌&&◌, ◌+◌, [], ◌∷◌, ◌++◌, None, Ok, All, length, map, position, slice_get};
 ghost use Rattle.std.specs.Prelude.{IfNone, IfOk, OnErr, OnOk, is_ok, is_some};
 ghost use Rattle.std.specs.Result.{result_err};
 ghost use Rattle.plain_machine.specs.Event.{datagram, tick};
@@ -163,20 +163,6 @@ impl Switchboard {
         Ok(())
     }
 
-    // Opens an exchange for the lines that there are, which are dialled by this map.
-    fn open(&mut self, map: &[u8]) -> Result<(), OutOfMemory>
-        ensures gateways { self.new.gateways ≡ self.old.gateways }
-        ensures stations { self.new.stations ≡ self.old.stations }
-        ensures office { OnOk result (is_some self.new.office ≡ true) }
-    {
-        let plan = plan_of(self.alloc, &self.stations)?;
-        let map = copied(self.alloc, map)?;
-        let office = Office::new(self.alloc, self.stations.len())?;
-        self.dialling = Dialling::of(self.alloc, plan, map)?;
-        self.office = Some(office);
-        Ok(())
-    }
-
     // Adds the gateways of a configuration.
     fn add_all(&mut self, config: &AgentConfig, time: u64) -> Result<(), OutOfMemory>
         ensures gateways { OnOk result (map known_as self.new.gateways.items ≡ map known_as self.old.gateways.items
@@ -194,7 +180,7 @@ impl Switchboard {
         Ok(())
     }
 
-    // Adds the gateways of a configuration, and opens an exchange for their lines where calls are routed.
+    // Adds the gateways of a configuration, and opens an exchange for their lines, which are dialled by its map, where calls are routed.
     fn fill(&mut self, config: &AgentConfig, is_routed: bool, time: u64) -> Result<(), OutOfMemory>
         ensures gateways { OnOk result (map known_as self.new.gateways.items ≡ map known_as self.old.gateways.items
             ++ gateways_from time config.now.own (length self.old.stations.items) config.now.gateways.items) }
@@ -210,7 +196,11 @@ impl Switchboard {
         let Some(map) = &config.map else {
             return Ok(());
         };
-        self.open(map.as_bytes())?;
+        let plan = plan_of(self.alloc, &self.stations)?;
+        let map = copied(self.alloc, map.as_bytes())?;
+        let office = Office::new(self.alloc, self.stations.len())?;
+        self.dialling = Dialling::of(self.alloc, plan, map)?;
+        self.office = Some(office);
         Ok(())
     }
 
