@@ -23,10 +23,20 @@ use crate::switchboard::Switchboard;
 use crate::typed::{TypedFault, typed_in};
 use agent_texts::Journal;
 use call_agent::{IssueFault, Issued};
-use call_office::Order;
+use call_office::{Office, Order};
 use mg_bytes::{OutOfMemory, split_once};
 use mgcp_text::TransactionId;
 use turns::earlier;
+
+// The line of the exchange, if there is one, that is settled so many behind the first.
+fn settled_at(office: &Option<Box<Office>>, index: usize) -> Option<usize>
+    ensures { result ≡ settled_in index office.now }
+{
+    match office {
+        Some(office) => office.settled_at(index),
+        None => None,
+    }
+}
 
 impl Switchboard {
     /// The lines to which something has happened are settled now: each is shown (`show`), then each is sent what it is to be sent
@@ -136,16 +146,6 @@ impl Switchboard {
         }
     }
 
-    // The line of the exchange that is settled so many behind the first.
-    fn settled_at(&self, index: usize) -> Option<usize>
-        ensures { result ≡ settled_in index self.now.office }
-    {
-        match &self.office {
-            Some(office) => office.settled_at(index),
-            None => None,
-        }
-    }
-
     // The command that is to be issued to a line now, if one is; it is in flight from then on. After an error, which is for want of
     // memory, it was given up.
     fn order(&mut self, line: usize) -> Result<Option<Order>, OutOfMemory>
@@ -194,7 +194,7 @@ impl Switchboard {
         ensures alone { SendsAtMost (settled_in index self.old.office) self.old self.new }
         ensures rest { self.new ≡ record self.old { gateways = self.new.gateways; office = self.new.office } }
     {
-        match self.settled_at(index) {
+        match settled_at(&self.office, index) {
             Some(line) => self.issue_to(line),
             None => Ok(None),
         }
