@@ -38,6 +38,16 @@ fn settled_at(office: &Option<Box<Office>>, index: usize) -> Option<usize>
     }
 }
 
+// The exchange, if there is one, is told that its command in flight to a line was given up, or couldn't be issued.
+fn forget(office: &mut Option<Box<Office>>, line: usize)
+    ensures office { OfOffice (Forgets line) office.old office.new }
+    ensures touches { InOffice (Touches line) office.old office.new }
+{
+    if let Some(office) = office {
+        office.given_up(line);
+    }
+}
+
 impl Switchboard {
     /// The lines to which something has happened are settled now: each is shown (`show`), then each is sent what it is to be sent
     /// (`issue_next`).
@@ -135,17 +145,6 @@ impl Switchboard {
         issue_by(self.alloc, gateway, station, order, line)
     }
 
-    // The command in flight to a line was given up, or couldn't be issued.
-    fn forget(&mut self, line: usize)
-        ensures office { OfOffice (Forgets line) self.old.office self.new.office }
-        ensures touches { InOffice (Touches line) self.old.office self.new.office }
-        ensures rest { self.new ≡ record self.old { office = self.new.office } }
-    {
-        if let Some(office) = &mut self.office {
-            office.given_up(line);
-        }
-    }
-
     // The command that is to be issued to a line now, if one is; it is in flight from then on. After an error, which is for want of
     // memory, it was given up.
     fn order(&mut self, line: usize) -> Result<Option<Order>, OutOfMemory>
@@ -173,14 +172,14 @@ impl Switchboard {
             Ok(Some(order)) => order,
             Ok(None) => return Ok(None),
             Err(_) => {
-                self.forget(line);
+                forget(&mut self.office, line);
                 return Err(IssueFault::OutOfMemory);
             }
         };
         match self.issue(line, &order) {
             Ok(issued) => Ok(Some(issued)),
             Err(fault) => {
-                self.forget(line);
+                forget(&mut self.office, line);
                 Err(fault)
             }
         }
@@ -254,7 +253,7 @@ impl Switchboard {
         let Some(line) = flight.line else {
             return true;
         };
-        self.forget(line);
+        forget(&mut self.office, line);
         true
     }
 

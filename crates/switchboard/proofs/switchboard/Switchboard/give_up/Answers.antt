@@ -11,11 +11,11 @@ returns-in_default-clause-gives_up c =
 
 pub returns-clause-gives_up : goal.returns-clause-gives_up
 returns-clause-gives_up c =
-    gave_up c.args.place c.args.self.now c.ended.new.self c.forget.new.self (Some c.in-Some.flight) c.in-Some.ensures.ended
+    gave_up c.args.place c.args.self.now c.ended.new.self (record c.ended.new.self { office = c.forget.new.office }) (Some c.in-Some.flight) c.in-Some.ensures.ended
     c.in-Some.ensures.gateway
-    (subst (λ (line : Option ℕ). ForgetsFor line c.ended.new.self.office c.forget.new.self.office) (sym c.in-Some-line.is)
+    (subst (λ (line : Option ℕ). ForgetsFor line c.ended.new.self.office c.forget.new.office) (sym c.in-Some-line.is)
     (c.forget.ensures.office, c.forget.ensures.touches))
-    c.forget.ensures.rest
+    refl
 
 pub returns-in_default-line-clause-gives_up : goal.returns-in_default-line-clause-gives_up
 returns-in_default-line-clause-gives_up c =

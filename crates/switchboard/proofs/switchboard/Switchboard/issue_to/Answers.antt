@@ -13,7 +13,7 @@ returns-in-Ok-clause-issued c =
 pub returns-in-Err-clause-issued : goal.returns-in-Err-clause-issued
 returns-in-Err-clause-issued c =
     not_ordered c.args.line (ordered_in c.args.line c.args.self.now.dialling.value.map c.args.self.now.office) c.args.self.now c.order.new.self
-    c.forget.new.self c.order.ensures.rest c.forget.ensures.rest
+    (record c.order.new.self { office = c.forget.new.office }) c.order.ensures.rest refl
 
 pub returns-in-Ok-clause-alone : goal.returns-in-Ok-clause-alone
 returns-in-Ok-clause-alone c =
