@@ -16,7 +16,7 @@ ghost use Rattle.switchboard.specs.TypedCommands.{IssuesThere, IssuesTyped};
 ghost use Rattle.call_office.specs.Waiting.{Touches};
 
 use crate::flight::Flight;
-use crate::gateway::Wake;
+use crate::gateway::{Gateway, Wake};
 use crate::naming::has_domain;
 use crate::orders::{issue_by, issue_named};
 use crate::switchboard::Switchboard;
@@ -46,6 +46,17 @@ fn forget(office: &mut Option<Box<Office>>, line: usize)
     if let Some(office) = office {
         office.given_up(line);
     }
+}
+
+// The next line of the gateway at this place to which a command is sent again by now. It isn't put off any more.
+fn woken(gateways: &mut Vec<Gateway>, place: usize) -> Option<Wake>
+    ensures wake { result ≡ woken_at (slice_get gateways.old.items place) }
+    ensures gateway { AtPlace place Wakens gateways.old.items gateways.new.items }
+    ensures own { AtPlace place (λ was is. is ≡ record was { wakes = is.wakes }) gateways.old.items gateways.new.items }
+    ensures others { OthersStay place gateways.old.items gateways.new.items }
+{
+    let gateway = gateways.get_mut(place)?;
+    gateway.woken()
 }
 
 impl Switchboard {
@@ -257,19 +268,6 @@ impl Switchboard {
         true
     }
 
-    // The next line of the gateway at this place to which a command is sent again by now. It isn't put off any more.
-    fn woken(&mut self, place: usize) -> Option<Wake>
-        ensures wake { result ≡ woken_at (slice_get self.old.gateways.items place) }
-        ensures gateway { AtPlace place Wakens self.old.gateways.items self.new.gateways.items }
-        ensures own { AtPlace place (λ was is. is ≡ record was { wakes = is.wakes }) self.old.gateways.items self.new.gateways.items }
-        ensures office { self.new.office ≡ self.old.office }
-        ensures others { OthersStay place self.old.gateways.items self.new.gateways.items }
-        ensures rest { self.new ≡ record self.old { gateways = self.new.gateways } }
-    {
-        let gateway = self.gateways.get_mut(place)?;
-        gateway.woken()
-    }
-
     /// The next line of the gateway at this place to which a command is sent again by now waits to be settled: whether there is one.
     pub fn wake(&mut self, place: usize) -> bool
         ensures found { result ≡ is_some (woken_at (slice_get self.old.gateways.items place)) }
@@ -280,7 +278,7 @@ impl Switchboard {
         ensures others { OthersStay place self.old.gateways.items self.new.gateways.items }
         ensures rest { self.new ≡ record self.old { gateways = self.new.gateways; office = self.new.office } }
     {
-        let Some(wake) = self.woken(place) else {
+        let Some(wake) = woken(&mut self.gateways, place) else {
             return false;
         };
         if let Some(office) = &mut self.office {
