@@ -12,6 +12,7 @@ ghost use Rattle.switchboard.specs.Tallying.{counted_if};
 ghost use Rattle.call_office.specs.Waiting.{Settles};
 
 use crate::announcing::announce_all;
+use crate::gateway::Gateway;
 use crate::naming::{is_unknown, line_meant, method_of};
 use crate::orders::answer_at;
 use crate::switchboard::Switchboard;
@@ -20,6 +21,16 @@ use agent_texts::Journal;
 use endpoint_names::read_name;
 use mg_bytes::same_no_case;
 use mgcp_text::{Message, Param, TextFault, TransactionId, Verb, read_message};
+
+// The place of the first line of the gateway at this place.
+fn first_of(gateways: &Vec<Gateway>, place: usize) -> usize
+    ensures { result ≡ first_of (slice_get gateways.now.items place) }
+{
+    match gateways.get(place) {
+        Some(gateway) => gateway.first,
+        None => 0,
+    }
+}
 
 impl Switchboard {
     // The exchange's command to a line of the gateway at this place was answered.
@@ -239,16 +250,6 @@ impl Switchboard {
         }
     }
 
-    // The place of the first line of the gateway at this place.
-    fn first_of(&self, place: usize) -> usize
-        ensures { result ≡ first_of (slice_get self.now.gateways.items place) }
-    {
-        match self.gateways.get(place) {
-            Some(gateway) => gateway.first,
-            None => 0,
-        }
-    }
-
     /// Takes what the line that is so many behind the first of these has told and wasn't taken yet: whether there was anything. Then the
     /// line waits to be settled.
     pub fn take(&mut self, journal: &mut Journal, place: usize, index: usize) -> bool
@@ -260,7 +261,7 @@ impl Switchboard {
         ensures rest { self.new ≡ record self.old { stations = self.new.stations; office = self.new.office } }
         ensures journal { journal.new ≡ record journal.old { tally = journal.new.tally; told = journal.new.told } }
     {
-        match self.notifying.at(self.first_of(place), index) {
+        match self.notifying.at(first_of(&self.gateways, place), index) {
             Some(line) => self.take_of(journal, place, line),
             None => false,
         }
