@@ -32,6 +32,29 @@ fn first_of(gateways: &Vec<Gateway>, place: usize) -> usize
     }
 }
 
+// Tells of a command whose name isn't of the gateway at this place.
+fn tell_strange(
+    gateways: &Vec<Gateway>,
+    journal: &mut Journal,
+    place: usize,
+    message: &Message<'_>,
+    text: &[u8],
+)
+    ensures tally { journal.new.tally ≡ counted_if (is_strange message.now (slice_get gateways.now.items place)) with_strange_name
+        journal.old.tally }
+    ensures rest { journal.new ≡ record journal.old { tally = journal.new.tally; told = journal.new.told } }
+{
+    let Message::Command { name, .. } = message else {
+        return;
+    };
+    let Some(gateway) = gateways.get(place) else {
+        return;
+    };
+    if is_unknown(name.as_slice(), gateway.domain.as_bytes(), gateway.lines) {
+        journal.tell_strange(text);
+    }
+}
+
 impl Switchboard {
     // The exchange's command to a line of the gateway at this place was answered.
     fn answer(&mut self, place: usize, line: usize, code: u16, text: &[u8])
@@ -203,23 +226,6 @@ impl Switchboard {
         }
     }
 
-    // Tells of a command whose name isn't of the gateway at this place.
-    fn tell_strange(&self, journal: &mut Journal, place: usize, message: &Message<'_>, text: &[u8])
-        ensures tally { journal.new.tally ≡ counted_if (is_strange message.now (slice_get self.now.gateways.items place)) with_strange_name
-            journal.old.tally }
-        ensures rest { journal.new ≡ record journal.old { tally = journal.new.tally; told = journal.new.told } }
-    {
-        let Message::Command { name, .. } = message else {
-            return;
-        };
-        let Some(gateway) = self.gateways.get(place) else {
-            return;
-        };
-        if is_unknown(name.as_slice(), gateway.domain.as_bytes(), gateway.lines) {
-            journal.tell_strange(text);
-        }
-    }
-
     /// A text came from the gateway at this place, of which its agent has heard.
     pub fn hear(&mut self, journal: &mut Journal, place: usize, text: &[u8])
         ensures hears { HearsText place text.now self.old journal.old self.new journal.new }
@@ -227,7 +233,7 @@ impl Switchboard {
     {
         match read_message(self.alloc, text) {
             Ok(message) => {
-                self.tell_strange(journal, place, &message, text);
+                tell_strange(&self.gateways, journal, place, &message, text);
                 self.hear_message(journal, place, &message, text);
             }
             // It may have been a notification of any line.
