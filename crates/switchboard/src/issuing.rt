@@ -59,6 +59,35 @@ fn woken(gateways: &mut Vec<Gateway>, place: usize) -> Option<Wake>
     gateway.woken()
 }
 
+// The place of the gateway with this domain.
+fn place_named(gateways: &Vec<Gateway>, domain: &[u8]) -> Option<usize>
+    ensures { result ≡ position (has_domain domain.now) gateways.now.items }
+{
+    gateways
+        .iter()
+        .position(|gateway| has_domain(gateway, domain))
+}
+
+// The place of the gateway that an endpoint's name means, and the name without its domain. Where there is one gateway alone its domain
+// may be left out.
+fn meant<'t>(gateways: &Vec<Gateway>, name: &'t [u8]) -> Option<(usize, &'t [u8])>
+    ensures { option_map (λ found. (found.0, found.1.now)) result ≡ meant gateways.now.items name.now }
+{
+    match split_once(name, b'@') {
+        Some((local, domain)) => match place_named(gateways, domain) {
+            Some(place) => Some((place, local)),
+            None => None,
+        },
+        None => {
+            if gateways.len() == 1 {
+                Some((0, name))
+            } else {
+                None
+            }
+        }
+    }
+}
+
 impl Switchboard {
     /// The lines to which something has happened are settled now: each is shown (`show`), then each is sent what it is to be sent
     /// (`issue_next`).
@@ -81,35 +110,6 @@ impl Switchboard {
         }
     }
 
-    // The place of the gateway with this domain.
-    fn place_named(&self, domain: &[u8]) -> Option<usize>
-        ensures { result ≡ position (has_domain domain.now) self.now.gateways.items }
-    {
-        self.gateways
-            .iter()
-            .position(|gateway| has_domain(gateway, domain))
-    }
-
-    // The place of the gateway that an endpoint's name means, and the name without its domain. Where there is one gateway alone its
-    // domain may be left out.
-    fn meant<'t>(&self, name: &'t [u8]) -> Option<(usize, &'t [u8])>
-        ensures { option_map (λ found. (found.0, found.1.now)) result ≡ meant self.now.gateways.items name.now }
-    {
-        match split_once(name, b'@') {
-            Some((local, domain)) => match self.place_named(domain) {
-                Some(place) => Some((place, local)),
-                None => None,
-            },
-            None => {
-                if self.gateways.len() == 1 {
-                    Some((0, name))
-                } else {
-                    None
-                }
-            }
-        }
-    }
-
     /// Issues a command that was typed (`typed_text`): what is to be sent.
     pub fn issue_typed(&mut self, text: &[u8]) -> Result<Issued, TypedFault>
         ensures { IssuesTyped text.now result self.old self.new }
@@ -117,7 +117,7 @@ impl Switchboard {
         let Some(typed) = typed_in(text) else {
             return Err(TypedFault::Unknown);
         };
-        let Some(found) = self.meant(typed.name) else {
+        let Some(found) = meant(&self.gateways, typed.name) else {
             return Err(TypedFault::NoSuchGateway);
         };
         self.issue_there(found.0, typed.verb, found.1, typed.rest)
