@@ -71,18 +71,6 @@ fn address_of(socket: &UdpSocket) -> SocketAddrV4 {
     }
 }
 
-// The socket gave nothing for this reason: whether it failed. One that is empty isn't looked at again before it is told.
-fn has_failed(is_told: &mut bool, kind: ErrorKind) -> bool {
-    match kind {
-        ErrorKind::WouldBlock => {
-            *is_told = false;
-            false
-        }
-        ErrorKind::Interrupted => false,
-        _ => true,
-    }
-}
-
 impl<'a, R: Net + Clock> Live<'a, R> {
     /// These sockets, and the clock at moment 0. To each something may have come already. An error is of the system's kind.
     pub fn watch(
@@ -194,12 +182,15 @@ impl<R: Net + Clock> Surroundings for Live<'_, R> {
         match self.socket.recv_from(room) {
             Ok((len, SocketAddr::V4(source))) => Ok(Some((source, len))),
             Ok(_) => Ok(None),
-            Err(fault) => {
-                if has_failed(&mut self.ready.socket, fault.kind()) {
-                    return Err(Fault);
+            Err(fault) => match fault.kind() {
+                // It is empty, and isn't looked at again before it is told.
+                ErrorKind::WouldBlock => {
+                    self.ready.socket = false;
+                    Ok(None)
                 }
-                Ok(None)
-            }
+                ErrorKind::Interrupted => Ok(None),
+                _ => Err(Fault),
+            },
         }
     }
 
