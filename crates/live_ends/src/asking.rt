@@ -38,10 +38,10 @@ fn sent<R: Net>(rt: &R, address: SocketAddrV4, line: &[u8]) -> Result<UdpSocket,
 
 // Why a line isn't answered that can't be sent.
 fn unsent(kind: ErrorKind) -> AskFault {
-    if kind == ErrorKind::ConnectionRefused {
-        return AskFault::NoAnswer;
+    match kind {
+        ErrorKind::ConnectionRefused => AskFault::NoAnswer,
+        _ => AskFault::Refused { kind },
     }
-    AskFault::Refused { kind }
 }
 
 // How long an answer is still waited for, in ms; nothing where the clock can't be read.

@@ -144,10 +144,10 @@ impl CommonEnding {
         ensures memory { kind ≡ ErrorKind.OutOfMemory → result ≡ CommonEnding.OutOfMemory }
         ensures other { kind ≢ ErrorKind.OutOfMemory → result ≡ CommonEnding.Usage }
     {
-        if kind == ErrorKind::OutOfMemory {
-            return CommonEnding::OutOfMemory;
+        match kind {
+            ErrorKind::OutOfMemory => CommonEnding::OutOfMemory,
+            _ => CommonEnding::Usage,
         }
-        CommonEnding::Usage
     }
 
     /// The system doesn't let it read the file that it reads, by an error of this kind.
@@ -155,10 +155,10 @@ impl CommonEnding {
         ensures memory { kind ≡ ErrorKind.OutOfMemory → result ≡ CommonEnding.OutOfMemory }
         ensures other { kind ≢ ErrorKind.OutOfMemory → result ≡ CommonEnding.Unreadable kind }
     {
-        if kind == ErrorKind::OutOfMemory {
-            return CommonEnding::OutOfMemory;
+        match kind {
+            ErrorKind::OutOfMemory => CommonEnding::OutOfMemory,
+            _ => CommonEnding::Unreadable { kind },
         }
-        CommonEnding::Unreadable { kind }
     }
 
     /// The system doesn't let it write the file that it writes, by an error of this kind.
@@ -166,10 +166,10 @@ impl CommonEnding {
         ensures memory { kind ≡ ErrorKind.OutOfMemory → result ≡ CommonEnding.OutOfMemory }
         ensures other { kind ≢ ErrorKind.OutOfMemory → result ≡ CommonEnding.Unwritable kind }
     {
-        if kind == ErrorKind::OutOfMemory {
-            return CommonEnding::OutOfMemory;
+        match kind {
+            ErrorKind::OutOfMemory => CommonEnding::OutOfMemory,
+            _ => CommonEnding::Unwritable { kind },
         }
-        CommonEnding::Unwritable { kind }
     }
 
     /// The system gives it no socket at the address that this word asks for, by an error of this kind.
@@ -177,13 +177,13 @@ impl CommonEnding {
         ensures memory { kind ≡ ErrorKind.OutOfMemory → result ≡ CommonEnding.OutOfMemory }
         ensures other { kind ≢ ErrorKind.OutOfMemory → result ≡ CommonEnding.Unbound word address kind }
     {
-        if kind == ErrorKind::OutOfMemory {
-            return CommonEnding::OutOfMemory;
-        }
-        CommonEnding::Unbound {
-            word,
-            address,
-            kind,
+        match kind {
+            ErrorKind::OutOfMemory => CommonEnding::OutOfMemory,
+            _ => CommonEnding::Unbound {
+                word,
+                address,
+                kind,
+            },
         }
     }
 
