@@ -93,9 +93,7 @@ fn numbers_of<R: Files + Alloc + Clone + Drop>(
 
 // The greatest of numbers; 0 where there is none.
 fn greatest(numbers: &[u64]) -> u64 {
-    numbers
-        .iter()
-        .fold(0, |greatest, number| greatest.max(*number))
+    numbers.iter().copied().max().unwrap_or(0)
 }
 
 impl CaptureFiles {
