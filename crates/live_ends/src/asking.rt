@@ -18,24 +18,6 @@ pub enum AskFault {
     Refused { kind: ErrorKind },
 }
 
-// A socket that is connected with this address, by which a line was sent there: from there alone it takes datagrams, and it is told
-// where nobody is there. An error is of the system's kind.
-fn sent<R: Net>(rt: &R, address: SocketAddrV4, line: &[u8]) -> Result<UdpSocket, ErrorKind> {
-    let socket = match UdpSocket::bind(rt, SocketAddrV4::new(Ipv4Addr::UNSPECIFIED, 0)) {
-        Ok(socket) => socket,
-        Err(fault) => return Err(fault.kind()),
-    };
-    match socket.connect(address) {
-        Ok(()) => {}
-        Err(fault) => return Err(fault.kind()),
-    }
-    match socket.send(line) {
-        Ok(_) => {}
-        Err(fault) => return Err(fault.kind()),
-    }
-    Ok(socket)
-}
-
 // Why a line isn't answered that can't be sent.
 fn unsent(kind: ErrorKind) -> AskFault {
     match kind {
@@ -116,8 +98,18 @@ pub fn ask<R: Net + Clock>(
     line: &[u8],
     room: &mut Vec<u8>,
 ) -> Result<(), AskFault> {
-    match sent(rt, address, line) {
-        Ok(socket) => hear(rt, &socket, room),
-        Err(kind) => Err(unsent(kind)),
+    let socket = match UdpSocket::bind(rt, SocketAddrV4::new(Ipv4Addr::UNSPECIFIED, 0)) {
+        Ok(socket) => socket,
+        Err(fault) => return Err(unsent(fault.kind())),
+    };
+    // So it takes datagrams from there alone, and it is told where nobody is there.
+    match socket.connect(address) {
+        Ok(()) => {}
+        Err(fault) => return Err(unsent(fault.kind())),
     }
+    match socket.send(line) {
+        Ok(_) => {}
+        Err(fault) => return Err(unsent(fault.kind())),
+    }
+    hear(rt, &socket, room)
 }
