@@ -1,19 +1,21 @@
 //! What goes between the gateway and others: over sockets, behind a bad network where one is asked for; and its journal.
-ghost use Rattle.std.specs.Prelude.{◌≡◌, ◌<◌, ◌≤◌, ◌∷◌, ◌⊎◌, ⊤, [], true, false, length, take, ℕ, Bool, List, Option, Result, IfSome, is_some, option_map};
+ghost use Rattle.std.specs.Prelude.{◌≡◌, ◌<◌, ◌≤◌, ◌∷◌, ◌⊎◌, ⊤, [], true, false, length, take, ℕ, Bool, List, Option, Result, IfOk, IfSome, is_some, option_map};
 ghost use Rattle.small_rules.specs.Counting.{counted};
 ghost use Rattle.surroundings.specs.declared.surroundings.Fault.{Fault};
 ghost use Rattle.surroundings.specs.Hearing.{Hears};
 ghost use Rattle.surroundings.specs.Sending.{Sent, Grows, found_by};
 ghost use Rattle.live_gateway.specs.Admitting.{is_heard};
 ghost use Rattle.live_gateway.specs.Offering.{brought, TakesDue};
-ghost use Rattle.live_gateway.specs.Exchanging.{handed_by, received_by, came_by, next_due, moment_at, faultless, with_read, faults_by, Waits, Becomes, HandsOver, LosesOver, IsSameTurn, LooksOnce, CountsReceived, FoundSince};
+ghost use Rattle.live_gateway.specs.Exchanging.{handed_by, received_by, came_by, next_due, moment_at, with_read, faults_by, Waits, Becomes, HandsOver, LosesOver, IsSameTurn, LooksOnce, CountsReceived, FoundSince};
 ghost use Rattle.live_gateway.specs.Visiting.{ServesOnce};
 ghost use Rattle.live_gateway.specs.Leaving.{OnlyTells};
 ghost use Rattle.live_gateway.specs.Noting.{NotesReceived, TurnsAway, NotesArrival, NotesLate, CountsFound};
+ghost use Rattle.live_gateway.specs.Opening.{CountsNothing, BeginsBoard, BeginsRecords, BeginsNetwork, IsUnused};
 ghost use Rattle.live_gateway.specs.Passing.{HandsOut, LooksOver, Looks};
 ghost use Rattle.live_play.specs.Readable.{first_unread};
 
 use crate::admission::Admission;
+use crate::opening::{DeskSettings, journal_of, network_of};
 use crate::spoilt_way::SpoiltWay;
 use crate::visitors::Visitors;
 use bad_network::{Fate, Packet, Way};
@@ -25,6 +27,7 @@ use live_outlets::Now;
 use live_play::{FIRST_UNREAD, Outlet};
 use message_counts::{Faults, Taken};
 use small_rules::count;
+use std::alloc::{AllocError, Global};
 use std::net::SocketAddrV4;
 use surroundings::{Fault, Lines, Surroundings};
 use traces::Mark;
@@ -80,33 +83,39 @@ fn taken_of(gateway: &Gateway) -> Taken<'_>
     }
 }
 
-impl<S: Surroundings + Drop> Exchange<S> {
-    /// The way over these surroundings, over which nothing went.
-    pub fn new(
-        around: S,
-        network: Option<Box<SpoiltWay>>,
-        journal: Journal,
-        now: Now,
-    ) -> Exchange<S>
-        ensures around { result.around ≡ around }
-        ensures network { result.network ≡ network }
-        ensures journal { result.journal ≡ journal }
-        ensures now { result.now ≡ now }
-        ensures read { result.read ≡ 0 }
-        ensures faults { result.faults ≡ faultless }
-        ensures offering { result.is_offering ≡ false }
-    {
-        Exchange {
-            around,
-            network,
-            journal,
-            now,
-            read: 0,
-            faults: Faults::NONE,
-            is_offering: false,
-        }
-    }
+/// The way between the gateway of this domain and others, over which nothing went. Its only error is want of memory.
+pub(crate) fn exchange_of<S: Surroundings + Drop>(
+    alloc: Global,
+    settings: &DeskSettings<'_>,
+    domain: &[u8],
+    around: Box<S>,
+) -> Result<Exchange<S>, AllocError>
+    ensures around { IfOk result (λ exchange. exchange.around ≡ around.value) }
+    ensures spoilt { IfOk result (λ exchange. BeginsNetwork settings.now.network domain.now exchange.network) }
+    ensures page { IfOk result (λ exchange. BeginsBoard settings.now.has_page exchange.journal.board) }
+    ensures counted { IfOk result (λ exchange. CountsNothing exchange.journal.tally.value) }
+    ensures recorded { IfOk result (λ exchange. BeginsRecords settings.now domain.now exchange.journal) }
+    ensures unused { IfOk result (λ exchange. IsUnused exchange) }
+{
+    let network = network_of(alloc, settings.network, domain)?;
+    let journal = journal_of(alloc, settings, domain)?;
+    let around = Box::into_inner(around);
+    let now = Now {
+        clock: 0,
+        time: around.time(),
+    };
+    Ok(Exchange {
+        around,
+        network,
+        journal,
+        now,
+        read: 0,
+        faults: Faults::NONE,
+        is_offering: false,
+    })
+}
 
+impl<S: Surroundings + Drop> Exchange<S> {
     /// A turn begins, where ticks have come to this moment, in ms.
     pub fn begin(&mut self, ticked: u64)
         ensures network { self.new.network ≡ self.old.network }

@@ -11,12 +11,12 @@ ghost use Rattle.live_gateway.specs.Opening.{BeginsNetwork, IsUnused, IsUnplayed
 
 use crate::admission::Admission;
 use crate::desk::Desk;
-use crate::exchange::Exchange;
+use crate::exchange::exchange_of;
 use crate::spoilt_way::SpoiltWay;
 use bad_network::{BadNetwork, Spoiling};
 use gateway_core::Gateway;
 use live_journal::{Capture, Journal, Trace};
-use live_outlets::{Now, Written, boxed};
+use live_outlets::{Written, boxed};
 use live_play::LivePlay;
 use message_counts::MessageTally;
 use page_board::Board;
@@ -71,7 +71,7 @@ fn board_of(alloc: Global, has_page: bool) -> Result<Option<Box<Board>>, AllocEr
     Ok(Some(boxed(alloc, Board::new(alloc))?))
 }
 
-fn journal_of(
+pub(crate) fn journal_of(
     alloc: Global,
     settings: &DeskSettings<'_>,
     domain: &[u8],
@@ -98,7 +98,7 @@ fn spoilt_by(alloc: Global, spoiling: Spoiling, domain: &[u8]) -> Result<Box<Spo
 }
 
 // The bad network, if one is asked for.
-fn network_of(
+pub(crate) fn network_of(
     alloc: Global,
     asked: Option<Spoiling>,
     domain: &[u8],
@@ -109,30 +109,6 @@ fn network_of(
         Some(spoiling) => Ok(Some(spoilt_by(alloc, spoiling, domain)?)),
         None => Ok(None),
     }
-}
-
-// The way between the gateway of this domain and others, over which nothing went.
-fn exchange_of<S: Surroundings + Drop>(
-    alloc: Global,
-    settings: &DeskSettings<'_>,
-    domain: &[u8],
-    around: Box<S>,
-) -> Result<Exchange<S>, AllocError>
-    ensures around { IfOk result (λ exchange. exchange.around ≡ around.value) }
-    ensures spoilt { IfOk result (λ exchange. BeginsNetwork settings.now.network domain.now exchange.network) }
-    ensures page { IfOk result (λ exchange. BeginsBoard settings.now.has_page exchange.journal.board) }
-    ensures counted { IfOk result (λ exchange. CountsNothing exchange.journal.tally.value) }
-    ensures recorded { IfOk result (λ exchange. BeginsRecords settings.now domain.now exchange.journal) }
-    ensures unused { IfOk result (λ exchange. IsUnused exchange) }
-{
-    let network = network_of(alloc, settings.network, domain)?;
-    let journal = journal_of(alloc, settings, domain)?;
-    let around = Box::into_inner(around);
-    let now = Now {
-        clock: 0,
-        time: around.time(),
-    };
-    Ok(Exchange::new(around, network, journal, now))
 }
 
 // A gateway that is played, and its trace, which has its head.
