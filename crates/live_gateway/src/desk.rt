@@ -7,6 +7,7 @@ ghost use Rattle.turns.specs.Schedule.{opening};
 ghost use Rattle.plain_machine.specs.Event.{GatewayEvent, tick};
 ghost use Rattle.plain_machine.specs.Lists.{plain};
 ghost use Rattle.gateway_core.specs.Stands.{Stands};
+ghost use Rattle.live_journal.specs.Recording.{trace_head, Begins};
 ghost use Rattle.live_telephones.specs.Losses.{counts_text};
 ghost use Rattle.live_telephones.specs.Asking.{AsksFor};
 ghost use Rattle.live_telephones.specs.Watching.{IsUnwatched};
@@ -19,17 +20,19 @@ ghost use Rattle.live_gateway.specs.Exchanging.{OnlyWrites};
 ghost use Rattle.live_play.specs.Readable.{first_unread};
 ghost use Rattle.live_gateway.specs.Answering.{DoesLine, AnswersRequest};
 ghost use Rattle.live_gateway.specs.Leaving.{OnlyPlays, OnlyTicks, DoesVisit, Leaves};
+ghost use Rattle.live_gateway.specs.Opening.{CountsNothing, BeginsBoard, BeginsNetwork, BeginsRecords, IsUnused, IsUnplayed, IsUntyped};
 ghost use Rattle.live_gateway.specs.Turning.{Tries, LooksForOne, DoesLines, Does, DoesNext, RunsTurns};
 ghost use Rattle.traces.specs.Writing.{passed};
 
 use crate::admission::Admission;
 use crate::arriving::{read_address, read_bytes};
-use crate::exchange::Exchange;
+use crate::exchange::{Exchange, exchange_of};
+use crate::opening::{DeskSettings, play_of};
 use crate::turn_parts::{answer_act, note_datagram, note_taken, situation, take_from_page, typist};
 use crate::visitors::Visitors;
-use gateway_core::DATAGRAM_ROOM;
-use live_journal::{Recorder, report_with};
-use live_outlets::DONE;
+use gateway_core::{DATAGRAM_ROOM, Gateway};
+use live_journal::{Recorder, Trace, report_with};
+use live_outlets::{DONE, boxed};
 use live_play::LivePlay;
 use live_telephones::{
     PHONES_FROM_AFAR, TelephoneRequest, Watch, all_shown, answer_put, lost_of, question_answer,
@@ -95,36 +98,52 @@ fn is_end(turn: Turn) -> bool
     matches!(turn, Turn::End)
 }
 
-impl<S: Surroundings + Drop, T: Teller + Drop> Desk<S, T> {
-    /// A gateway over this exchange, to which these are admitted, and which ends at a moment of its clock, in ms, if one is given.
-    pub fn new(
-        alloc: Global,
-        play: LivePlay<T>,
-        exchange: Exchange<S>,
-        lines: Lines,
-        admission: Admission,
-        end: Option<u64>,
-    ) -> Desk<S, T>
-        ensures play { result.play ≡ play }
-        ensures exchange { result.exchange ≡ exchange }
-        ensures lines { result.lines ≡ lines }
-        ensures admission { result.admission ≡ admission }
-        ensures end { result.end ≡ end }
-        ensures begins { (result.is_of_page ≡ false) × (result.schedule ≡ opening 0) × IsUnwatched result.watch }
-    {
-        Desk {
-            alloc,
-            play,
-            exchange,
-            lines,
-            admission,
-            is_of_page: false,
-            watch: Watch::new(alloc),
-            schedule: Schedule::starting_at(0),
-            end,
-        }
-    }
+/// A gateway over these surroundings, as the settings ask for it, which hears these; its trace has begun with this configuration.
+/// The only error is want of memory.
+#[tactic(auto)]
+pub fn open_desk<S: Surroundings + Drop>(
+    alloc: Global,
+    settings: &DeskSettings<'_>,
+    config: &[u8],
+    gateway: Box<Gateway>,
+    around: Box<S>,
+    admission: Admission,
+) -> Result<Box<Desk<S, Trace>>, AllocError>
+    ensures around { IfOk result (λ desk. desk.value.exchange.around ≡ around.value) }
+    ensures gateway { IfOk result (λ desk. desk.value.play.gateway ≡ gateway) }
+    ensures admission { IfOk result (λ desk. desk.value.admission ≡ admission) }
+    ensures end { IfOk result (λ desk. desk.value.end ≡ settings.now.end) }
+    ensures trace { IfOk result (λ desk. Begins settings.now.has_trace (trace_head config.now gateway.value.setup.first)
+        desk.value.play.teller.record) }
+    ensures spoilt { IfOk result (λ desk. BeginsNetwork settings.now.network gateway.value.setup.names.domain desk.value.exchange.network) }
+    ensures page { IfOk result (λ desk. BeginsBoard settings.now.has_page desk.value.exchange.journal.board) }
+    ensures unused { IfOk result (λ desk. IsUnused desk.value.exchange) }
+    ensures unplayed { IfOk result (λ desk. IsUnplayed desk.value.play) }
+    ensures untyped { IfOk result (λ desk. IsUntyped desk.value.lines) }
+    ensures counted { IfOk result (λ desk. CountsNothing desk.value.exchange.journal.tally.value) }
+    ensures recorded { IfOk result (λ desk. BeginsRecords settings.now gateway.value.setup.names.domain desk.value.exchange.journal) }
+    ensures begins { IfOk result (λ desk. (desk.value.is_of_page ≡ false) × (desk.value.schedule ≡ opening 0)
+        × IsUnwatched desk.value.watch) }
+{
+    let lines = Lines::new(alloc)?;
+    let domain = gateway.setup().names.domain.as_bytes();
+    let exchange = exchange_of(alloc, settings, domain, around)?;
+    let play = play_of(alloc, settings.has_trace, config, gateway);
+    let desk = Desk {
+        alloc,
+        play,
+        exchange,
+        lines,
+        admission,
+        is_of_page: false,
+        watch: Watch::new(alloc),
+        schedule: Schedule::starting_at(0),
+        end: settings.end,
+    };
+    boxed(alloc, desk)
+}
 
+impl<S: Surroundings + Drop, T: Teller + Drop> Desk<S, T> {
     // The clock goes on.
     fn tick(&mut self, moment: u64)
         requires { (moment < first_unread) × ((events : List GatewayEvent) → Stands self.old.play.gateway.value events

@@ -17,11 +17,11 @@ mod turn_parts;
 mod visitors;
 
 pub use crate::admission::{Admission, speakers_of};
-pub use crate::desk::Desk;
+pub use crate::desk::{Desk, open_desk};
 pub use crate::ending::end_desk;
 pub use crate::exchange::Exchange;
 pub use crate::naming::agents_line;
-pub use crate::opening::{DeskSettings, open_desk};
+pub use crate::opening::DeskSettings;
 pub use crate::spoilt_way::SpoiltWay;
 pub use crate::visitors::Visitors;
 pub use live_outlets::boxed;

@@ -1,17 +1,10 @@
-//! Opens a gateway that runs, over surroundings that it is given: its journal, the way between it and others, its play and its desk, as
-//! is asked for. Each part is made by a function of its own, since a check pays for all that a value holds inline at each step of a
-//! function that has it.
-ghost use Rattle.std.specs.Prelude.{◌≡◌, [], false, is_some, IfOk};
+//! What a gateway that runs begins with, as is asked for: its journal, the network before its sockets, and its play. Each part is made by
+//! a function of its own, since a check pays for all that a value holds inline at each step of a function that has it.
+ghost use Rattle.std.specs.Prelude.{◌≡◌, [], IfOk};
 ghost use Rattle.bad_network.specs.Naming.{named};
-ghost use Rattle.turns.specs.Schedule.{opening};
 ghost use Rattle.live_journal.specs.Recording.{trace_head, Begins};
-ghost use Rattle.live_telephones.specs.Watching.{IsUnwatched};
-ghost use Rattle.live_gateway.specs.Opening.{CountsNothing, BeginsBoard, BeginsLog, BeginsCapture, BeginsRecords, SpoilsBy};
-ghost use Rattle.live_gateway.specs.Opening.{BeginsNetwork, IsUnused, IsUnplayed, IsUntyped};
+ghost use Rattle.live_gateway.specs.Opening.{CountsNothing, BeginsBoard, BeginsLog, BeginsCapture, BeginsRecords, BeginsNetwork, SpoilsBy, IsUnplayed};
 
-use crate::admission::Admission;
-use crate::desk::Desk;
-use crate::exchange::exchange_of;
 use crate::spoilt_way::SpoiltWay;
 use bad_network::{BadNetwork, Spoiling};
 use gateway_core::Gateway;
@@ -22,7 +15,6 @@ use message_counts::MessageTally;
 use page_board::Board;
 use std::alloc::{AllocError, Global};
 use std::net::SocketAddrV4;
-use surroundings::{Lines, Surroundings};
 use told_messages::Log;
 
 /// What is asked of a gateway that runs, beside its configuration.
@@ -112,45 +104,16 @@ pub(crate) fn network_of(
 }
 
 // A gateway that is played, and its trace, which has its head.
-fn play_of(alloc: Global, has_trace: bool, config: &[u8], gateway: Box<Gateway>) -> LivePlay<Trace>
+pub(crate) fn play_of(
+    alloc: Global,
+    has_trace: bool,
+    config: &[u8],
+    gateway: Box<Gateway>,
+) -> LivePlay<Trace>
     ensures gateway { result.gateway ≡ gateway }
     ensures trace { Begins has_trace (trace_head config.now gateway.value.setup.first) result.teller.record }
     ensures unplayed { IsUnplayed result }
 {
     let trace = Trace::new(alloc, has_trace, config, gateway.setup().first);
     LivePlay::new(alloc, gateway, trace)
-}
-
-/// A gateway over these surroundings, as the settings ask for it, which hears these; its trace has begun with this configuration.
-/// The only error is want of memory.
-pub fn open_desk<S: Surroundings + Drop>(
-    alloc: Global,
-    settings: &DeskSettings<'_>,
-    config: &[u8],
-    gateway: Box<Gateway>,
-    around: Box<S>,
-    admission: Admission,
-) -> Result<Box<Desk<S, Trace>>, AllocError>
-    ensures around { IfOk result (λ desk. desk.value.exchange.around ≡ around.value) }
-    ensures gateway { IfOk result (λ desk. desk.value.play.gateway ≡ gateway) }
-    ensures admission { IfOk result (λ desk. desk.value.admission ≡ admission) }
-    ensures end { IfOk result (λ desk. desk.value.end ≡ settings.now.end) }
-    ensures trace { IfOk result (λ desk. Begins settings.now.has_trace (trace_head config.now gateway.value.setup.first)
-        desk.value.play.teller.record) }
-    ensures spoilt { IfOk result (λ desk. BeginsNetwork settings.now.network gateway.value.setup.names.domain desk.value.exchange.network) }
-    ensures page { IfOk result (λ desk. BeginsBoard settings.now.has_page desk.value.exchange.journal.board) }
-    ensures unused { IfOk result (λ desk. IsUnused desk.value.exchange) }
-    ensures unplayed { IfOk result (λ desk. IsUnplayed desk.value.play) }
-    ensures untyped { IfOk result (λ desk. IsUntyped desk.value.lines) }
-    ensures counted { IfOk result (λ desk. CountsNothing desk.value.exchange.journal.tally.value) }
-    ensures recorded { IfOk result (λ desk. BeginsRecords settings.now gateway.value.setup.names.domain desk.value.exchange.journal) }
-    ensures begins { IfOk result (λ desk. (desk.value.is_of_page ≡ false) × (desk.value.schedule ≡ opening 0)
-        × IsUnwatched desk.value.watch) }
-{
-    let lines = Lines::new(alloc)?;
-    let domain = gateway.setup().names.domain.as_bytes();
-    let exchange = exchange_of(alloc, settings, domain, around)?;
-    let play = play_of(alloc, settings.has_trace, config, gateway);
-    let desk = Desk::new(alloc, play, exchange, lines, admission, settings.end);
-    boxed(alloc, desk)
 }
