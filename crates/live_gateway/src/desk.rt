@@ -27,7 +27,7 @@ ghost use Rattle.traces.specs.Writing.{passed};
 use crate::admission::Admission;
 use crate::arriving::{read_address, read_bytes};
 use crate::exchange::{Exchange, exchange_of};
-use crate::opening::{DeskSettings, play_of};
+use crate::opening::DeskSettings;
 use crate::turn_parts::{answer_act, note_datagram, note_taken, situation, take_from_page, typist};
 use crate::visitors::Visitors;
 use gateway_core::{DATAGRAM_ROOM, Gateway};
@@ -128,10 +128,10 @@ pub fn open_desk<S: Surroundings + Drop>(
     let lines = Lines::new(alloc)?;
     let domain = gateway.setup().names.domain.as_bytes();
     let exchange = exchange_of(alloc, settings, domain, around)?;
-    let play = play_of(alloc, settings.has_trace, config, gateway);
+    let trace = Trace::new(alloc, settings.has_trace, config, gateway.setup().first);
     let desk = Desk {
         alloc,
-        play,
+        play: LivePlay::new(alloc, gateway, trace),
         exchange,
         lines,
         admission,

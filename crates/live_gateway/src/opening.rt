@@ -1,16 +1,13 @@
-//! What a gateway that runs begins with, as is asked for: its journal, the network before its sockets, and its play. Each part is made by
-//! a function of its own, since a check pays for all that a value holds inline at each step of a function that has it.
+//! What a gateway that runs begins with, as is asked for: its journal, and the network before its sockets. Each part is made by a function
+//! of its own, since a check pays for all that a value holds inline at each step of a function that has it.
 ghost use Rattle.std.specs.Prelude.{◌≡◌, [], IfOk};
 ghost use Rattle.bad_network.specs.Naming.{named};
-ghost use Rattle.live_journal.specs.Recording.{trace_head, Begins};
-ghost use Rattle.live_gateway.specs.Opening.{CountsNothing, BeginsBoard, BeginsLog, BeginsCapture, BeginsRecords, BeginsNetwork, SpoilsBy, IsUnplayed};
+ghost use Rattle.live_gateway.specs.Opening.{CountsNothing, BeginsBoard, BeginsLog, BeginsCapture, BeginsRecords, BeginsNetwork, SpoilsBy};
 
 use crate::spoilt_way::SpoiltWay;
 use bad_network::{BadNetwork, Spoiling};
-use gateway_core::Gateway;
-use live_journal::{Capture, Journal, Trace};
+use live_journal::{Capture, Journal};
 use live_outlets::{Written, boxed};
-use live_play::LivePlay;
 use message_counts::MessageTally;
 use page_board::Board;
 use std::alloc::{AllocError, Global};
@@ -101,19 +98,4 @@ pub(crate) fn network_of(
         Some(spoiling) => Ok(Some(spoilt_by(alloc, spoiling, domain)?)),
         None => Ok(None),
     }
-}
-
-// A gateway that is played, and its trace, which has its head.
-pub(crate) fn play_of(
-    alloc: Global,
-    has_trace: bool,
-    config: &[u8],
-    gateway: Box<Gateway>,
-) -> LivePlay<Trace>
-    ensures gateway { result.gateway ≡ gateway }
-    ensures trace { Begins has_trace (trace_head config.now gateway.value.setup.first) result.teller.record }
-    ensures unplayed { IsUnplayed result }
-{
-    let trace = Trace::new(alloc, has_trace, config, gateway.setup().first);
-    LivePlay::new(alloc, gateway, trace)
 }
