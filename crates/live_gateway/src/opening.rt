@@ -1,8 +1,7 @@
 //! What a gateway that runs begins with, as is asked for: its journal, and the network before its sockets. Each part is made by a function
 //! of its own, since a check pays for all that a value holds inline at each step of a function that has it.
-ghost use Rattle.std.specs.Prelude.{◌≡◌, [], IfOk};
-ghost use Rattle.bad_network.specs.Naming.{named};
-ghost use Rattle.live_gateway.specs.Opening.{CountsNothing, BeginsBoard, BeginsLog, BeginsCapture, BeginsRecords, BeginsNetwork, SpoilsBy};
+ghost use Rattle.std.specs.Prelude.{IfOk};
+ghost use Rattle.live_gateway.specs.Opening.{CountsNothing, BeginsBoard, BeginsLog, BeginsCapture, BeginsRecords, BeginsNetwork};
 
 use crate::spoilt_way::SpoiltWay;
 use bad_network::{BadNetwork, Spoiling};
@@ -78,15 +77,7 @@ pub(crate) fn journal_of(
     })
 }
 
-// A network of the gateway's own, which spoils as this says.
-fn spoilt_by(alloc: Global, spoiling: Spoiling, domain: &[u8]) -> Result<Box<SpoiltWay>, AllocError>
-    ensures { IfOk result (λ way. (way.value.network.waiting.items ≡ []) × SpoilsBy (named spoiling domain.now) way.value.network) }
-{
-    let network = BadNetwork::new(alloc, spoiling.with_name(domain));
-    boxed(alloc, SpoiltWay::new(alloc, network))
-}
-
-// The bad network, if one is asked for.
+// The bad network, if one is asked for: the gateway's own, which spoils as was asked.
 pub(crate) fn network_of(
     alloc: Global,
     asked: Option<Spoiling>,
@@ -95,7 +86,10 @@ pub(crate) fn network_of(
     ensures { IfOk result (λ network. BeginsNetwork asked domain.now network) }
 {
     match asked {
-        Some(spoiling) => Ok(Some(spoilt_by(alloc, spoiling, domain)?)),
+        Some(spoiling) => {
+            let network = BadNetwork::new(alloc, spoiling.with_name(domain));
+            Ok(Some(boxed(alloc, SpoiltWay::new(alloc, network))?))
+        }
         None => Ok(None),
     }
 }
