@@ -68,21 +68,6 @@ impl<S: Drop> Drop for Exchange<S> {
     }
 }
 
-// What a gateway tells of the event that it took last.
-fn taken_of(gateway: &Gateway) -> Taken<'_>
-    ensures outcomes { result.outcomes.now ≡ gateway.now.outcomes }
-    ensures sent { result.sent.now ≡ gateway.now.account.sent }
-    ensures given_up { result.given_up.now ≡ gateway.now.account.given_up }
-    ensures route { result.route.now ≡ gateway.now.setup.agent.route }
-{
-    Taken {
-        outcomes: gateway.outcomes(),
-        sent: gateway.sent(),
-        given_up: gateway.given_up(),
-        route: &gateway.setup().agent.route,
-    }
-}
-
 /// The way between the gateway of this domain and others, over which nothing went. Its only error is want of memory.
 pub(crate) fn exchange_of<S: Surroundings + Drop>(
     alloc: Global,
@@ -449,7 +434,13 @@ impl<S: Surroundings + Drop> Outlet for Exchange<S> {
     ghost hands = { λ was to bytes messages mark is. HandsOver S.sends was to bytes messages mark is };
 
     fn turned(&mut self, gateway: &Gateway) {
-        self.journal.turned(self.now, &taken_of(gateway));
+        let taken = Taken {
+            outcomes: gateway.outcomes(),
+            sent: gateway.sent(),
+            given_up: gateway.given_up(),
+            route: &gateway.setup().agent.route,
+        };
+        self.journal.turned(self.now, &taken);
     }
 
     fn hand(&mut self, to: SocketAddrV4, bytes: &[u8], messages: &[SentMessage]) -> Option<Mark>
