@@ -3,7 +3,7 @@ ghost use Rattle.std.specs.Prelude.{◌≡◌, OnOk, IfOk};
 ghost use Rattle.std.specs.List.{fold};
 ghost use Rattle.endpoint_names.specs.Route.{addresses};
 ghost use Rattle.surroundings.specs.Speaking.{admitted_by};
-ghost use Rattle.live_gateway.specs.Admitting.{with_hosts, hosts_of, with_named, known_to, is_loopback, is_at, is_sent_by, is_its_own, is_heard};
+ghost use Rattle.live_gateway.specs.Admitting.{with_hosts, hosts_of, with_named, known_to, is_at, is_sent_by, is_its_own, is_heard};
 
 use endpoint_names::{Host, Route};
 use plain_machine::Setup;
@@ -32,18 +32,12 @@ impl Drop for Admission {
     }
 }
 
-// Whether no other machine can send from this address, 127.0.0.0/8 (RFC 1122, 3.2.1.3).
-fn is_loopback(octets: &[u8]) -> bool
-    ensures { result ≡ is_loopback octets.now }
-{
-    octets.starts_with([127u8].as_slice())
-}
-
-// Whether the host of a socket here is at this address, as far as that can be told.
+// Whether the host of a socket here is at this address, as far as that can be told: no other machine can send from 127.0.0.0/8 (RFC 1122,
+// 3.2.1.3).
 fn is_at(own: &[u8], sender: &[u8]) -> bool
     ensures { result ≡ is_at own.now sender.now }
 {
-    own == sender || (own == [0u8, 0, 0, 0].as_slice() && is_loopback(sender))
+    own == sender || (own == [0u8, 0, 0, 0].as_slice() && sender.starts_with([127u8].as_slice()))
 }
 
 // Whether what has this sender came from the socket here.
