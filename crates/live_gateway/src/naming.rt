@@ -2,7 +2,7 @@
 ghost use Rattle.std.specs.Prelude.{◌≡◌, IfOk, OnOk, option_copied};
 ghost use Rattle.std.specs.List.{fold};
 ghost use Rattle.endpoint_names.specs.Route.{addresses};
-ghost use Rattle.live_gateway.specs.Naming.{word_of, no_word, with_named_host, with_all, with_each, known_word, agents_line};
+ghost use Rattle.live_gateway.specs.Naming.{word_of, with_named_host, with_all, with_each, known_word, agents_line};
 
 use crate::admission::hosts_of;
 use endpoint_names::{Host, Route};
@@ -22,17 +22,6 @@ struct Named {
 }
 
 impl Named {
-    // No address is named yet.
-    fn nothing(alloc: Global) -> Named
-        ensures { word_of result ≡ no_word }
-    {
-        Named {
-            alloc,
-            text: Vec::new(alloc),
-            speakers: Speakers::nobody(alloc),
-        }
-    }
-
     // An address is named, where it isn't admitted yet; commas part those that are.
     fn name(&mut self, host: Ipv4Addr) -> Result<(), OutOfMemory>
         ensures { OnOk result (word_of self.new ≡ with_named_host (word_of self.old) host) }
@@ -84,7 +73,11 @@ impl Named {
 fn known_word(alloc: Global, setup: &Setup) -> Result<Vec<u8>, OutOfMemory>
     ensures { IfOk result (λ word. word.items ≡ known_word setup.now) }
 {
-    let mut named = Named::nothing(alloc);
+    let mut named = Named {
+        alloc,
+        text: Vec::new(alloc),
+        speakers: Speakers::nobody(alloc),
+    };
     named.name_route(hosts_of(&setup.agent.route))?;
     named.name_each(setup.names.table.hosts())?;
     Ok(named.text)
