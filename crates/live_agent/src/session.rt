@@ -4,7 +4,7 @@ ghost use Rattle.live_agent.specs.Clock.{is_behind};
 ghost use Rattle.live_agent.specs.Datagrams.{HearsAt, HearsDatagram, HearsTexts, TakesAll, TakesDatagram, TakesEach, TakesNext, TakesOver, TakesReceived};
 ghost use Rattle.live_agent.specs.Handing.{HandsTo};
 ghost use Rattle.live_agent.specs.Sending.{SendsCommand, SendsOutputs};
-ghost use Rattle.live_agent.specs.Settling.{SendsEach, SendsIssued, SendsNext, SettlesAll, ShowsEach, ShowsOne};
+ghost use Rattle.live_agent.specs.Settling.{SendsEach, SendsIssued, SendsNext, SettlesAll, ShowsEach};
 ghost use Rattle.live_agent.specs.Ticking.{GivesUpAll, GivesUpEach, GivesUpNext, TicksAll, TicksEach, TicksOne, WakesAll, WakesEach, WakesNext};
 ghost use Rattle.live_agent.specs.Serving.{Runs, Serves, TurnsOnce, Writes};
 ghost use Rattle.transmission.specs.Texts.{texts_of};
@@ -53,19 +53,12 @@ fn is_behind(moment: u64, ticked: u64) -> bool
     LONGEST_LAG < moment.saturating_sub(ticked)
 }
 
-// Tells how the line stands that is settled so many behind the first, where that has changed.
-fn show_next<S: Surroundings + Drop>(board: &mut Switchboard, wire: &mut Wire<S>, index: usize)
-    ensures { ShowsOne index board.old wire.old board.new wire.new }
-{
-    board.show(&mut wire.journal, index);
-}
-
-// So it does of so many lines, one behind another.
+// Tells how so many lines that are settled stand, one behind another, where that has changed.
 fn show_each<S: Surroundings + Drop>(board: &mut Switchboard, wire: &mut Wire<S>, lines: usize)
     ensures { ShowsEach lines board.old wire.old board.new wire.new }
 {
     for index in 0..lines {
-        show_next(board, wire, index);
+        board.show(&mut wire.journal, index);
     }
 }
 
