@@ -4,7 +4,7 @@ ghost use Rattle.live_agent.specs.Clock.{is_behind};
 ghost use Rattle.live_agent.specs.Datagrams.{HearsAt, HearsDatagram, HearsTexts, TakesAll, TakesDatagram, TakesEach, TakesNext, TakesOver, TakesReceived};
 ghost use Rattle.live_agent.specs.Handing.{HandsTo};
 ghost use Rattle.live_agent.specs.Sending.{SendsCommand, SendsOutputs};
-ghost use Rattle.live_agent.specs.Settling.{SendsEach, SendsIssued, SendsNext, SettlesAll, ShowsEach};
+ghost use Rattle.live_agent.specs.Settling.{SendsEach, SendsIssued, SettlesAll, ShowsEach};
 ghost use Rattle.live_agent.specs.Ticking.{GivesUpAll, GivesUpEach, GivesUpNext, TicksAll, TicksEach, TicksOne, WakesAll, WakesEach, WakesNext};
 ghost use Rattle.live_agent.specs.Serving.{Runs, Serves, TurnsOnce, Writes};
 ghost use Rattle.transmission.specs.Texts.{texts_of};
@@ -76,20 +76,13 @@ fn send_if_issued<S: Surroundings + Drop>(
     }
 }
 
-// Sends the line that is settled so many behind the first what it is to be sent.
-fn send_next<S: Surroundings + Drop>(board: &mut Switchboard, wire: &mut Wire<S>, index: usize)
-    ensures { SendsNext (HandsTo S.sends S.traffic) index board.old wire.old board.new wire.new }
-{
-    let issued = board.issue_next(index);
-    send_if_issued(wire, issued);
-}
-
-// So it does to so many lines, one behind another.
+// Sends so many lines that are settled what they are to be sent, one behind another.
 fn send_each<S: Surroundings + Drop>(board: &mut Switchboard, wire: &mut Wire<S>, lines: usize)
     ensures { SendsEach (HandsTo S.sends S.traffic) lines board.old wire.old board.new wire.new }
 {
     for index in 0..lines {
-        send_next(board, wire, index);
+        let issued = board.issue_next(index);
+        send_if_issued(wire, issued);
     }
 }
 

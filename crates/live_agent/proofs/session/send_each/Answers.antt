@@ -8,5 +8,12 @@ loop-index-init g c = (refl, refl)
 
 pub loop-index-preserved : goal.loop-index-preserved
 loop-index-preserved g c =
-    issued_more (HandsTo g.S.Surroundings.sends g.S.Surroundings.traffic) c.loop-index.index c.args.board.now c.loop-index.board c.send_next.new.board c.args.wire.now c.loop-index.wire c.send_next.new.wire
-    c.loop-index.invariant c.send_next.ensures
+    issued_more (HandsTo g.S.Surroundings.sends g.S.Surroundings.traffic) c.loop-index.index c.args.board.now c.loop-index.board c.issue_next-issued.new.self c.args.wire.now c.loop-index.wire c.send_if_issued.new.wire
+    c.loop-index.invariant (record {
+      issued = c.issue_next-issued.result;
+      office = c.issue_next-issued.ensures.office;
+      issues = c.issue_next-issued.ensures.issued;
+      alone = c.issue_next-issued.ensures.alone;
+      rest = c.issue_next-issued.ensures.rest;
+      goes = c.send_if_issued.ensures;
+    })
