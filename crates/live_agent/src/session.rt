@@ -5,7 +5,7 @@ ghost use Rattle.live_agent.specs.Datagrams.{HearsAt, HearsDatagram, HearsTexts,
 ghost use Rattle.live_agent.specs.Handing.{HandsTo};
 ghost use Rattle.live_agent.specs.Sending.{SendsCommand, SendsOutputs};
 ghost use Rattle.live_agent.specs.Settling.{SendsEach, SendsIssued, SettlesAll, ShowsEach};
-ghost use Rattle.live_agent.specs.Ticking.{GivesUpAll, GivesUpEach, GivesUpNext, TicksAll, TicksEach, TicksOne, WakesAll, WakesEach, WakesNext};
+ghost use Rattle.live_agent.specs.Ticking.{GivesUpAll, GivesUpEach, GivesUpNext, TicksAll, TicksEach, WakesAll, WakesEach, WakesNext};
 ghost use Rattle.live_agent.specs.Serving.{Runs, Serves, TurnsOnce, Writes};
 ghost use Rattle.transmission.specs.Texts.{texts_of};
 ghost use Rattle.live_agent.specs.Turning.{stop_request, line_request, AsksFirst, AnswersWith, TellsCounts, DoesRequest, AnswersFirst, TakesTyped, DoesTurn, DoesNext};
@@ -497,20 +497,7 @@ fn wake_each(board: &mut Switchboard, gateways: usize)
     }
 }
 
-// The clock of the agent of the gateway at this place goes on, and what it says is sent, again.
-fn tick_next<S: Surroundings + Drop>(
-    board: &mut Switchboard,
-    wire: &mut Wire<S>,
-    to: u64,
-    place: usize,
-)
-    ensures { TicksOne (HandsTo S.sends S.traffic) to place board.old wire.old board.new wire.new }
-{
-    let outputs = board.tick(place, to);
-    let _ = send_outputs(wire, outputs, true);
-}
-
-// The same of so many gateways, one behind another.
+// The clocks of the agents of so many gateways go on, one behind another, and what each says is sent, again.
 fn tick_each<S: Surroundings + Drop>(
     board: &mut Switchboard,
     wire: &mut Wire<S>,
@@ -520,7 +507,8 @@ fn tick_each<S: Surroundings + Drop>(
     ensures { TicksEach (HandsTo S.sends S.traffic) to gateways board.old wire.old board.new wire.new }
 {
     for place in 0..gateways {
-        tick_next(board, wire, to, place);
+        let outputs = board.tick(place, to);
+        let _ = send_outputs(wire, outputs, true);
     }
 }
 
