@@ -5,7 +5,7 @@ ghost use Rattle.live_agent.specs.Datagrams.{HearsAt, HearsDatagram, HearsTexts,
 ghost use Rattle.live_agent.specs.Handing.{HandsTo};
 ghost use Rattle.live_agent.specs.Sending.{SendsCommand, SendsOutputs};
 ghost use Rattle.live_agent.specs.Settling.{SendsEach, SendsIssued, SettlesAll, ShowsEach};
-ghost use Rattle.live_agent.specs.Ticking.{GivesUpAll, GivesUpEach, GivesUpNext, TicksAll, TicksEach, WakesAll, WakesEach, WakesNext};
+ghost use Rattle.live_agent.specs.Ticking.{GivesUpAll, GivesUpEach, TicksAll, TicksEach, WakesAll, WakesEach, WakesNext};
 ghost use Rattle.live_agent.specs.Serving.{Runs, Serves, TurnsOnce, Writes};
 ghost use Rattle.transmission.specs.Texts.{texts_of};
 ghost use Rattle.live_agent.specs.Turning.{stop_request, line_request, AsksFirst, AnswersWith, TellsCounts, DoesRequest, AnswersFirst, TakesTyped, DoesTurn, DoesNext};
@@ -434,23 +434,12 @@ fn take_line<S: Surroundings + Drop>(
     answer_request(alloc, board, wire);
 }
 
-// The next command to a gateway that is given up by now is so, if one is: whether it was.
-fn give_up_next<S: Surroundings + Drop>(
-    board: &mut Switchboard,
-    wire: &mut Wire<S>,
-    place: usize,
-) -> bool
-    ensures { GivesUpNext result place board.old wire.old board.new wire.new }
-{
-    board.give_up(&mut wire.journal, place, wire.now.time)
-}
-
-// What is given up by now of the commands to a gateway.
+// What is given up by now of the commands to a gateway, one behind another.
 fn give_up<S: Surroundings + Drop>(board: &mut Switchboard, wire: &mut Wire<S>, place: usize)
     ensures { GivesUpAll (HandsTo S.sends S.traffic) place board.old wire.old board.new wire.new }
 {
     for _ in 0..MOST_AT_ONCE {
-        if !give_up_next(board, wire, place) {
+        if !board.give_up(&mut wire.journal, place, wire.now.time) {
             return;
         }
         settle(board, wire);
