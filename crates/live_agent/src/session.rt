@@ -5,7 +5,7 @@ ghost use Rattle.live_agent.specs.Datagrams.{HearsAt, HearsDatagram, HearsTexts,
 ghost use Rattle.live_agent.specs.Handing.{HandsTo};
 ghost use Rattle.live_agent.specs.Sending.{SendsCommand, SendsOutputs};
 ghost use Rattle.live_agent.specs.Settling.{SendsEach, SendsIssued, SettlesAll, ShowsEach};
-ghost use Rattle.live_agent.specs.Ticking.{GivesUpAll, GivesUpEach, TicksAll, TicksEach, WakesAll, WakesEach, WakesNext};
+ghost use Rattle.live_agent.specs.Ticking.{GivesUpAll, GivesUpEach, TicksAll, TicksEach, WakesAll, WakesEach};
 ghost use Rattle.live_agent.specs.Serving.{Runs, Serves, TurnsOnce, Writes};
 ghost use Rattle.transmission.specs.Texts.{texts_of};
 ghost use Rattle.live_agent.specs.Turning.{stop_request, line_request, AsksFirst, AnswersWith, TellsCounts, DoesRequest, AnswersFirst, TakesTyped, DoesTurn, DoesNext};
@@ -459,19 +459,12 @@ fn give_up_each<S: Surroundings + Drop>(
     }
 }
 
-// The next line of a gateway to which what was put off is sent again by now waits to be settled, if there is one: whether there was.
-fn wake_next(board: &mut Switchboard, place: usize) -> bool
-    ensures { WakesNext result place board.old board.new }
-{
-    board.wake(place)
-}
-
-// The lines of a gateway to which what was put off is sent again by now wait to be settled.
+// The lines of a gateway to which what was put off is sent again by now wait to be settled, one behind another.
 fn wake(board: &mut Switchboard, place: usize)
     ensures { WakesAll place board.old board.new }
 {
     for _ in 0..MOST_AT_ONCE {
-        if !wake_next(board, place) {
+        if !board.wake(place) {
             return;
         }
     }

@@ -8,18 +8,34 @@ loop-init c = refl
 
 pub loop-preserved : goal.loop-preserved
 loop-preserved c =
-    let some : c.wake_next.result ≡ true = search rules in
-    woken_more c.args.place c.loop.counter c.args.board.now c.loop.board c.wake_next.new.board c.loop.invariant
-    (woken_so c.wake_next.result true c.args.place c.loop.board c.wake_next.new.board some c.wake_next.ensures)
+    let some : c.wake.result ≡ true = search rules in
+    woken_more c.args.place c.loop.counter c.args.board.now c.loop.board c.wake.new.self c.loop.invariant
+    (woken_so c.wake.result true c.args.place c.loop.board c.wake.new.self some (record {
+      is_found = c.wake.ensures.found;
+      line = c.wake.ensures.line;
+      lines = c.wake.ensures.lines;
+      gateway = c.wake.ensures.gateway;
+      own = c.wake.ensures.own;
+      others = c.wake.ensures.others;
+      rest = c.wake.ensures.rest;
+    }))
 
-pub returns-then-not-wake_next : goal.returns-then-not-wake_next
-returns-then-not-wake_next c =
-    let none : c.wake_next.result ≡ false = search rules in
+pub returns-then-not-wake : goal.returns-then-not-wake
+returns-then-not-wake c =
+    let none : c.wake.result ≡ false = search rules in
     record {
       count = c.loop.counter;
       woken = c.loop.board;
       many = c.loop.invariant;
-      last = inl (woken_so c.wake_next.result false c.args.place c.loop.board c.wake_next.new.board none c.wake_next.ensures);
+      last = inl (woken_so c.wake.result false c.args.place c.loop.board c.wake.new.self none (record {
+        is_found = c.wake.ensures.found;
+        line = c.wake.ensures.line;
+        lines = c.wake.ensures.lines;
+        gateway = c.wake.ensures.gateway;
+        own = c.wake.ensures.own;
+        others = c.wake.ensures.others;
+        rest = c.wake.ensures.rest;
+      }));
     }
 
 pub returns : goal.returns
