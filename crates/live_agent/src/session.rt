@@ -1,7 +1,7 @@
 //! Serves gateways and whoever types commands, a turn at a time, as a schedule says what comes next.
 ghost use Rattle.std.specs.Prelude.{◌≡◌, ◌||◌, ℕ, [], true, false, List, Option, Err, IfOk, IfErr};
 ghost use Rattle.live_agent.specs.Clock.{is_behind};
-ghost use Rattle.live_agent.specs.Datagrams.{HearsAt, HearsDatagram, HearsTexts, TakesAll, TakesDatagram, TakesEach, TakesNext, TakesOver, TakesReceived};
+ghost use Rattle.live_agent.specs.Datagrams.{HearsAt, HearsDatagram, HearsTexts, TakesAll, TakesDatagram, TakesEach, TakesOver, TakesReceived};
 ghost use Rattle.live_agent.specs.Handing.{HandsTo};
 ghost use Rattle.live_agent.specs.Sending.{SendsCommand, SendsOutputs};
 ghost use Rattle.live_agent.specs.Settling.{SendsEach, SendsIssued, SettlesAll, ShowsEach};
@@ -138,22 +138,7 @@ fn deal_with<S: Surroundings + Drop>(
     }
 }
 
-// What the line told that is taken so many behind the first is taken; where it told anything, lines are settled.
-fn take_next<S: Surroundings + Drop>(
-    board: &mut Switchboard,
-    wire: &mut Wire<S>,
-    place: usize,
-    index: usize,
-)
-    ensures { TakesNext (HandsTo S.sends S.traffic) place index board.old wire.old board.new wire.new }
-{
-    if !board.take(&mut wire.journal, place, index) {
-        return;
-    }
-    settle(board, wire);
-}
-
-// What so many lines of a gateway told is taken, a line at a time.
+// What so many lines of a gateway told is taken, a line at a time; where one told anything, lines are settled.
 fn take_each<S: Surroundings + Drop>(
     board: &mut Switchboard,
     wire: &mut Wire<S>,
@@ -163,7 +148,9 @@ fn take_each<S: Surroundings + Drop>(
     ensures { TakesEach (HandsTo S.sends S.traffic) place lines board.old wire.old board.new wire.new }
 {
     for index in 0..lines {
-        take_next(board, wire, place, index);
+        if board.take(&mut wire.journal, place, index) {
+            settle(board, wire);
+        }
     }
 }
 
