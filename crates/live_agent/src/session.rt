@@ -8,7 +8,7 @@ ghost use Rattle.live_agent.specs.Settling.{SendsEach, SendsIssued, SettlesAll, 
 ghost use Rattle.live_agent.specs.Ticking.{GivesUpAll, GivesUpEach, TicksAll, TicksEach, WakesAll, WakesEach};
 ghost use Rattle.live_agent.specs.Serving.{Runs, Serves, TurnsOnce, Writes};
 ghost use Rattle.transmission.specs.Texts.{texts_of};
-ghost use Rattle.live_agent.specs.Turning.{stop_request, line_request, AsksFirst, AnswersWith, TellsCounts, DoesRequest, AnswersFirst, TakesTyped, DoesTurn, DoesNext};
+ghost use Rattle.live_agent.specs.Turning.{stop_request, line_request, AsksFirst, AnswersWith, TellsCounts, DoesRequest, TakesTyped, DoesTurn, DoesNext};
 ghost use Rattle.live_agent.specs.TypedCommands.{fault_text, issued_text, AnswersCommand, DoesCommand, IsTypedNext};
 ghost use Rattle.surroundings.specs.Typing.{left_of};
 ghost use Rattle.live_agent.specs.Wiring.{due_of, ms_until, longest_until, IsSituation, IsWaitedFor, FallsDueFirst, AsksNext};
@@ -392,19 +392,7 @@ fn do_request<S: Surroundings + Drop>(
     }
 }
 
-// Answers what is typed next, if anything is.
-fn answer_request<S: Surroundings + Drop>(
-    alloc: Global,
-    board: &mut Switchboard,
-    wire: &mut Wire<S>,
-)
-    ensures { AnswersFirst (HandsTo S.sends S.traffic) S.answers board.old board.new wire.old wire.new }
-{
-    let request = request_in(&wire.lines);
-    do_request(alloc, board, wire, request);
-}
-
-// Hears telephones, where a load is made; else answers what is typed next, where it is now this moment.
+// Hears telephones, where a load is made; else answers what is typed next, if anything is, where it is now this moment.
 fn take_line<S: Surroundings + Drop>(
     alloc: Global,
     board: &mut Switchboard,
@@ -418,7 +406,8 @@ fn take_line<S: Surroundings + Drop>(
         return;
     }
     wire.hear_lines();
-    answer_request(alloc, board, wire);
+    let request = request_in(&wire.lines);
+    do_request(alloc, board, wire, request);
 }
 
 // What is given up by now of the commands to a gateway, one behind another.
