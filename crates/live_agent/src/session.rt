@@ -560,21 +560,6 @@ fn longest_until(until: u64, due: Option<u64>, moment: u64) -> u64
     }
 }
 
-// How long is waited at most until this moment, in ms, where it is now that one: no longer than to what falls due of what was issued
-// since it was asked what comes next.
-fn longest_wait<S: Surroundings + Drop>(
-    board: &Switchboard,
-    wire: &Wire<S>,
-    until: u64,
-    moment: u64,
-) -> u64
-    ensures { (due : Option ℕ) × FallsDueFirst moment board.now.gateways.items wire.entry.now.load (due_of wire.entry.now.network) due
-        × (result ≡ longest_until until due moment) }
-{
-    let due = first_due(board, wire, moment);
-    longest_until(until, due, moment)
-}
-
 // A turn of somebody's, or a wait, where it is now this moment.
 fn do_turn<S: Surroundings + Drop>(
     alloc: Global,
@@ -595,8 +580,9 @@ fn do_turn<S: Surroundings + Drop>(
         Turn::Datagram => take_datagram(board, wire),
         Turn::Look => wire.wait(0),
         Turn::Wait { until } => {
-            let longest = longest_wait(board, wire, until, moment);
-            wire.wait(longest);
+            // No longer than to what falls due of what was issued since it was asked what comes next.
+            let due = first_due(board, wire, moment);
+            wire.wait(longest_until(until, due, moment));
         }
         Turn::Note { pause } => wire.note_pause(pause),
         Turn::Visit => {}

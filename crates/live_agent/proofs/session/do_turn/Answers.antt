@@ -24,7 +24,7 @@ returns-in-Wait g c =
     rw (c.in-Wait.is) (
       refl,
       waited_until g.S.Surroundings.traffic g.S.Surroundings.sleeps c.in-Wait.until c.args.moment _ _ c.args.board.now.gateways.items c.args.wire.now
-          c.wait-in-Wait.new.self c.longest_wait-longest.ensures.1 c.longest_wait-longest.ensures.2
+          c.wait-in-Wait.new.self c.first_due-due.ensures c.longest_until.ensures
           (c.wait-in-Wait.ensures.traffic, c.wait-in-Wait.ensures.waited, c.wait-in-Wait.ensures.journal, c.wait-in-Wait.ensures.rest),
     )
 
