@@ -1,7 +1,7 @@
 //! Serves gateways and whoever types commands, a turn at a time, as a schedule says what comes next.
 ghost use Rattle.std.specs.Prelude.{◌≡◌, ◌||◌, ℕ, [], true, false, List, Option, Err, IfOk, IfErr};
 ghost use Rattle.live_agent.specs.Clock.{is_behind};
-ghost use Rattle.live_agent.specs.Datagrams.{HearsAt, HearsDatagram, HearsTexts, TakesAll, TakesDatagram, TakesEach, TakesOver, TakesReceived};
+ghost use Rattle.live_agent.specs.Datagrams.{HearsAt, HearsDatagram, HearsTexts, TakesDatagram, TakesEach, TakesOver, TakesReceived};
 ghost use Rattle.live_agent.specs.Handing.{HandsTo};
 ghost use Rattle.live_agent.specs.Sending.{SendsCommand, SendsOutputs};
 ghost use Rattle.live_agent.specs.Settling.{SendsEach, SendsIssued, SettlesAll, ShowsEach};
@@ -154,15 +154,7 @@ fn take_each<S: Surroundings + Drop>(
     }
 }
 
-// What the lines of a gateway told is taken.
-fn take_told<S: Surroundings + Drop>(board: &mut Switchboard, wire: &mut Wire<S>, place: usize)
-    ensures { TakesAll (HandsTo S.sends S.traffic) place board.old wire.old board.new wire.new }
-{
-    let lines = board.begin_taking(place);
-    take_each(board, wire, place, lines);
-}
-
-// A datagram came from the gateway at this place: its agent hears it, then the board its texts.
+// A datagram came from the gateway at this place: its agent hears it, then the board its texts; and what its lines told is taken.
 fn hear_at<S: Surroundings + Drop>(
     board: &mut Switchboard,
     wire: &mut Wire<S>,
@@ -177,7 +169,8 @@ fn hear_at<S: Surroundings + Drop>(
         return;
     }
     deal_with(board, wire, place, bytes);
-    take_told(board, wire, place);
+    let lines = board.begin_taking(place);
+    take_each(board, wire, place, lines);
 }
 
 // A datagram is heard.

@@ -1,4 +1,5 @@
-use Rattle.std.proofs.Common.{◌≡◌, true, false, rules}
+use Rattle.std.proofs.Common.{◌≡◌, ℕ, true, false, subst, rules}
+use Rattle.live_agent.specs.Datagrams.{TakesEach}
 use Rattle.live_agent.specs.Handing.{HandsTo}
 use Rattle.live_agent.proofs.DatagramLemmas.{dealt_none, dealt_with}
 use Rattle.live_agent.proofs.session.hear_at.Goals as goal
@@ -26,6 +27,12 @@ returns g c =
       sent = c.send_outputs.new.wire;
       steps = record { took = c.step-outputs.ensures.took; stays = c.step-outputs.ensures.err; ends = c.step-outputs.ensures.ends; nobody = c.step-outputs.ensures.nobody; own = c.step-outputs.ensures.own; others = c.step-outputs.ensures.others; rest = c.step-outputs.ensures.rest };
       goes = c.send_outputs.ensures;
-      deals = dealt_with (HandsTo g.S.Surroundings.sends g.S.Surroundings.traffic) c.send_outputs.result c.args.place c.args.bytes.now c.step-outputs.new.self c.deal_with.new.board c.take_told.new.board
-          c.send_outputs.new.wire c.deal_with.new.wire c.take_told.new.wire went c.deal_with.ensures c.take_told.ensures;
+      deals = dealt_with (HandsTo g.S.Surroundings.sends g.S.Surroundings.traffic) c.send_outputs.result c.args.place c.args.bytes.now c.step-outputs.new.self c.deal_with.new.board c.take_each.new.board
+          c.send_outputs.new.wire c.deal_with.new.wire c.take_each.new.wire went c.deal_with.ensures (record {
+            begun = c.begin_taking-lines.new.self;
+            begins = c.begin_taking-lines.ensures.settles;
+            rest = c.begin_taking-lines.ensures.rest;
+            takes = subst (λ (lines : ℕ). TakesEach (HandsTo g.S.Surroundings.sends g.S.Surroundings.traffic) c.args.place lines c.begin_taking-lines.new.self c.deal_with.new.wire c.take_each.new.board c.take_each.new.wire)
+                c.begin_taking-lines.ensures.count c.take_each.ensures;
+          });
     }
