@@ -6,7 +6,7 @@ ghost use Rattle.live_agent.specs.Handing.{HandsTo};
 ghost use Rattle.live_agent.specs.Sending.{SendsCommand, SendsOutputs};
 ghost use Rattle.live_agent.specs.Settling.{SendsEach, SendsIssued, SettlesAll, ShowsEach};
 ghost use Rattle.live_agent.specs.Ticking.{GivesUpAll, GivesUpEach, TicksAll, TicksEach, WakesAll, WakesEach};
-ghost use Rattle.live_agent.specs.Serving.{Runs, Serves, TurnsOnce, Writes};
+ghost use Rattle.live_agent.specs.Serving.{Runs, Serves, TurnsOnce};
 ghost use Rattle.transmission.specs.Texts.{texts_of};
 ghost use Rattle.live_agent.specs.Turning.{stop_request, line_request, AsksFirst, AnswersWith, TellsCounts, DoesRequest, TakesTyped, DoesTurn, DoesNext};
 ghost use Rattle.live_agent.specs.TypedCommands.{fault_text, issued_text, AnswersCommand, DoesCommand, IsTypedNext};
@@ -615,14 +615,6 @@ fn turn<S: Surroundings + Drop>(
     Ok(true)
 }
 
-// Writes what was recorded, as much as is taken at once, and keeps whether some of it waits to be taken.
-fn write_turn<S: Surroundings + Drop, W: Recorder>(wire: &mut Wire<S>, recorder: &mut W)
-    ensures { Writes W.writes wire.old wire.new }
-{
-    recorder.write(&mut wire.journal, wire.now.time);
-    wire.note_offering(recorder.is_offering());
-}
-
 // Has turns until the end comes, and writes after each what was recorded. An error is of the clock.
 fn run<S: Surroundings + Drop, W: Recorder>(
     alloc: Global,
@@ -642,7 +634,9 @@ fn run<S: Surroundings + Drop, W: Recorder>(
         if !goes_on {
             return Ok(());
         }
-        write_turn(wire, recorder);
+        // As much as is taken at once; whether some of it waits to be taken is kept.
+        recorder.write(&mut wire.journal, wire.now.time);
+        wire.note_offering(recorder.is_offering());
     }
     Ok(())
 }
