@@ -282,23 +282,6 @@ fn begin_capture<R: Files>(
     None
 }
 
-// Makes the file of a capture, if one is asked for, once the sockets are had, and serves with this desk, which is let go.
-fn serve_captured<R: Files + Net + Clock>(
-    rt: &R,
-    alloc: Global,
-    board: Switchboard,
-    wire: &mut Wire<Live<'_, R>>,
-    capture: Option<&str>,
-    outlets: &mut Outlets<R::File>,
-) -> CommonEnding {
-    if let Some(ending) = begin_capture(rt, alloc, &mut wire.journal, capture, outlets) {
-        board.close();
-        return ending;
-    }
-    tell_addresses(alloc, &wire.around, outlets);
-    serve_to_end(rt, alloc, board, wire, outlets)
-}
-
 /// Serves the gateways of a configuration until the end, and routes calls between their lines where that is asked for. What happens
 /// is told on standard output; the log, where the sockets are, and at the end what was counted, on standard error; the capture, where
 /// one is asked for, goes into a new file of this name. How the program ends then, also where it doesn't serve to its end.
@@ -311,13 +294,20 @@ pub fn serve_agent<R: Files + Net + Clock>(
     capture: Option<&str>,
     outlets: &mut Outlets<R::File>,
 ) -> CommonEnding {
-    let mut wire = match open_wire(rt, alloc, settings) {
-        Ok(wire) => wire,
+    let mut opened = match open_wire(rt, alloc, settings) {
+        Ok(opened) => opened,
         Err(ending) => return ending,
     };
-    let board = match board_of(alloc, config, is_routed, &wire) {
+    let wire = &mut *opened;
+    let board = match board_of(alloc, config, is_routed, wire) {
         Ok(board) => board,
         Err(ending) => return ending,
     };
-    serve_captured(rt, alloc, board, &mut wire, capture, outlets)
+    // Once the sockets are had.
+    if let Some(ending) = begin_capture(rt, alloc, &mut wire.journal, capture, outlets) {
+        board.close();
+        return ending;
+    }
+    tell_addresses(alloc, &wire.around, outlets);
+    serve_to_end(rt, alloc, board, wire, outlets)
 }
