@@ -6,7 +6,7 @@ ghost use Rattle.load_bench.specs.Over.{bench_over};
 ghost use Rattle.load_bench.specs.Telephones.{CountsCame, CountsSent, Hears};
 ghost use Rattle.live_agent.specs.Clock.{milliseconds};
 ghost use Rattle.live_agent.specs.Handing.{HandsTo};
-ghost use Rattle.live_agent.specs.Serving.{has_served, EndsReported, LoadsOver, Serves, ServesBegun, TurnsOnce};
+ghost use Rattle.live_agent.specs.Serving.{has_served, LoadsOver, Serves, ServesBegun, TurnsOnce};
 ghost use Rattle.live_agent.specs.declared.loading.LoadEnding.TheVariants.{Unmade};
 ghost use Rattle.live_agent.specs.declared.loading.TheConstants.{ROOM};
 ghost use Rattle.live_agent.specs.Telephones.{end_of, lines_at, lines_of, load_ending, BeginsLoad, CountsFor, EndsLoad};
@@ -467,22 +467,7 @@ fn has_served(ending: CommonEnding) -> bool
     }
 }
 
-// A load is over whose exchange served: its report is told, and what was recorded is written.
-fn report_load<S: Surroundings + Drop, W: Recorder>(
-    alloc: Global,
-    file: &str,
-    agent: &str,
-    wire: &mut Wire<S>,
-    recorder: &mut W,
-) -> LoadEnding
-    ensures { EndsReported S.answers W.writes wire.old result wire.new }
-{
-    let ending = wire.end_load(alloc, file, agent);
-    recorder.write(&mut wire.journal, wire.now.time);
-    ending
-}
-
-// Serves a load that has begun until it is over.
+// Serves a load that has begun until it is over. Where its exchange served its report is told then, and what was recorded is written.
 fn serve_load<S: Surroundings + Drop, W: Recorder>(
     alloc: Global,
     config: &AgentConfig,
@@ -500,7 +485,9 @@ fn serve_load<S: Surroundings + Drop, W: Recorder>(
     if !has_served(served) {
         return LoadEnding::Common(served);
     }
-    report_load(alloc, file, agent, wire, recorder)
+    let ending = wire.end_load(alloc, file, agent);
+    recorder.write(&mut wire.journal, wire.now.time);
+    ending
 }
 
 /// Makes a load over a wire, by the gateways of a configuration, whose file has this name: calls between their telephones, who are at the
