@@ -606,7 +606,7 @@ fn turn<S: Surroundings + Drop>(
     if matches!(turn, Turn::End) {
         return Ok(false);
     }
-    wire.begin();
+    wire.now.time = wire.around.time();
     wire.is_behind = is_behind(at.moment, at.ticked);
     // At the start all lines wait to be settled, and later those whose command couldn't be issued, or that something happened to while the
     // clock was behind.

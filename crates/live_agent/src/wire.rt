@@ -200,14 +200,6 @@ impl<S: Surroundings + Drop> Wire<S> {
         })
     }
 
-    /// A turn begins.
-    pub(crate) fn begin(&mut self)
-        ensures time { S.dates self.old.around self.new.now.time }
-        ensures rest { self.new ≡ record self.old { now = record self.old.now { time = self.new.now.time } } }
-    {
-        self.now.time = self.around.time();
-    }
-
     /// The moment at which the network hands something out, in ms, if it will.
     pub(crate) fn network_due(&self) -> Option<u64>
         ensures { result ≡ due_of self.entry.now.network }
