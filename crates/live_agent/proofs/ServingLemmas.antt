@@ -34,11 +34,6 @@ module _ {S W : Type 0} (writes : W → Journal → ℕ → W → Journal → Ty
         rest = all ∙ ap (λ (one : Wire S). record was { journal = one.journal; is_offering = is.is_offering }) (sym all);
       }
 
-module _ {S : Type 0} where
-  pub offered_so : (was is : Wire S) (is_offering : Bool) → is ≡ record was { is_offering = is_offering }
-      → is ≡ record was { is_offering = is.is_offering }
-  offered_so was is is_offering next = next ∙ ap (λ (one : Wire S). record was { is_offering = one.is_offering }) (sym next)
-
 -- it waited so long that it is until a moment, and no longer than to what falls due
 pub waited_until : {S : Type 0} (traffic : S → Traffic) (sleeps : S → ℕ → Result ⊤ Fault → S → Type 0) (until moment longest : ℕ) (due : Option ℕ)
     (gateways : List Gateway) (was is : Wire S) → FallsDueFirst moment gateways was.load (due_of was.network) due

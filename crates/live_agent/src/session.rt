@@ -636,7 +636,7 @@ fn run<S: Surroundings + Drop, W: Recorder>(
         }
         // As much as is taken at once; whether some of it waits to be taken is kept.
         recorder.write(&mut wire.journal, wire.now.time);
-        wire.note_offering(recorder.is_offering());
+        wire.is_offering = recorder.is_offering();
     }
     Ok(())
 }

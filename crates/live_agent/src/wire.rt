@@ -52,7 +52,7 @@ pub struct Wire<S> {
     // The moment at which it ends, in ms.
     pub(crate) end: Option<u64>,
     // Whether something that was recorded waits to be taken.
-    is_offering: bool,
+    pub(crate) is_offering: bool,
     // Calls at a rate, where they are made over it.
     pub(crate) load: Option<Box<Load>>,
 }
@@ -400,13 +400,6 @@ impl<S: Surroundings + Drop> Wire<S> {
         ensures rest { self.new ≡ record self.old { journal = self.new.journal } }
     {
         log_pause(self.alloc, &mut self.journal.log, self.now.time, pause);
-    }
-
-    /// Something that was recorded waits to be taken, or nothing does.
-    pub(crate) fn note_offering(&mut self, is_offering: bool)
-        ensures { self.new ≡ record self.old { is_offering = is_offering } }
-    {
-        self.is_offering = is_offering;
     }
 
     /// Waits until something comes, but no longer than this, in ms, nor than until what waits to be taken is offered again.

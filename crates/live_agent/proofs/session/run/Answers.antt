@@ -3,7 +3,7 @@ use Rattle.std.specs.Box.{with_value}
 use Rattle.std.specs.Prelude.{Err}
 use Rattle.live_agent.specs.Handing.{HandsTo}
 use Rattle.live_agent.specs.Serving.{TurnsOnce}
-use Rattle.live_agent.proofs.ServingLemmas.{offered_so, runs_more, runs_so, stops_ended, stops_failed, written_so}
+use Rattle.live_agent.proofs.ServingLemmas.{runs_more, runs_so, stops_ended, stops_failed, written_so}
 use Rattle.live_agent.proofs.session.run.Goals as goal
 
 pub loop-init : goal.loop-init
@@ -13,16 +13,16 @@ pub loop-preserved : goal.loop-preserved
 loop-preserved g c =
     let went : c.in-Ok.goes_on ≡ true = search rules in
     let written = record c.turn.new.wire { journal = with_value c.turn.new.wire.journal c.write.new.journal } in
+    let offered = record written { is_offering = c.is_offering-wire.result } in
     runs_more (TurnsOnce g.S.Surroundings.traffic g.S.Surroundings.sockets (HandsTo g.S.Surroundings.sends g.S.Surroundings.traffic) g.S.Surroundings.passes g.S.Surroundings.dates g.S.Surroundings.tells g.S.Surroundings.sleeps g.S.Surroundings.receives g.S.Surroundings.hears
     g.S.Surroundings.answers g.W.Recorder.writes)
-    c.loop.counter c.args.board.now c.loop.board c.turn.new.board c.args.wire.now c.loop.wire c.note_offering.new.self c.args.schedule.now c.loop.schedule
+    c.loop.counter c.args.board.now c.loop.board c.turn.new.board c.args.wire.now c.loop.wire offered c.args.schedule.now c.loop.schedule
     c.turn.new.schedule c.loop.invariant (record {
       done = c.turn.new.wire;
       asks = rw went at c.in-Ok.ensures.next;
       does = c.in-Ok.ensures.does went;
-      written = written_so g.W.Recorder.writes c.loop.recorder c.write.new.self c.turn.new.wire written c.note_offering.new.self
-          (rw (c.deref_mut.ensures.value) at c.write.ensures.wrote) (rw (c.deref_mut.ensures.value) at c.write.ensures.kept) refl
-          (offered_so written c.note_offering.new.self c.is_offering.result c.note_offering.ensures);
+      written = written_so g.W.Recorder.writes c.loop.recorder c.write.new.self c.turn.new.wire written offered
+          (rw (c.deref_mut.ensures.value) at c.write.ensures.wrote) (rw (c.deref_mut.ensures.value) at c.write.ensures.kept) refl refl;
     })
 
 pub returns-in-Err : goal.returns-in-Err
