@@ -1,7 +1,7 @@
 //! Serves gateways and whoever types commands, a turn at a time, as a schedule says what comes next.
 ghost use Rattle.std.specs.Prelude.{◌≡◌, ◌||◌, ℕ, [], true, false, List, Option, Err, IfOk, IfErr};
 ghost use Rattle.live_agent.specs.Clock.{is_behind};
-ghost use Rattle.live_agent.specs.Datagrams.{HearsAt, HearsDatagram, HearsTexts, TakesDatagram, TakesEach, TakesOver, TakesReceived};
+ghost use Rattle.live_agent.specs.Datagrams.{HearsDatagram, HearsTexts, TakesDatagram, TakesEach, TakesOver, TakesReceived};
 ghost use Rattle.live_agent.specs.Handing.{HandsTo};
 ghost use Rattle.live_agent.specs.Sending.{SendsCommand, SendsOutputs};
 ghost use Rattle.live_agent.specs.Settling.{SendsEach, SendsIssued, SettlesAll, ShowsEach};
@@ -154,26 +154,7 @@ fn take_each<S: Surroundings + Drop>(
     }
 }
 
-// A datagram came from the gateway at this place: its agent hears it, then the board its texts; and what its lines told is taken.
-fn hear_at<S: Surroundings + Drop>(
-    board: &mut Switchboard,
-    wire: &mut Wire<S>,
-    place: usize,
-    source: SocketAddrV4,
-    bytes: &[u8],
-)
-    ensures { HearsAt (HandsTo S.sends S.traffic) place source bytes.now board.old wire.old board.new wire.new }
-{
-    let outputs = board.step(place, source, bytes);
-    if !send_outputs(wire, outputs, false) {
-        return;
-    }
-    deal_with(board, wire, place, bytes);
-    let lines = board.begin_taking(place);
-    take_each(board, wire, place, lines);
-}
-
-// A datagram is heard.
+// A datagram is heard. The agent of its gateway hears it first, then the board its texts; then what the gateway's lines told is taken.
 fn hear<S: Surroundings + Drop>(
     board: &mut Switchboard,
     wire: &mut Wire<S>,
@@ -188,7 +169,13 @@ fn hear<S: Surroundings + Drop>(
         count(&mut wire.journal.tally.strange);
         return;
     };
-    hear_at(board, wire, place, source, bytes);
+    let outputs = board.step(place, source, bytes);
+    if !send_outputs(wire, outputs, false) {
+        return;
+    }
+    deal_with(board, wire, place, bytes);
+    let lines = board.begin_taking(place);
+    take_each(board, wire, place, lines);
 }
 
 // Takes the next packet that the bad network hands over, where it does: whether it did.
