@@ -11,7 +11,7 @@ ghost use Rattle.transmission.specs.Texts.{texts_of};
 ghost use Rattle.live_agent.specs.Turning.{stop_request, line_request, AsksFirst, AnswersWith, TellsCounts, DoesRequest, TakesTyped, DoesTurn, DoesNext};
 ghost use Rattle.live_agent.specs.TypedCommands.{fault_text, issued_text, AnswersCommand, DoesCommand, IsTypedNext};
 ghost use Rattle.surroundings.specs.Typing.{left_of};
-ghost use Rattle.live_agent.specs.Wiring.{due_of, ms_until, longest_until, IsSituation, IsWaitedFor, FallsDueFirst, AsksNext};
+ghost use Rattle.live_agent.specs.Wiring.{due_of, ms_until, longest_until, IsSituation, IsWaitedFor, AsksNext};
 
 use crate::loading::count_came;
 use crate::recorder::Recorder;
@@ -472,18 +472,8 @@ fn is_there(ready: Ready) -> bool
     ready.commands || ready.datagrams
 }
 
-// The moment at which something falls due next, at a gateway or over a wire, in ms, where it is now this one.
-fn first_due<S: Surroundings + Drop>(
-    board: &Switchboard,
-    wire: &Wire<S>,
-    moment: u64,
-) -> Option<u64>
-    ensures { FallsDueFirst moment board.now.gateways.items wire.entry.now.load (due_of wire.entry.now.network) result }
-{
-    earlier(board.next_due(), wire.due(moment))
-}
-
-// What is waited for: that moment; nothing where anything is there, and so the agents of all gateways aren't asked.
+// The moment that is waited for, in ms, where it is now this one: that at which something falls due next, at a gateway or over a wire;
+// nothing where anything is there, and so the agents of all gateways aren't asked.
 fn waited_for<S: Surroundings + Drop>(
     board: &Switchboard,
     wire: &Wire<S>,
@@ -496,7 +486,7 @@ fn waited_for<S: Surroundings + Drop>(
     if is_there(ready) {
         return None;
     }
-    first_due(board, wire, moment)
+    earlier(board.next_due(), wire.due(moment))
 }
 
 // How things stand. An error is of the clock.
@@ -561,7 +551,7 @@ fn do_turn<S: Surroundings + Drop>(
         Turn::Look => wire.wait(0),
         Turn::Wait { until } => {
             // No longer than to what falls due of what was issued since it was asked what comes next.
-            let due = first_due(board, wire, moment);
+            let due = earlier(board.next_due(), wire.due(moment));
             wire.wait(longest_until(until, due, moment));
         }
         Turn::Note { pause } => wire.note_pause(pause),

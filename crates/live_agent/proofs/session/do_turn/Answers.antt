@@ -23,8 +23,8 @@ pub returns-in-Wait : goal.returns-in-Wait
 returns-in-Wait g c =
     rw (c.in-Wait.is) (
       refl,
-      waited_until g.S.Surroundings.traffic g.S.Surroundings.sleeps c.in-Wait.until c.args.moment _ _ c.args.board.now.gateways.items c.args.wire.now
-          c.wait-in-Wait.new.self c.first_due-due.ensures c.longest_until.ensures
+      waited_until g.S.Surroundings.traffic g.S.Surroundings.sleeps c.in-Wait.until c.args.moment _ c.earlier-due.result c.args.board.now.gateways.items c.args.wire.now
+          c.wait-in-Wait.new.self (c.next_due.result, c.due.result, c.next_due.ensures, c.due.ensures, c.earlier-due.ensures) c.longest_until.ensures
           (c.wait-in-Wait.ensures.traffic, c.wait-in-Wait.ensures.waited, c.wait-in-Wait.ensures.journal, c.wait-in-Wait.ensures.rest),
     )
 

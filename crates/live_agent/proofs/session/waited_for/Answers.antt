@@ -10,5 +10,5 @@ returns-then-is_there g c =
 pub returns : goal.returns
 returns g c =
     subst (λ (is_any : Bool). IsWaitedFor is_any c.args.moment c.args.board.now.gateways.items c.args.wire.now.load (due_of c.args.wire.now.network)
-    c.first_due.result)
-    (sym (sym c.is_there.ensures ∙ c.if-is_there.false)) c.first_due.ensures
+    c.earlier.result)
+    (sym (sym c.is_there.ensures ∙ c.if-is_there.false)) (c.next_due.result, c.due.result, c.next_due.ensures, c.due.ensures, c.earlier.ensures)
