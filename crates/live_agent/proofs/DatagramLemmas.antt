@@ -1,5 +1,5 @@
 -- What a datagram does, text by text and line by line.
-use Rattle.std.proofs.Common.{◌≡◌, ℕ, ◌+◌, ◌<◌, ◌≤◌, suc, Bool, true, false, List, [], ◌∷◌, length, get_or, drop, Option, Some, None, Result, refl, sym, subst, arith}
+use Rattle.std.proofs.Common.{◌≡◌, ℕ, ◌+◌, ◌<◌, ◌≤◌, suc, Bool, true, false, List, [], ◌∷◌, length, get_or, drop, Option, Some, None, Result, refl, sym, subst, ◌∙◌, arith, true≢false}
 use Rattle.std.proofs.lemmas.List.{drop_more, at_drop_all}
 use Rattle.std.specs.Prelude.{⊤, is_some}
 use Rattle.std.specs.declared.net.socket_addr.SocketAddrV4.{SocketAddrV4}
@@ -10,7 +10,7 @@ use Rattle.live_agent.specs.declared.wire.Wire.{Wire}
 use Rattle.bad_network.specs.declared.network.BadNetwork.{BadNetwork}
 use Rattle.bad_network.specs.declared.packet.Way.TheVariants.{In}
 use Rattle.surroundings.specs.declared.surroundings.Fault.{Fault}
-use Rattle.live_agent.specs.Datagrams.{DealsIf, HearsBy, HearsOne, HearsTexts, SettlesIf, TakesAll, TakesEach, TakesElse, TakesFound, TakesLooked, TakesNext, TakesOver, TakesReceived}
+use Rattle.live_agent.specs.Datagrams.{DealsIf, HearsBy, HearsDatagram, HearsOne, HearsTexts, SettlesIf, TakesAll, TakesEach, TakesElse, TakesFound, TakesLooked, TakesNext, TakesOver, TakesReceived}
 use Rattle.live_agent.specs.Handing.{OffersTo}
 use Rattle.live_agent.specs.Sending.{SendsAll, SendsOne}
 use Rattle.live_agent.specs.Settling.{SettlesAll}
@@ -86,6 +86,14 @@ module _ {S : Type 0} (sends : S → SocketAddrV4 → List ℕ → Result ⊤ Fa
       → TakesReceived sends network source bytes board was now is
   offered_to None found source bytes board now was offered is some counts notes rest takes = absurd cc
   offered_to (Some network) found source bytes board now was offered is some counts notes rest takes = (found, offered, counts, notes, rest, takes)
+
+  -- where none spoils it, it is heard
+  pub heard_plain : (network : Option BadNetwork) (spoilt : Bool) (source : SocketAddrV4) (bytes : List ℕ) (board now : Switchboard) (was offered is : Wire S)
+      → spoilt ≡ is_some network → spoilt ≡ false → offered ≡ was → HearsDatagram sends source bytes board offered now is
+      → TakesReceived sends network source bytes board was now is
+  heard_plain None spoilt source bytes board now was offered is spoilt_is none same hears =
+      subst (λ (one : Wire S). HearsDatagram sends source bytes board one now is) same hears
+  heard_plain (Some network) spoilt source bytes board now was offered is spoilt_is none same hears = absurd (true≢false (sym spoilt_is ∙ none))
 
   -- what was looked for
   pub found_so : (found heard : Option (SocketAddrV4 × ℕ)) (room : List ℕ) (board now : Switchboard) (was is : Wire S) → found ≡ heard

@@ -1,7 +1,7 @@
 //! Serves gateways and whoever types commands, a turn at a time, as a schedule says what comes next.
 ghost use Rattle.std.specs.Prelude.{◌≡◌, ◌||◌, ℕ, [], true, false, List, Option, Err, IfOk, IfErr};
 ghost use Rattle.live_agent.specs.Clock.{is_behind};
-ghost use Rattle.live_agent.specs.Datagrams.{HearsDatagram, HearsTexts, TakesDatagram, TakesEach, TakesOver, TakesReceived};
+ghost use Rattle.live_agent.specs.Datagrams.{HearsDatagram, HearsTexts, TakesDatagram, TakesEach, TakesOver};
 ghost use Rattle.live_agent.specs.Handing.{HandsTo};
 ghost use Rattle.live_agent.specs.Sending.{SendsCommand, SendsOutputs};
 ghost use Rattle.live_agent.specs.Settling.{SendsEach, SendsIssued, SettlesAll, ShowsEach};
@@ -191,23 +191,8 @@ fn take_over<S: Surroundings + Drop>(board: &mut Switchboard, wire: &mut Wire<S>
     }
 }
 
-// Takes a datagram that has come: it is offered to the bad network, where there is one, which may hand one over by then.
-fn take_received<S: Surroundings + Drop>(
-    board: &mut Switchboard,
-    wire: &mut Wire<S>,
-    source: SocketAddrV4,
-    bytes: &[u8],
-)
-    ensures { TakesReceived (HandsTo S.sends S.traffic) wire.old.network source bytes.now board.old wire.old board.new wire.new }
-{
-    if wire.offer(Way::In, source, bytes) {
-        let _ = take_over(board, wire);
-        return;
-    }
-    hear(board, wire, source, bytes);
-}
-
-// Takes a datagram, if one is there: of those that the bad network held, or that has come.
+// Takes a datagram, if one is there: of those that the bad network held, or that has come. That is offered to the bad network, where
+// there is one, which may hand one over by then.
 fn take_datagram<S: Surroundings + Drop>(board: &mut Switchboard, wire: &mut Wire<S>)
     ensures { TakesDatagram (HandsTo S.sends S.traffic) S.receives board.old wire.old board.new wire.new }
 {
@@ -219,7 +204,11 @@ fn take_datagram<S: Surroundings + Drop>(board: &mut Switchboard, wire: &mut Wir
         return;
     };
     let bytes = room.get(..found.1).unwrap_or(&[]);
-    take_received(board, wire, found.0, bytes);
+    if wire.offer(Way::In, found.0, bytes) {
+        let _ = take_over(board, wire);
+        return;
+    }
+    hear(board, wire, found.0, bytes);
 }
 
 // What is answered where a command isn't issued.
