@@ -7,9 +7,10 @@ use Rattle.surroundings.specs.declared.surroundings.Fault.{Fault}
 use Rattle.surroundings.specs.declared.surroundings.Told.{Told}
 use Rattle.switchboard.specs.declared.gateway.Gateway.{Gateway}
 use Rattle.switchboard.specs.declared.switchboard.Switchboard.{Switchboard}
+use Rattle.turns.specs.Schedule.{opening}
 use Rattle.turns.specs.declared.schedule.Schedule.{Schedule}
 use Rattle.live_agent.specs.declared.wire.Wire.{Wire}
-use Rattle.live_agent.specs.Serving.{RunsTurns, StopsAt, Writes}
+use Rattle.live_agent.specs.Serving.{Runs, RunsTurns, Serves, StopsAt, Writes}
 use Rattle.live_agent.specs.Turning.{Waits, WaitsUntil}
 use Rattle.live_agent.specs.Wiring.{due_of, longest_until, AsksNext, FallsDueFirst}
 
@@ -61,6 +62,14 @@ module _ {S : Type 0} (turns : Switchboard → Wire S → Schedule → Switchboa
   runs_so count board between now was left is schedule behind same_board same_wire so_far =
       subst (λ (one : Switchboard). RunsTurns turns count board was schedule one is behind) (sym same_board)
       (subst (λ (one : Wire S). RunsTurns turns count board was schedule between one behind) (sym same_wire) so_far)
+
+-- it served from the moment on that the clock told
+pub serves_so : {S : Type 0} (passes : S → Result ℕ Fault → Type 0) (tells : S → Told → Type 0)
+    (turns : Switchboard → Wire S → Schedule → Switchboard → Wire S → Schedule → Type 0) (start : ℕ) (result : Result ⊤ Fault)
+    (board now : Switchboard) (was is : Wire S) (opened : Schedule) → passes was.around (Ok start) → opened ≡ opening start
+    → Runs passes tells turns result board was opened now is → Serves passes tells turns result board was now is
+serves_so passes tells turns start result board now was is opened tells_start opened_is runs =
+    inl (start, tells_start, subst (λ (schedule : Schedule). Runs passes tells turns result board was schedule now is) opened_is runs)
 
 module _ {S : Type 0} (passes : S → Result ℕ Fault → Type 0) (tells : S → Told → Type 0) where
   -- the end comes next

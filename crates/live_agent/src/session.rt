@@ -6,7 +6,7 @@ ghost use Rattle.live_agent.specs.Handing.{HandsTo};
 ghost use Rattle.live_agent.specs.Sending.{SendsCommand, SendsOutputs};
 ghost use Rattle.live_agent.specs.Settling.{SendsEach, SendsIssued, SettlesAll, ShowsEach};
 ghost use Rattle.live_agent.specs.Ticking.{GivesUpAll, GivesUpEach, TicksAll, TicksEach, WakesAll, WakesEach};
-ghost use Rattle.live_agent.specs.Serving.{Runs, Serves, TurnsOnce};
+ghost use Rattle.live_agent.specs.Serving.{Serves, TurnsOnce};
 ghost use Rattle.transmission.specs.Texts.{texts_of};
 ghost use Rattle.live_agent.specs.Turning.{stop_request, line_request, AsksFirst, AnswersWith, TellsCounts, DoesRequest, TakesTyped, DoesTurn, DoesNext};
 ghost use Rattle.live_agent.specs.TypedCommands.{fault_text, issued_text, AnswersCommand, DoesCommand, IsTypedNext};
@@ -581,32 +581,6 @@ fn turn<S: Surroundings + Drop>(
     Ok(true)
 }
 
-// Has turns until the end comes, and writes after each what was recorded. An error is of the clock.
-fn run<S: Surroundings + Drop, W: Recorder>(
-    alloc: Global,
-    board: &mut Switchboard,
-    wire: &mut Wire<S>,
-    schedule: &mut Schedule,
-    recorder: &mut W,
-) -> Result<(), Fault>
-    ensures { Runs S.passes S.tells (TurnsOnce S.traffic S.sockets (HandsTo S.sends S.traffic) S.passes S.dates S.tells S.sleeps
-        S.receives S.hears S.answers W.writes) result board.old wire.old schedule.old board.new wire.new }
-{
-    for _ in 0..u64::MAX {
-        let goes_on = match turn(alloc, board, wire, schedule) {
-            Ok(goes_on) => goes_on,
-            Err(fault) => return Err(fault),
-        };
-        if !goes_on {
-            return Ok(());
-        }
-        // As much as is taken at once; whether some of it waits to be taken is kept.
-        recorder.write(&mut wire.journal, wire.now.time);
-        wire.is_offering = recorder.is_offering();
-    }
-    Ok(())
-}
-
 /// Serves until the end comes, and writes after each turn what was recorded. An error is of the clock.
 pub(crate) fn serve<S: Surroundings + Drop, W: Recorder>(
     alloc: Global,
@@ -623,5 +597,17 @@ pub(crate) fn serve<S: Surroundings + Drop, W: Recorder>(
         Err(fault) => return Err(fault),
     };
     let mut schedule = Schedule::starting_at(start);
-    run(alloc, board, wire, &mut schedule, recorder)
+    for _ in 0..u64::MAX {
+        let goes_on = match turn(alloc, board, wire, &mut schedule) {
+            Ok(goes_on) => goes_on,
+            Err(fault) => return Err(fault),
+        };
+        if !goes_on {
+            return Ok(());
+        }
+        // As much as is taken at once; whether some of it waits to be taken is kept.
+        recorder.write(&mut wire.journal, wire.now.time);
+        wire.is_offering = recorder.is_offering();
+    }
+    Ok(())
 }
