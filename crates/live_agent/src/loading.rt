@@ -11,7 +11,7 @@ ghost use Rattle.live_agent.specs.declared.loading.LoadEnding.TheVariants.{Unmad
 ghost use Rattle.live_agent.specs.declared.loading.TheConstants.{ROOM};
 ghost use Rattle.live_agent.specs.Telephones.{end_of, lines_at, lines_of, load_ending, BeginsLoad, CountsFor, EndsLoad};
 ghost use Rattle.live_agent.specs.Telephones.{HearsOnce, HearsTelephones, KeepsRoom, PassesLoad, Reports};
-ghost use Rattle.live_agent.specs.Telephones.{SaysAll, SaysAndReports, SaysEach, SaysEnded, SaysOne, SaysPassed};
+ghost use Rattle.live_agent.specs.Telephones.{SaysAll, SaysAndReports, SaysEach, SaysOne, SaysPassed};
 ghost use Rattle.live_agent.specs.Wiring.{due_of, with_read, FallsDueOver};
 
 use crate::recorder::Recorder;
@@ -255,14 +255,6 @@ fn end_of(is_over: bool, end: Option<u64>) -> Option<u64>
     if is_over { Some(0) } else { end }
 }
 
-// A load is over, at this moment of the clock by which commands are counted, in ms: telephones are to tell nothing more.
-fn end<S: Surroundings>(alloc: Global, around: &mut S, bench: &mut Bench, now: u64)
-    ensures { SaysEnded S.answers now around.old around.new bench.old bench.new }
-{
-    bench.end(now);
-    say_all(alloc, around, bench);
-}
-
 // What came of a load, whose report is put here: by a configuration in a file of this name, whose call agent is there.
 fn report(bench: &mut Bench, out: &mut Vec<u8>, file: &str, agent: &str) -> LoadEnding
     ensures ending { result ≡ load_ending bench.new }
@@ -277,7 +269,8 @@ fn report(bench: &mut Bench, out: &mut Vec<u8>, file: &str, agent: &str) -> Load
     }
 }
 
-// Both, one behind the other.
+// A load is over, at this moment of the clock by which commands are counted, in ms: telephones are to tell nothing more. Then what came of
+// it is reported.
 fn end_and_report<S: Surroundings>(
     alloc: Global,
     around: &mut S,
@@ -290,7 +283,8 @@ fn end_and_report<S: Surroundings>(
     ensures ending { result ≡ load_ending bench.new }
     ensures says { SaysAndReports S.answers now around.old around.new bench.old bench.new }
 {
-    end(alloc, around, bench, now);
+    bench.end(now);
+    say_all(alloc, around, bench);
     report(bench, out, file, agent)
 }
 
