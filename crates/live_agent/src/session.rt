@@ -8,7 +8,7 @@ ghost use Rattle.live_agent.specs.Settling.{SendsEach, SendsIssued, SettlesAll, 
 ghost use Rattle.live_agent.specs.Ticking.{GivesUpAll, GivesUpEach, TicksAll, TicksEach, WakesAll, WakesEach};
 ghost use Rattle.live_agent.specs.Serving.{Serves, TurnsOnce};
 ghost use Rattle.transmission.specs.Texts.{texts_of};
-ghost use Rattle.live_agent.specs.Turning.{stop_request, line_request, AsksFirst, AnswersWith, TellsCounts, DoesRequest, TakesTyped, DoesTurn, DoesNext};
+ghost use Rattle.live_agent.specs.Turning.{stop_request, line_request, AsksFirst, AnswersWith, TellsCounts, TakesTyped, DoesTurn, DoesNext};
 ghost use Rattle.live_agent.specs.TypedCommands.{fault_text, issued_text, AnswersCommand, DoesCommand, IsTypedNext};
 ghost use Rattle.surroundings.specs.Typing.{left_of};
 ghost use Rattle.live_agent.specs.Wiring.{due_of, ms_until, longest_until, IsSituation, IsWaitedFor, AsksNext};
@@ -340,28 +340,7 @@ fn answer_command<S: Surroundings + Drop>(
     }
 }
 
-// Does what is asked for, and answers that.
-fn do_request<S: Surroundings + Drop>(
-    alloc: Global,
-    board: &mut Switchboard,
-    wire: &mut Wire<S>,
-    request: Request,
-)
-    ensures { DoesRequest (HandsTo S.sends S.traffic) S.answers request board.old board.new wire.old wire.new }
-{
-    match request {
-        Request::Nothing => {}
-        Request::Counts => answer_counts(wire),
-        Request::Stop => {
-            wire.answer(DONE);
-            wire.end = Some(0);
-        }
-        Request::StopFromAfar => wire.answer(STOP_FROM_AFAR),
-        Request::Command => answer_command(alloc, board, wire),
-    }
-}
-
-// Hears telephones, where a load is made; else answers what is typed next, if anything is, where it is now this moment.
+// Hears telephones, where a load is made; else does what is typed next, if anything is, and answers that, where it is now this moment.
 fn take_line<S: Surroundings + Drop>(
     alloc: Global,
     board: &mut Switchboard,
@@ -376,7 +355,16 @@ fn take_line<S: Surroundings + Drop>(
     }
     wire.hear_lines();
     let request = request_in(&wire.lines);
-    do_request(alloc, board, wire, request);
+    match request {
+        Request::Nothing => {}
+        Request::Counts => answer_counts(wire),
+        Request::Stop => {
+            wire.answer(DONE);
+            wire.end = Some(0);
+        }
+        Request::StopFromAfar => wire.answer(STOP_FROM_AFAR),
+        Request::Command => answer_command(alloc, board, wire),
+    }
 }
 
 // What is given up by now of the commands to a gateway, one behind another.
