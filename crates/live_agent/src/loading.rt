@@ -15,7 +15,8 @@ ghost use Rattle.live_agent.specs.Telephones.{SaysAll, SaysAndReports, SaysEach,
 ghost use Rattle.live_agent.specs.Wiring.{due_of, with_read, FallsDueOver};
 
 use crate::recorder::Recorder;
-use crate::serving::{MICROSECONDS, WireSettings, open_wire, serve_config};
+use crate::serving::{MICROSECONDS, WireSettings, board_of, open_wire, served_ending};
+use crate::session::serve;
 use crate::wire::Wire;
 use agent_config::{AgentConfig, GatewayConfig};
 use exchange_log::peer_text;
@@ -461,7 +462,8 @@ fn has_served(ending: CommonEnding) -> bool
     }
 }
 
-// Serves a load that has begun until it is over. Where its exchange served its report is told then, and what was recorded is written.
+// Serves the gateways of a configuration until a load that has begun is over, and routes calls between their lines where that is asked for.
+// What is recorded is written after each turn. Where its exchange served its report is told then, and that is written, too.
 fn serve_load<S: Surroundings + Drop, W: Recorder>(
     alloc: Global,
     config: &AgentConfig,
@@ -475,9 +477,15 @@ fn serve_load<S: Surroundings + Drop, W: Recorder>(
         (Serves S.passes S.tells (TurnsOnce S.traffic S.sockets (HandsTo S.sends S.traffic) S.passes S.dates S.tells S.sleeps S.receives
         S.hears S.answers W.writes)) W.writes config.now is_routed wire.old result wire.new }
 {
-    let served = serve_config(alloc, config, is_routed, wire, recorder);
-    if !has_served(served) {
-        return LoadEnding::Common(served);
+    let mut board = match board_of(alloc, config, is_routed, wire) {
+        Ok(board) => board,
+        Err(ending) => return LoadEnding::Common(ending),
+    };
+    let served = serve(alloc, &mut board, wire, recorder);
+    board.close();
+    let came = served_ending(served);
+    if !has_served(came) {
+        return LoadEnding::Common(came);
     }
     let ending = wire.end_load(alloc, file, agent);
     recorder.write(&mut wire.journal, wire.now.time);

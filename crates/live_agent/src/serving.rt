@@ -5,7 +5,7 @@ ghost use Rattle.live_ends.specs.declared.ending.CommonEnding.TheVariants.{OutOf
 ghost use Rattle.live_agent.specs.Clock.{milliseconds};
 ghost use Rattle.live_agent.specs.Ending.{is_record_refused, ending_of, WritesAndEnds};
 ghost use Rattle.live_agent.specs.Handing.{HandsTo};
-ghost use Rattle.live_agent.specs.Serving.{served_ending, Serves, ServesLoad, ServesOver, ServesToEnd, TurnsOnce};
+ghost use Rattle.live_agent.specs.Serving.{served_ending, Serves, ServesOver, ServesToEnd, TurnsOnce};
 ghost use Rattle.live_agent.specs.Wiring.{SpoilsSo};
 ghost use Rattle.live_outlets.specs.Recording.{state_when};
 ghost use Rattle.live_outlets.specs.declared.record.RecordState.TheVariants as states;
@@ -114,9 +114,9 @@ pub(crate) fn open_wire<'a, R: Net + Clock>(
     }
 }
 
-// The desk of a configuration's gateways, as they begin at the time of day that was told, which routes calls between their lines where that
-// is asked for; or how the program ends where there is none.
-fn board_of<S: Surroundings + Drop>(
+/// The desk of a configuration's gateways, as they begin at the time of day that was told, which routes calls between their lines where
+/// that is asked for; or how the program ends where there is none.
+pub(crate) fn board_of<S: Surroundings + Drop>(
     alloc: Global,
     config: &AgentConfig,
     is_routed: bool,
@@ -132,36 +132,14 @@ fn board_of<S: Surroundings + Drop>(
     }
 }
 
-// How it ends where it served, or the clock failed.
-fn served_ending(served: Result<(), Fault>) -> CommonEnding
+/// How it ends where it served, or the clock failed.
+pub(crate) fn served_ending(served: Result<(), Fault>) -> CommonEnding
     ensures { result ≡ served_ending served }
 {
     match served {
         Ok(()) => CommonEnding::Served,
         Err(_) => CommonEnding::Clock,
     }
-}
-
-/// Serves the gateways of a configuration over a wire until the end, and routes calls between their lines where that is asked for. What
-/// is recorded is written after each turn. How the program ends then.
-pub(crate) fn serve_config<S: Surroundings + Drop, W: Recorder>(
-    alloc: Global,
-    config: &AgentConfig,
-    is_routed: bool,
-    wire: &mut Wire<S>,
-    recorder: &mut W,
-) -> CommonEnding
-    ensures { ServesLoad config.now is_routed
-        (Serves S.passes S.tells (TurnsOnce S.traffic S.sockets (HandsTo S.sends S.traffic) S.passes S.dates S.tells S.sleeps S.receives
-        S.hears S.answers W.writes)) wire.old wire.new result }
-{
-    let mut board = match board_of(alloc, config, is_routed, wire) {
-        Ok(board) => board,
-        Err(ending) => return ending,
-    };
-    let served = serve(alloc, &mut board, wire, recorder);
-    board.close();
-    served_ending(served)
 }
 
 // Whether memory was refused for something that is recorded.
