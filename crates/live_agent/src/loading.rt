@@ -410,14 +410,6 @@ fn room_of(alloc: Global) -> Result<Vec<u8>, OutOfMemory>
     vec![in alloc; 0u8; ROOM]
 }
 
-// A load of this bench's, with this room for what telephones say.
-fn load_of(alloc: Global, bench: Box<Bench>, room: Vec<u8>) -> Result<Box<Load>, OutOfMemory>
-    ensures bench { IfOk result (λ load. load.value.bench ≡ bench) }
-    ensures room { IfOk result (λ load. load.value.room ≡ room) }
-{
-    boxed(alloc, Load { bench, room })
-}
-
 // Begins a load over a wire, of which nothing else is told: how it ends, if it does at once.
 fn begin<S: Surroundings + Drop>(
     alloc: Global,
@@ -437,7 +429,7 @@ fn begin<S: Surroundings + Drop>(
     let Ok(room) = room_of(alloc) else {
         return Some(CommonEnding::OutOfMemory);
     };
-    let Ok(load) = load_of(alloc, bench, room) else {
+    let Ok(load) = boxed(alloc, Load { bench, room }) else {
         return Some(CommonEnding::OutOfMemory);
     };
     wire.load = Some(load);

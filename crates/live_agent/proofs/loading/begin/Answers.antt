@@ -1,7 +1,8 @@
-use Rattle.std.proofs.Common.{ℕ, refl, sym, subst, ap, ◌∙◌}
-use Rattle.std.specs.Global.{Box, Vec}
+use Rattle.std.proofs.Common.{refl, sym, subst, ap, ◌∙◌}
+use Rattle.std.specs.Global.{Box}
 use Rattle.std.specs.Prelude.{vec_len}
 use Rattle.load_bench.specs.declared.bench.Bench.{Bench}
+use Rattle.live_agent.specs.declared.loading.Load.{Load}
 use Rattle.live_agent.specs.Telephones.{SaysAll}
 use Rattle.live_agent.proofs.loading.begin.Goals as goal
 
@@ -14,8 +15,8 @@ returns g c = (
   (
     subst
         (λ (bench : Box Bench). SaysAll g.S.Surroundings.answers c.args.wire.now.around c.in-Ok-bench_of.bench.value c.say_all.new.around bench.value)
-        (sym c.in-Ok-load_of.ensures.bench) (rw (c.deref_mut.ensures.value) at c.say_all.ensures),
-    ap (λ (room : Vec ℕ). vec_len room) c.in-Ok-load_of.ensures.room ∙ c.in-Ok-room_of.ensures,
+        (sym (ap (λ (load : Load). load.bench) c.in-Ok-boxed.ensures)) (rw (c.deref_mut.ensures.value) at c.say_all.ensures),
+    ap (λ (load : Load). vec_len load.room) c.in-Ok-boxed.ensures ∙ c.in-Ok-room_of.ensures,
   ),
   refl,
   refl,
