@@ -1,9 +1,9 @@
 //! Makes a load: calls at a rate between the telephones of gateways, which another call agent serves, or this program's own exchange.
-ghost use Rattle.std.specs.Prelude.{◌≡◌, ◌≤◌, ◌&&◌, ◌++◌, true, false, is_some, length, take, vec_len, IfOk, OnOk};
+ghost use Rattle.std.specs.Prelude.{◌≡◌, ◌&&◌, ◌++◌, true, false, is_some, length, vec_len, IfOk, OnOk};
 ghost use Rattle.load_bench.specs.declared.settings.LoadFault.TheVariants.{OutOfMemory};
 ghost use Rattle.load_bench.specs.Opening.{unfailed, BeginsWith};
 ghost use Rattle.load_bench.specs.Over.{bench_over};
-ghost use Rattle.load_bench.specs.Telephones.{CountsCame, CountsSent, Hears};
+ghost use Rattle.load_bench.specs.Telephones.{CountsCame, CountsSent};
 ghost use Rattle.live_agent.specs.Clock.{milliseconds};
 ghost use Rattle.live_agent.specs.Handing.{HandsTo};
 ghost use Rattle.live_agent.specs.Serving.{has_served, LoadsOver, Serves, ServesBegun, TurnsOnce};
@@ -186,14 +186,6 @@ fn pass_in<S: Surroundings>(
     pass(alloc, around, &mut *load.bench, out, moment)
 }
 
-// Telephones said what stands in this room, so long, and from here, at this moment, in ms.
-fn hear_found(bench: &mut Bench, found: (SocketAddr, usize), room: &[u8], moment: u64)
-    ensures { found.1 ≤ length room.now → Hears found.0 (take found.1 room.now) moment bench.old bench.new }
-{
-    let text = room.get(..found.1).unwrap_or(&[]);
-    bench.hear(found.0, text, moment);
-}
-
 // What came of a look at what telephones say: whether they said anything, and whether the load is over then.
 #[derive(Clone, Copy)]
 struct Look {
@@ -218,7 +210,8 @@ fn hear<S: Surroundings>(
             is_over: bench.is_over(moment),
         };
     };
-    hear_found(bench, found, room, moment);
+    let text = room.get(..found.1).unwrap_or(&[]);
+    bench.hear(found.0, text, moment);
     say_all(alloc, around, bench);
     Look {
         taken: true,

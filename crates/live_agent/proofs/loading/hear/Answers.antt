@@ -1,4 +1,4 @@
-use Rattle.std.proofs.Common.{Some, None, refl}
+use Rattle.std.proofs.Common.{◌≡◌, Some, None, take, refl, rules}
 use Rattle.live_agent.proofs.loading.hear.Goals as goal
 
 pub returns-in_default-clause-heard : goal.returns-in_default-clause-heard
@@ -13,12 +13,14 @@ returns-in_default-clause-heard g c = record {
 }
 
 pub returns-clause-heard : goal.returns-clause-heard
-returns-clause-heard g c = record {
-  found = Some c.in-Some.found;
-  room = c.hear.new.room;
-  looked = c.hear.new.self;
-  long = c.in-Some.ensures.length;
-  looks = c.in-Some.ensures.looked;
-  is_taken = refl;
-  says = (c.hear_found.new.bench, c.hear_found.ensures c.in-Some.ensures.within, c.say_all.ensures);
-}
+returns-clause-heard g c =
+    let text : c.unwrap_or-text.result.now ≡ take c.in-Some.found.1 c.hear.new.room = search rules in
+    record {
+      found = Some c.in-Some.found;
+      room = c.hear.new.room;
+      looked = c.hear.new.self;
+      long = c.in-Some.ensures.length;
+      looks = c.in-Some.ensures.looked;
+      is_taken = refl;
+      says = (c.hear-2.new.self, rw text at c.hear-2.ensures, c.say_all.ensures);
+    }
