@@ -9,7 +9,7 @@ ghost use Rattle.live_agent.specs.Ticking.{GivesUpAll, GivesUpEach, TicksAll, Ti
 ghost use Rattle.live_agent.specs.Serving.{Serves, TurnsOnce};
 ghost use Rattle.transmission.specs.Texts.{texts_of};
 ghost use Rattle.live_agent.specs.Turning.{stop_request, line_request, AsksFirst, AnswersWith, TellsCounts, TakesTyped, DoesTurn, DoesNext};
-ghost use Rattle.live_agent.specs.TypedCommands.{fault_text, issued_text, AnswersCommand, DoesCommand, IsTypedNext};
+ghost use Rattle.live_agent.specs.TypedCommands.{fault_text, issued_text, DoesCommand, IsTypedNext};
 ghost use Rattle.surroundings.specs.Typing.{left_of};
 ghost use Rattle.live_agent.specs.Wiring.{due_of, ms_until, longest_until, IsSituation, IsWaitedFor, AsksNext};
 
@@ -235,30 +235,6 @@ fn issued_text(alloc: Global, mut room: Vec<u8>, id: u32) -> Result<Vec<u8>, Out
     Ok(room)
 }
 
-// Issues a command that was typed, and answers that. Room for the answer is made before, so that none is refused for a command that goes
-// out.
-fn answer_typed<S: Surroundings + Drop>(
-    alloc: Global,
-    board: &mut Switchboard,
-    wire: &mut Wire<S>,
-    text: &[u8],
-)
-    ensures { AnswersCommand (HandsTo S.sends S.traffic) S.answers text.now board.old board.new wire.old wire.new }
-{
-    let Ok(room) = Vec::with_capacity(alloc, ISSUED_ROOM) else {
-        return wire.answer_all(NO_MEMORY);
-    };
-    let issued = match board.issue_typed(text) {
-        Ok(issued) => issued,
-        Err(fault) => return wire.answer_all(fault_text(fault)),
-    };
-    send_issued(wire, &issued);
-    match issued_text(alloc, room, issued.id) {
-        Ok(text) => wire.answer_all(text.as_slice()),
-        Err(_) => wire.answer_all(NO_MEMORY),
-    }
-}
-
 // Answers what was counted so far.
 fn answer_counts<S: Surroundings + Drop>(wire: &mut Wire<S>)
     ensures { (text : List ℕ) × TellsCounts wire.old.journal.value text × AnswersWith S.answers text wire.old wire.new }
@@ -326,7 +302,8 @@ fn command_in(alloc: Global, lines: &Lines) -> Result<Vec<u8>, OutOfMemory>
     typed_text(alloc, line, lines.rest())
 }
 
-// Issues the command that is typed next, and answers that.
+// Issues the command that is typed next, and answers that. Room for the answer is made before, so that none is refused for a command that
+// goes out.
 fn answer_command<S: Surroundings + Drop>(
     alloc: Global,
     board: &mut Switchboard,
@@ -334,8 +311,19 @@ fn answer_command<S: Surroundings + Drop>(
 )
     ensures { DoesCommand (HandsTo S.sends S.traffic) S.answers board.old board.new wire.old wire.new }
 {
-    match command_in(alloc, &wire.lines) {
-        Ok(text) => answer_typed(alloc, board, wire, text.as_slice()),
+    let Ok(typed) = command_in(alloc, &wire.lines) else {
+        return wire.answer_all(NO_MEMORY);
+    };
+    let Ok(room) = Vec::with_capacity(alloc, ISSUED_ROOM) else {
+        return wire.answer_all(NO_MEMORY);
+    };
+    let issued = match board.issue_typed(typed.as_slice()) {
+        Ok(issued) => issued,
+        Err(fault) => return wire.answer_all(fault_text(fault)),
+    };
+    send_issued(wire, &issued);
+    match issued_text(alloc, room, issued.id) {
+        Ok(text) => wire.answer_all(text.as_slice()),
         Err(_) => wire.answer_all(NO_MEMORY),
     }
 }
