@@ -148,9 +148,10 @@ fn take_each<S: Surroundings + Drop>(
     ensures { TakesEach (HandsTo S.sends S.traffic) place lines board.old wire.old board.new wire.new }
 {
     for index in 0..lines {
-        if board.take(&mut wire.journal, place, index) {
-            settle(board, wire);
+        if !board.take(&mut wire.journal, place, index) {
+            continue;
         }
+        settle(board, wire);
     }
 }
 

@@ -1,4 +1,4 @@
-use Rattle.std.proofs.Common.{refl}
+use Rattle.std.proofs.Common.{◌≡◌, true, false, refl, rules}
 use Rattle.std.specs.Box.{with_value}
 use Rattle.live_agent.specs.Handing.{HandsTo}
 use Rattle.live_agent.proofs.DatagramLemmas.{settled_none, settled_some, takes_more}
@@ -7,25 +7,9 @@ use Rattle.live_agent.proofs.session.take_each.Goals as goal
 pub loop-index-init : goal.loop-index-init
 loop-index-init g c = (refl, refl)
 
-pub loop-index-preserved-then-take : goal.loop-index-preserved-then-take
-loop-index-preserved-then-take g c =
-    let told = record c.loop-index.wire { journal = with_value c.loop-index.wire.journal c.take.new.journal } in
-    takes_more (HandsTo g.S.Surroundings.sends g.S.Surroundings.traffic) c.args.place c.loop-index.index c.args.board.now c.loop-index.board c.settle.new.board c.args.wire.now c.loop-index.wire
-    c.settle.new.wire c.loop-index.invariant (record {
-      found = c.take.result;
-      taken = c.take.new.self;
-      told = told;
-      takes = c.take.ensures.takes;
-      waits = c.take.ensures.waits;
-      rest = c.take.ensures.rest;
-      counts = rw (c.deref_mut.ensures.value) at c.take.ensures.tally;
-      leaves = refl;
-      tells = rw (c.deref_mut.ensures.value) at c.take.ensures.journal;
-      settles = settled_some (HandsTo g.S.Surroundings.sends g.S.Surroundings.traffic) c.take.result c.take.new.self c.settle.new.board told c.settle.new.wire c.if-take.true c.settle.ensures;
-    })
-
-pub loop-index-preserved : goal.loop-index-preserved
-loop-index-preserved g c =
+pub loop-index-preserved-then-not-take : goal.loop-index-preserved-then-not-take
+loop-index-preserved-then-not-take g c =
+    let none : c.take.result ≡ false = search rules in
     let told = record c.loop-index.wire { journal = with_value c.loop-index.wire.journal c.take.new.journal } in
     takes_more (HandsTo g.S.Surroundings.sends g.S.Surroundings.traffic) c.args.place c.loop-index.index c.args.board.now c.loop-index.board c.take.new.self c.args.wire.now c.loop-index.wire
     told c.loop-index.invariant (record {
@@ -38,5 +22,23 @@ loop-index-preserved g c =
       counts = rw (c.deref_mut.ensures.value) at c.take.ensures.tally;
       leaves = refl;
       tells = rw (c.deref_mut.ensures.value) at c.take.ensures.journal;
-      settles = settled_none (HandsTo g.S.Surroundings.sends g.S.Surroundings.traffic) c.take.result c.take.new.self told c.if-take.false;
+      settles = settled_none (HandsTo g.S.Surroundings.sends g.S.Surroundings.traffic) c.take.result c.take.new.self told none;
+    })
+
+pub loop-index-preserved : goal.loop-index-preserved
+loop-index-preserved g c =
+    let some : c.take.result ≡ true = search rules in
+    let told = record c.loop-index.wire { journal = with_value c.loop-index.wire.journal c.take.new.journal } in
+    takes_more (HandsTo g.S.Surroundings.sends g.S.Surroundings.traffic) c.args.place c.loop-index.index c.args.board.now c.loop-index.board c.settle.new.board c.args.wire.now c.loop-index.wire
+    c.settle.new.wire c.loop-index.invariant (record {
+      found = c.take.result;
+      taken = c.take.new.self;
+      told = told;
+      takes = c.take.ensures.takes;
+      waits = c.take.ensures.waits;
+      rest = c.take.ensures.rest;
+      counts = rw (c.deref_mut.ensures.value) at c.take.ensures.tally;
+      leaves = refl;
+      tells = rw (c.deref_mut.ensures.value) at c.take.ensures.journal;
+      settles = settled_some (HandsTo g.S.Surroundings.sends g.S.Surroundings.traffic) c.take.result c.take.new.self c.settle.new.board told c.settle.new.wire some c.settle.ensures;
     })
