@@ -51,4 +51,13 @@ pub fn how_a_load_ends_has_examples()
     ensures unrouted { (config : AgentConfig) (was is : Wire ℕ) (ending : LoadEnding) →
         ServesBegun answers_any (λ result board before now after. is_some board.office ≡ true) writes_any config false was ending is →
         ending ≡ loads.Common CommonEnding.OutOfMemory }
+    // Where its configuration has no map of the numbers that are dialled none is routed.
+    ensures unmapped { (config : AgentConfig) (was is : Wire ℕ) (ending : LoadEnding) → config.map ≡ None →
+        ServesBegun answers_any (λ result board before now after. is_some board.office ≡ true) writes_any config true was ending is →
+        ending ≡ loads.Common CommonEnding.OutOfMemory }
+    // What was recorded is written once the exchange served.
+    ensures writes { (config : AgentConfig) (is_routed : Bool) (was is : Wire ℕ) (ending : LoadEnding) →
+        ServesBegun {W = ℕ} answers_any (λ result board before now after. result ≡ Ok tt) (λ before journal time after left. ⊥) config
+        is_routed was ending is →
+        ending ≡ loads.Common CommonEnding.OutOfMemory }
 {}

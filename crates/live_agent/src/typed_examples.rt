@@ -50,6 +50,10 @@ pub fn what_is_heard_of_who_types_has_examples()
     ensures came { (source : SocketAddrV4) (was is : Wire ℕ) → left_of was.lines ≡ [] → was.read ≡ 5 →
         HearsTyped no_sockets (λ before found room after. found ≡ Some (V4 source, 4)) was is →
         (is.lines.sender ≡ Some (V4 source)) × (is.read ≡ 6) }
+    // Nothing is made of what came from the program's own socket, but it is read.
+    ensures own { (was is : Wire ℕ) → left_of was.lines ≡ [] → was.read ≡ 5 →
+        HearsTyped (λ around. socket_at here 4000 ∷ []) (λ before found room after. found ≡ Some (V4 (socket_at here 4000), 4)) was is →
+        (is.lines ≡ was.lines) × (is.read ≡ 6) }
     // Nothing else of the wire changes by it.
     ensures stays { (was is : Wire ℕ) → HearsTyped no_sockets hears_any was is →
         (is.network ≡ was.network) × (is.journal ≡ was.journal) × (is.now ≡ was.now) × (is.is_behind ≡ was.is_behind)
