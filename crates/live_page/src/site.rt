@@ -188,7 +188,7 @@ fn seat_in(place: &Option<Box<Visitor>>) -> Option<Seat>
     ensures { result ≡ seat_in place.now }
 {
     match place {
-        Some(visitor) => Some(visitor.seat()),
+        Some(visitor) => Some(visitor.seat),
         None => None,
     }
 }

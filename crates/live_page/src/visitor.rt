@@ -40,8 +40,8 @@ pub(crate) struct Visitor {
     // Whether its socket may have something to read, and room to write.
     may_read: bool,
     may_write: bool,
-    // From where it comes, and when something came from there or went there last, in ms.
-    seat: Seat,
+    /// From where it comes, and when something came from there or went there last, in ms.
+    pub(crate) seat: Seat,
     /// The moment until which it is waited for, in ms.
     pub(crate) deadline: u64,
     /// Whether it has more to do at once.
@@ -78,13 +78,6 @@ impl Visitor {
                 has_turn: true,
             },
         )
-    }
-
-    /// From where it comes, and since when it is idle.
-    pub(crate) fn seat(&self) -> Seat
-        ensures { result ≡ self.now.seat }
-    {
-        self.seat
     }
 
     /// Its socket can be read or written, as far as was told.
