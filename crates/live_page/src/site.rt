@@ -1,5 +1,5 @@
 //! The site: the socket at which browsers ask for the page, and whose turn it is.
-ghost use Rattle.std.specs.Prelude.{◌≡◌, ◌||◌, None, IfOk, IfSome, IsSomeAnd, OnErr, OnOk, false, is_some, map, replicate, slice_get};
+ghost use Rattle.std.specs.Prelude.{◌≡◌, ◌||◌, None, IfOk, IfSome, IsSomeAnd, OnErr, OnOk, false, map, replicate, slice_get};
 ghost use Rattle.live_ends.specs.Looking.{no_visit};
 ghost use Rattle.page_access.specs.Naming.{names_of};
 ghost use Rattle.page_access.specs.Places.{place_for};
@@ -255,13 +255,6 @@ impl Site {
         }
     }
 
-    /// Whether a visitor has more to do at once.
-    pub fn has_turn(&self) -> bool
-        ensures { result ≡ is_some (next_turn self.now.last self.now.places.items) }
-    {
-        self.next_place().is_some()
-    }
-
     /// Those whose time is over go.
     pub fn close_late(&mut self, now: u64)
         ensures places { self.new.places.items ≡ map (stays_at now) self.old.places.items }
@@ -412,7 +405,7 @@ impl Reception for Site {
     }
 
     fn is_busy(&self) -> bool {
-        self.may_accept || self.has_turn()
+        self.may_accept || self.next_place().is_some()
     }
 
     fn next_deadline(&self) -> Option<u64> {
