@@ -4,7 +4,7 @@ ghost use Rattle.live_ends.specs.Looking.{no_visit};
 ghost use Rattle.page_access.specs.Naming.{names_of};
 ghost use Rattle.page_access.specs.Places.{place_for};
 ghost use Rattle.live_page.specs.Receiving.{host_of, seat_in, visitor_in, noted_in, noted_each, with_place};
-ghost use Rattle.live_page.specs.Receiving.{IsOpened, SeatsAt, LetsIn, ServesPlace, ServesNext};
+ghost use Rattle.live_page.specs.Receiving.{SeatsAt, LetsIn, ServesPlace, ServesNext};
 ghost use Rattle.live_page.specs.Waiting.{deadline_of, sooner, soonest_from, is_late, stays_at, has_more, is_behind, turn_from, next_turn};
 
 use crate::desk::Desk;
@@ -216,34 +216,6 @@ fn free_places(alloc: Global) -> Result<Vec<Option<Box<Visitor>>>, AllocError>
 }
 
 impl Site {
-    /// A site at this address, and under these further names, whose sockets are watched from now on.
-    pub fn open<R: Net>(
-        rt: &R,
-        alloc: Global,
-        address: SocketAddrV4,
-        names: HostNames,
-        ready: &Readiness,
-    ) -> io::Result<Site>
-        ensures { IfOk result (λ site. IsOpened (names_of names) site) }
-    {
-        let places = free_places(alloc)?;
-        let mut listener = TcpListener::bind(rt, SocketAddr::V4(address))?;
-        ready.watch_listener(&mut listener)?;
-        let address = match listener.local_addr() {
-            Ok(SocketAddr::V4(address)) => Some(address),
-            Ok(_) | Err(_) => None,
-        };
-        Ok(Site {
-            alloc,
-            listener,
-            address,
-            names,
-            places,
-            may_accept: true,
-            last: 0,
-        })
-    }
-
     // The next place behind the last whose visitor has more to do; behind all of them the first.
     fn next_place(&self) -> Option<usize>
         ensures { result ≡ next_turn self.now.last self.now.places.items }
@@ -397,7 +369,22 @@ impl Reception for Site {
         names: HostNames,
         ready: &Readiness,
     ) -> io::Result<Site> {
-        Site::open(rt, alloc, address, names, ready)
+        let places = free_places(alloc)?;
+        let mut listener = TcpListener::bind(rt, SocketAddr::V4(address))?;
+        ready.watch_listener(&mut listener)?;
+        let address = match listener.local_addr() {
+            Ok(SocketAddr::V4(address)) => Some(address),
+            Ok(_) | Err(_) => None,
+        };
+        Ok(Site {
+            alloc,
+            listener,
+            address,
+            names,
+            places,
+            may_accept: true,
+            last: 0,
+        })
     }
 
     fn address(&self) -> Option<SocketAddrV4> {
