@@ -1,5 +1,6 @@
 pub mod Computing
 pub mod AnsweringLaws
+pub mod FieldLemmas
 pub mod VisitLemmas
 pub mod ReceivingLemmas
 pub mod CrowdLemmas

@@ -1,10 +1,10 @@
 //! The fields that answers go with.
-ghost use Rattle.std.specs.Prelude.{◌≡◌, ◌++◌, ◌∷◌, [], OnOk};
+ghost use Rattle.std.specs.Prelude.{◌≡◌, ◌++◌, OnOk};
 ghost use Rattle.http_server.specs.Response.{fields_of};
-ghost use Rattle.live_page.specs.Fields.{kind_of, policy, kept_fields, frame_fields, guard_fields, kind_fields};
+ghost use Rattle.live_page.specs.Fields.{kind_of, policy, kept_fields, guard_fields, kind_fields};
 
 use bytes::Bytes;
-use http::{HeaderName, HeaderValue, header};
+use http::{HeaderValue, header};
 use http_server::Response;
 use std::alloc::AllocError;
 
@@ -43,65 +43,32 @@ fn policy() -> HeaderValue
     )
 }
 
-fn put_field(
-    response: &mut Response,
-    name: HeaderName,
-    value: HeaderValue,
-) -> Result<(), AllocError>
-    ensures status { response.new.status ≡ response.old.status }
-    ensures body { response.new.body ≡ response.old.body }
-    ensures fields { OnOk result (fields_of response.new ≡ fields_of response.old ++ (name, value.bytes) ∷ []) }
-{
-    response.add_header(name, value)
-}
-
 // Puts the kind, which no browser guesses, of what none keeps.
 fn put_kept(response: &mut Response, content: Content) -> Result<(), AllocError>
     ensures status { response.new.status ≡ response.old.status }
     ensures body { response.new.body ≡ response.old.body }
     ensures fields { OnOk result (fields_of response.new ≡ fields_of response.old ++ kept_fields content) }
 {
-    put_field(response, header::CONTENT_TYPE, kind_of(content))?;
-    put_field(
-        response,
-        header::CACHE_CONTROL,
-        HeaderValue::from_static("no-store"),
-    )?;
-    put_field(
-        response,
+    response.add_header(header::CONTENT_TYPE, kind_of(content))?;
+    response.add_header(header::CACHE_CONTROL, HeaderValue::from_static("no-store"))?;
+    response.add_header(
         header::X_CONTENT_TYPE_OPTIONS,
         HeaderValue::from_static("nosniff"),
-    )?;
-    Ok(())
+    )
 }
 
-// Puts that a browser shows it in no other's frame, and tells nobody of it.
-fn put_frames(response: &mut Response) -> Result<(), AllocError>
-    ensures status { response.new.status ≡ response.old.status }
-    ensures body { response.new.body ≡ response.old.body }
-    ensures fields { OnOk result (fields_of response.new ≡ fields_of response.old ++ frame_fields) }
-{
-    put_field(
-        response,
-        header::X_FRAME_OPTIONS,
-        HeaderValue::from_static("DENY"),
-    )?;
-    put_field(
-        response,
-        header::REFERRER_POLICY,
-        HeaderValue::from_static("no-referrer"),
-    )?;
-    Ok(())
-}
-
-// Puts what a browser may make of it.
+// Puts what a browser may make of it: it shows it in no other's frame, and tells nobody of it.
 fn put_guards(response: &mut Response) -> Result<(), AllocError>
     ensures status { response.new.status ≡ response.old.status }
     ensures body { response.new.body ≡ response.old.body }
     ensures fields { OnOk result (fields_of response.new ≡ fields_of response.old ++ guard_fields) }
 {
-    put_frames(response)?;
-    put_field(response, header::CONTENT_SECURITY_POLICY, policy())
+    response.add_header(header::X_FRAME_OPTIONS, HeaderValue::from_static("DENY"))?;
+    response.add_header(
+        header::REFERRER_POLICY,
+        HeaderValue::from_static("no-referrer"),
+    )?;
+    response.add_header(header::CONTENT_SECURITY_POLICY, policy())
 }
 
 /// Puts what this kind of content goes with: no browser keeps it, guesses another kind, or shows it in another's frame.
