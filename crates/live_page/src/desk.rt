@@ -108,11 +108,20 @@ fn read(
         Route::Page => put_static(response, Content::Page, page_text()),
         Route::Style => put_static(response, Content::Style, style_text()),
         Route::Script => put_static(response, Content::Script, script_text()),
-        Route::State => put_json(response, state_of(alloc, board)?),
-        Route::Metrics => put_metrics(response, board.metrics()?),
+        Route::State => {
+            let text = state_of(alloc, board)?;
+            put_json(response, text)
+        }
+        Route::Metrics => {
+            let text = board.metrics()?;
+            put_metrics(response, text)
+        }
         Route::Health => put_health(response, board.is_alive()),
         Route::Ready => put_readiness(response, board.is_serving()),
-        Route::Events { after } => put_json(response, events_of(alloc, board, after)?),
+        Route::Events { after } => {
+            let text = events_of(alloc, board, after)?;
+            put_json(response, text)
+        }
         Route::Phone | Route::Nothing => {
             response.status = StatusCode::NOT_FOUND;
             Ok(())
