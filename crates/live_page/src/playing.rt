@@ -24,15 +24,16 @@ fn answer(connection: &mut Connection, desk: &mut Desk<'_>, request: &[u8]) -> i
     Ok(())
 }
 
-// Puts what was answered.
-fn put_answer(connection: &mut Connection, out: &mut Vec<u8>) -> io::Result<()> {
+// What was answered.
+fn answered(alloc: Global, connection: &mut Connection) -> io::Result<Vec<u8>> {
+    let mut out = Vec::new(alloc);
     for _ in 0..u16::MAX {
         if !connection.wants_write() {
-            return Ok(());
+            break;
         }
-        connection.write_to(out)?;
+        connection.write_to(&mut out)?;
     }
-    Ok(())
+    Ok(out)
 }
 
 /// What the page at this address, and under these further names, answers to a request by a board, for who plays visitors in memory.
@@ -50,7 +51,5 @@ pub fn answer_to(
     let mut connection = boxed(alloc, Connection::new(alloc, keys, Config::default()))?;
     let mut desk = Desk::new(alloc, site, names, board);
     answer(&mut connection, &mut desk, request)?;
-    let mut out = Vec::new(alloc);
-    put_answer(&mut connection, &mut out)?;
-    Ok(out)
+    answered(alloc, &mut connection)
 }
