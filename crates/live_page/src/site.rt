@@ -1,5 +1,5 @@
 //! The site: the socket at which browsers ask for the page, and whose turn it is.
-ghost use Rattle.std.specs.Prelude.{◌≡◌, ◌||◌, None, IfOk, IfSome, IsSomeAnd, OnErr, OnOk, false, map, replicate, slice_get};
+ghost use Rattle.std.specs.Prelude.{◌≡◌, ◌||◌, None, IfNone, IfOk, IfSome, IsSomeAnd, OnSome, false, map, replicate, slice_get};
 ghost use Rattle.live_ends.specs.Looking.{no_visit};
 ghost use Rattle.page_access.specs.Naming.{names_of};
 ghost use Rattle.page_access.specs.Places.{place_for};
@@ -266,7 +266,8 @@ impl Site {
         Ok(place_for(seats.as_slice(), host))
     }
 
-    // Serves somebody who came from this address; who has the place gives way, and their connection is closed.
+    // Serves somebody who came from this address; who has the place gives way, and their connection is closed. Gives nothing where they
+    // can't be served.
     #[tactic(auto, using(crate::proofs::ReceivingLemmas::seats_nobody, crate::proofs::ReceivingLemmas::seats_there))]
     fn welcome<R: RandomSource>(
         &mut self,
@@ -275,24 +276,34 @@ impl Site {
         now: u64,
         mut stream: TcpStream,
         host: Ipv4Addr,
-    ) -> io::Result<()>
+    ) -> Option<()>
         ensures address { self.new.address ≡ self.old.address }
         ensures names { names_of self.new.names ≡ names_of self.old.names }
         ensures last { self.new.last ≡ self.old.last }
         ensures accepting { self.new.may_accept ≡ self.old.may_accept }
-        ensures ok { OnOk result (SeatsAt (place_for (map seat_in self.old.places.items) host) host now self.old.places.items
+        ensures served { OnSome result (SeatsAt (place_for (map seat_in self.old.places.items) host) host now self.old.places.items
             self.new.places.items) }
-        ensures err { OnErr result (self.new.places.items ≡ self.old.places.items) }
+        ensures refused { IfNone result (self.new.places.items ≡ self.old.places.items) }
     {
-        let Some(place) = self.place_for(host)? else {
-            return Ok(());
+        let Ok(found) = self.place_for(host) else {
+            return None;
         };
-        ready.watch_visitor(&mut stream, place)?;
-        let visitor = Visitor::new(self.alloc, stream, host, RandomState::new(rt)?, now)?;
+        let Some(place) = found else {
+            return Some(());
+        };
+        let Ok(()) = ready.watch_visitor(&mut stream, place) else {
+            return None;
+        };
+        let Ok(keys) = RandomState::new(rt) else {
+            return None;
+        };
+        let Ok(visitor) = Visitor::new(self.alloc, stream, host, keys, now) else {
+            return None;
+        };
         if let Some(held) = self.places.get_mut(place) {
             *held = Some(visitor);
         }
-        Ok(())
+        Some(())
     }
 
     /// Takes somebody who has come, if anybody has.
@@ -308,8 +319,8 @@ impl Site {
         }
         match self.listener.accept() {
             Ok((stream, source)) => match self.welcome(rt, ready, now, stream, host_of(source)) {
-                Ok(()) => Came::LetIn,
-                Err(_) => Came::TurnedAway,
+                Some(()) => Came::LetIn,
+                None => Came::TurnedAway,
             },
             Err(_) => {
                 self.may_accept = false;

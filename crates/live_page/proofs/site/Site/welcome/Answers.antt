@@ -4,7 +4,7 @@ use Rattle.live_page.specs.Receiving.{seat_in}
 use Rattle.live_page.proofs.ReceivingLemmas.{seats_nowhere}
 use Rattle.live_page.proofs.site.Site.welcome.Goals as goal
 
-pub returns-in_default-get_mut-clause-ok : goal.returns-in_default-get_mut-clause-ok
-returns-in_default-get_mut-clause-ok g c =
-    seats_nowhere (place_for (map seat_in c.args.self.now.places.items) c.args.host) c.args.host c.args.now c.in-Some.place c.in_ok-visitor.visitor
-    c.args.self.now.places.items (sym c.in_ok-place.ensures ∙ c.in-Some.is) c.in_ok-visitor.ensures c.in_default-get_mut.ensures.item.3
+pub returns-in_default-get_mut-clause-served : goal.returns-in_default-get_mut-clause-served
+returns-in_default-get_mut-clause-served g c =
+    seats_nowhere (place_for (map seat_in c.args.self.now.places.items) c.args.host) c.args.host c.args.now c.in-Some.place c.in-Ok-new-2.visitor
+    c.args.self.now.places.items (sym c.in-Ok.ensures ∙ c.in-Some.is) c.in-Ok-new-2.ensures c.in_default-get_mut.ensures.item.3
