@@ -1,10 +1,12 @@
 -- Who has a place, and whose turn it is.
-use Rattle.std.proofs.Common.{◌≡◌, ℕ, zero, suc, ◌≤◌, true, List, [], ◌∷◌, length, map, slice_get, slice_set, Option, None, Some, refl, sym, ◌∙◌, ap, subst}
+use Rattle.std.proofs.Common.{◌≡◌, ℕ, zero, suc, ◌≤◌, true, List, [], ◌∷◌, ◌++◌, length, map, drop, append-nil, slice_get, slice_set, Option, None, Some, refl, sym, ◌∙◌, ap, subst}
+use Rattle.std.proofs.lemmas.List.{at_drop_all}
 use Rattle.std.proofs.lemmas.Option.{slice_get_past}
 use Rattle.std.specs.Global.{Box}
 use Rattle.std.specs.declared.net.ipv4_addr.Ipv4Addr.{Ipv4Addr}
 use Rattle.std.specs.declared.net.socket_addr.SocketAddr.{SocketAddr}
 use Rattle.std.specs.declared.net.socket_addr.SocketAddrV4.{SocketAddrV4}
+use Rattle.page_access.specs.declared.places.Seat.{Seat}
 use Rattle.page_access.specs.Places.{place_for}
 use Rattle.page_board.specs.Showing.{BoardState}
 use Rattle.live_page.specs.declared.site.Came.TheVariants.{LetIn}
@@ -12,6 +14,12 @@ use Rattle.live_page.specs.declared.site.Site.{Site}
 use Rattle.live_page.specs.declared.visitor.Visitor.{Visitor}
 use Rattle.live_page.specs.Visiting.{IsNew}
 use Rattle.live_page.specs.Receiving.{host_of, seat_in, LetsIn, SeatsAt, ServesAt, ServesNext}
+
+-- who has each place was looked at
+pub seats_all : (seats : List (Option Seat)) (items places : List (Option (Box Visitor))) (index : ℕ) → length items ≤ index
+    → seats ++ map seat_in (drop index items) ≡ map seat_in places → seats ≡ map seat_in places
+seats_all seats items places index past so_far =
+    sym (append-nil seats) ∙ ap (λ (left : List (Option Seat)). seats ++ left) (sym (at_drop_all (map seat_in) items index past)) ∙ so_far
 
 -- a place that isn't there is nobody's
 pub set_nowhere : (places : List (Option (Box Visitor))) (place : ℕ) (left : Option (Box Visitor)) → slice_get places place ≡ None

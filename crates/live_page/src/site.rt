@@ -193,17 +193,6 @@ fn seat_in(place: &Option<Box<Visitor>>) -> Option<Seat>
     }
 }
 
-// Who has each place.
-fn seats_of(alloc: Global, places: &[Option<Box<Visitor>>]) -> Result<Vec<Option<Seat>>, AllocError>
-    ensures { IfOk result (λ seats. seats.items ≡ map seat_in places.now) }
-{
-    let mut seats = Vec::with_capacity(alloc, places.len())?;
-    for place in places {
-        seats.push(seat_in(place))?;
-    }
-    Ok(seats)
-}
-
 // Nobody has any of the places.
 fn free_places(alloc: Global) -> Result<Vec<Option<Box<Visitor>>>, AllocError>
     ensures { IfOk result (λ places. places.items ≡ replicate MOST_VISITORS None) }
@@ -258,11 +247,14 @@ impl Site {
         ready.forget_visits();
     }
 
-    // The place of somebody who comes from this address.
+    // The place of somebody who comes from this address, by who has each place.
     fn place_for(&self, host: Ipv4Addr) -> Result<Option<usize>, AllocError>
         ensures { IfOk result (λ place. place ≡ place_for (map seat_in self.now.places.items) host) }
     {
-        let seats = seats_of(self.alloc, self.places.as_slice())?;
+        let mut seats = Vec::with_capacity(self.alloc, self.places.len())?;
+        for place in self.places.as_slice() {
+            seats.push(seat_in(place))?;
+        }
         Ok(place_for(seats.as_slice(), host))
     }
 
