@@ -5,7 +5,7 @@ ghost use Rattle.page_answers.specs.declared.answers.ActOutcome.{ActOutcome as O
 ghost use Rattle.live_page.specs.Statuses.{outcome_status, method_for, refusal_status, refusal_fields};
 ghost use Rattle.live_page.specs.Fields.{kind_fields};
 ghost use Rattle.live_page.specs.declared.fields.Content.TheVariants as contents;
-ghost use Rattle.live_page.specs.Health.{well_status, alive_text, ready_text};
+ghost use Rattle.live_page.specs.Health.{well_status};
 ghost use Rattle.live_page.specs.Serving.{Reads, Acts};
 
 use crate::fields::{Content, put_body, put_kind};
@@ -63,24 +63,18 @@ fn put_metrics(response: &mut Response, text: Vec<u8>) -> Result<(), AllocError>
     }
 }
 
-// Puts whether the loop turns.
-fn put_health(response: &mut Response, is_alive: bool) -> Result<(), AllocError>
-    ensures status { OnOk result (response.new.status ≡ well_status is_alive) }
+// Puts a line of whether something is well.
+fn put_wellness(
+    response: &mut Response,
+    is_well: bool,
+    line: &'static str,
+) -> Result<(), AllocError>
+    ensures status { response.new.status ≡ well_status is_well }
     ensures fields { OnOk result (fields_of response.new ≡ fields_of response.old ++ kind_fields contents.Plain) }
-    ensures body { OnOk result (response.new.body.items ≡ response.old.body.items ++ alive_text is_alive) }
+    ensures body { OnOk result (response.new.body.items ≡ response.old.body.items ++ line.now) }
 {
-    response.status = well_status(is_alive);
-    put_static(response, Content::Plain, alive_text(is_alive))
-}
-
-// Puts whether the gateway serves.
-fn put_readiness(response: &mut Response, is_serving: bool) -> Result<(), AllocError>
-    ensures status { OnOk result (response.new.status ≡ well_status is_serving) }
-    ensures fields { OnOk result (fields_of response.new ≡ fields_of response.old ++ kind_fields contents.Plain) }
-    ensures body { OnOk result (response.new.body.items ≡ response.old.body.items ++ ready_text is_serving) }
-{
-    response.status = well_status(is_serving);
-    put_static(response, Content::Plain, ready_text(is_serving))
+    response.status = well_status(is_well);
+    put_static(response, Content::Plain, line)
 }
 
 // How an act that a page of this site asks for is answered.
@@ -116,8 +110,14 @@ fn read(
             let text = board.metrics()?;
             put_metrics(response, text)
         }
-        Route::Health => put_health(response, board.is_alive()),
-        Route::Ready => put_readiness(response, board.is_serving()),
+        Route::Health => {
+            let is_alive = board.is_alive();
+            put_wellness(response, is_alive, alive_text(is_alive))
+        }
+        Route::Ready => {
+            let is_serving = board.is_serving();
+            put_wellness(response, is_serving, ready_text(is_serving))
+        }
         Route::Events { after } => {
             let text = events_of(alloc, board, after)?;
             put_json(response, text)
