@@ -1,7 +1,6 @@
 -- What is told as JSON of what is shown.
 use Rattle.std.specs.Prelude.{ℕ, Bool, codes, if◌then◌else◌, List, map, fold, Option, Some, None}
 use Rattle.std.specs.Str.Lossy.{utf8_lossy}
-use Rattle.std.specs.Borrow.{Bor}
 use Rattle.serde_json.specs.Data.{Data, null, boolean, number, unsigned, string, array, object, Members, no_members, put}
 use Rattle.serde_json.specs.View.{items_of}
 use Rattle.serde_json.specs.Written.{IsInOrder}
@@ -79,9 +78,6 @@ with_verb members count = put_number (verb_word count.verb) count.number members
 -- how many answers with a code went out, under its three digits
 abbrev pub with_code : Members → CodeCount → Members
 with_code members count = put_number (utf8_lossy (code_text count.code)) count.number members
-
-abbrev pub with_number : Members → Bor (List ℕ) × ℕ → Members
-with_number members named = put_number named.0.now named.1 members
 
 -- how many commands of its own nobody answered, whosever they were
 abbrev pub given_up_in : Counts → ℕ

@@ -1,9 +1,9 @@
 //! Objects that are put together of their members.
-ghost use Rattle.std.specs.Prelude.{◌≡◌, codes, fold, map, IfOk, OnOk, [], ◌∷◌, ◌++◌};
+ghost use Rattle.std.specs.Prelude.{◌≡◌, codes, map, IfOk, OnOk, [], ◌∷◌, ◌++◌};
 ghost use Rattle.serde_json.specs.Data.{Data, Members, boolean, no_members, object as object_data, string, put as with_member};
-ghost use Rattle.serde_json.specs.View.{view, members_view};
+ghost use Rattle.serde_json.specs.View.{view};
 ghost use Rattle.page_answers.specs.Objects.{Holds};
-ghost use Rattle.page_answers.specs.Texts.{number_data, put_number as with_a_number, put_shown as with_shown, with_number, name_data};
+ghost use Rattle.page_answers.specs.Texts.{number_data, put_number as with_a_number, put_shown as with_shown, name_data};
 
 use serde_json::{Map, Value, put};
 use std::alloc::{AllocError, Global};
@@ -110,15 +110,6 @@ impl Object {
         self.put_number("first", first);
     }
 
-    /// Puts members that are numbers.
-    pub(crate) fn put_numbers(&mut self, numbers: &[(&str, u64)])
-        ensures { (was : Members) → Holds self.old was → Holds self.new (fold with_number was numbers.now) }
-    {
-        if put_numbers(self.alloc, &mut self.map, numbers).is_err() {
-            self.is_refused = true;
-        }
-    }
-
     /// All that was put. Its only error is want of memory, also for what was put.
     pub(crate) fn end(self) -> Result<Value, AllocError>
         ensures { (members : Members) → Holds self members → IfOk result (λ value. view value ≡ object_data members) }
@@ -144,19 +135,5 @@ pub(crate) fn put_item(
         → OnOk result (map view list.new.items ≡ map view list.old.items ++ what ∷ []) }
 {
     list.push(made?)?;
-    Ok(())
-}
-
-// Puts members that are numbers.
-fn put_numbers(
-    alloc: Global,
-    map: &mut Map<String, Value>,
-    numbers: &[(&str, u64)],
-) -> Result<(), AllocError>
-    ensures { OnOk result (members_view map.new.entries ≡ fold with_number (members_view map.old.entries) numbers.now) }
-{
-    for (name, number) in numbers {
-        put(map, alloc, *name, Value::from(*number))?;
-    }
     Ok(())
 }

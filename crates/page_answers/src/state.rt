@@ -134,23 +134,20 @@ fn given_up_in(counts: &Counts) -> u64
 fn put_counted(object: &mut Object, counts: &Counts)
     ensures { (was : Members) → Holds object.old was → Holds object.new (put_counted counts.now was) }
 {
-    let numbers = [
-        ("datagrams_in", counts.datagrams_in),
-        ("datagrams_out", counts.datagrams_out),
-        ("responses", counts.responses),
-        ("unreadable", counts.unreadable),
-        ("answers_again", counts.answers_again),
-        ("notifications", counts.notifications),
-        ("notifications_again", counts.notifications_again),
-        ("announcements", counts.announcements),
-        ("announcements_again", counts.announcements_again),
-        ("given_up", given_up_in(counts)),
-        ("refused", counts.refused),
-        ("receive_faults", counts.receive_faults),
-        ("send_faults", counts.send_faults),
-        ("transactions", counts.transactions),
-    ];
-    object.put_numbers(&numbers);
+    object.put_number("datagrams_in", counts.datagrams_in);
+    object.put_number("datagrams_out", counts.datagrams_out);
+    object.put_number("responses", counts.responses);
+    object.put_number("unreadable", counts.unreadable);
+    object.put_number("answers_again", counts.answers_again);
+    object.put_number("notifications", counts.notifications);
+    object.put_number("notifications_again", counts.notifications_again);
+    object.put_number("announcements", counts.announcements);
+    object.put_number("announcements_again", counts.announcements_again);
+    object.put_number("given_up", given_up_in(counts));
+    object.put_number("refused", counts.refused);
+    object.put_number("receive_faults", counts.receive_faults);
+    object.put_number("send_faults", counts.send_faults);
+    object.put_number("transactions", counts.transactions);
 }
 
 fn counts_value(alloc: Global, counts: &Counts) -> Result<Value, AllocError>
