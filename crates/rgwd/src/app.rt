@@ -32,14 +32,6 @@ use std::thread::sleep;
 use std::time::Duration;
 use surroundings::Surroundings;
 
-// Where the sockets of a gateway are, and its page, if it has one.
-#[derive(Clone, Copy)]
-struct Places {
-    own: [SocketAddrV4; 2],
-    has_page: bool,
-    page: Option<SocketAddrV4>,
-}
-
 // Where the page is, if there is one that tells it.
 fn page_address<P: Reception>(visitors: &Option<Box<PageReception<P>>>) -> Option<SocketAddrV4>
     ensures none { IfNone visitors.now (result ≡ None) }
@@ -51,10 +43,15 @@ fn page_address<P: Reception>(visitors: &Option<Box<PageReception<P>>>) -> Optio
     }
 }
 
-// Where the sockets are, and how it starts, as a line; none where a socket doesn't tell where it is.
-fn start_line(alloc: Global, places: Places, begun: Begun) -> Result<Vec<u8>, AllocError> {
-    let own = places.own;
-    if own[0].port() == 0 || own[1].port() == 0 || places.has_page != places.page.is_some() {
+// Where the sockets are, and the page, if there is one, and how it starts, as a line; none where one of these doesn't tell where it is.
+fn start_line(
+    alloc: Global,
+    own: [SocketAddrV4; 2],
+    has_page: bool,
+    page: Option<SocketAddrV4>,
+    begun: Begun,
+) -> Result<Vec<u8>, AllocError> {
+    if own[0].port() == 0 || own[1].port() == 0 || has_page != page.is_some() {
         return Ok(Vec::new(alloc));
     }
     let mut line = Draft::new(alloc);
@@ -62,7 +59,7 @@ fn start_line(alloc: Global, places: Places, begun: Begun) -> Result<Vec<u8>, Al
     put_peer(&mut line, own[0]);
     line.put(b" phones ");
     put_peer(&mut line, own[1]);
-    put_behind(&mut line, b" http ", places.page);
+    put_behind(&mut line, b" http ", page);
     begun.put(&mut line);
     line.put(b"\n");
     line.end()
@@ -73,7 +70,8 @@ fn begin_records<R: Files + Alloc + Clone + Drop>(
     rt: &R,
     alloc: Global,
     settings: &Settings<'_>,
-    places: Places,
+    own: [SocketAddrV4; 2],
+    page: Option<SocketAddrV4>,
     begun: Begun,
     recording: &mut Recording<R>,
 ) -> Result<(), ErrorKind> {
@@ -81,8 +79,9 @@ fn begin_records<R: Files + Alloc + Clone + Drop>(
         Ok(()) => {}
         Err(fault) => return Err(fault),
     }
+    let has_page = settings.sockets.http.is_some();
     // For want of memory that line alone isn't said.
-    if let Ok(line) = start_line(alloc, places, begun) {
+    if let Ok(line) = start_line(alloc, own, has_page, page, begun) {
         recording.outlets.error.say(line.as_slice());
     }
     recording.outlets.offer();
@@ -209,12 +208,8 @@ fn serve_with<R: Files + Net + Clock + RandomSource + Alloc + Clone + Drop, P: R
     let Ok(mut desk) = open_desk(alloc, &asked, config, gateway, live, admission) else {
         return Ending::Common(CommonEnding::OutOfMemory);
     };
-    let places = Places {
-        own,
-        has_page: settings.sockets.http.is_some(),
-        page: page_address(&visitors),
-    };
-    match begin_records(rt, alloc, settings, places, begun, recording) {
+    let page = page_address(&visitors);
+    match begin_records(rt, alloc, settings, own, page, begun, recording) {
         Ok(()) => {}
         Err(kind) => return Ending::Common(CommonEnding::unwritable(kind)),
     }
