@@ -2,7 +2,6 @@
 use live_ends::CaptureFiles;
 use live_journal::{Capture, Journal, Recorder, Trace};
 use live_outlets::{Finisher, Outlets, Written};
-use std::io::Write;
 use std::rt::{Clock, Files};
 
 /// The outlets of a program, and the files of its gateway's capture, where that is parted; and what makes these.
@@ -36,14 +35,6 @@ fn begin_next<R: Files>(
     }
 }
 
-// Whether all that was captured so far is taken.
-fn is_taken<F: Write + Drop>(outlets: &Outlets<F>) -> bool {
-    match &outlets.capture {
-        Some(capture) => capture.is_taken(),
-        None => true,
-    }
-}
-
 // What a turn has put goes into the next file, where the one that is written is full, and has taken all that was put before.
 fn turn_over<R: Files>(
     rt: &R,
@@ -52,7 +43,11 @@ fn turn_over<R: Files>(
     captured: &mut Capture,
 ) {
     let more = captured.record.out.len();
-    if more > 0 && files.is_full(more) && is_taken(outlets) {
+    let is_taken = match &outlets.capture {
+        Some(capture) => capture.is_taken(),
+        None => true,
+    };
+    if more > 0 && files.is_full(more) && is_taken {
         begin_next(rt, files, outlets, captured);
     }
     files.put(captured.record.out.len());
