@@ -9,7 +9,6 @@ use mg_bytes::Draft;
 use rgwd_words::{Ending, Said, unless_help};
 use std::alloc::{AllocError, Global};
 use std::fs::File;
-use std::io;
 use std::io::BufReader;
 use std::rt::Files;
 use traces::{ReplayFault, Verdict, put_verdict, replay};
@@ -17,17 +16,13 @@ use traces::{ReplayFault, Verdict, put_verdict, replay};
 /// The word that asks for it, which is the first.
 pub const REPLAY: &str = "--replay";
 
-// The trace in this file.
-fn trace_in<R: Files>(rt: &R, alloc: Global, file: &str) -> io::Result<BufReader<R::File>> {
-    match File::open(rt, file) {
-        Ok(file) => BufReader::new(alloc, file),
-        Err(fault) => Err(fault),
-    }
-}
-
-// What is found in it.
+// What is found in the trace in this file.
 fn verdict_of<R: Files>(rt: &R, alloc: Global, file: &str) -> Result<Verdict, Ending> {
-    let trace = match trace_in(rt, alloc, file) {
+    let opened = match File::open(rt, file) {
+        Ok(opened) => opened,
+        Err(fault) => return Err(Ending::unreadable(fault.kind())),
+    };
+    let trace = match BufReader::new(alloc, opened) {
         Ok(trace) => trace,
         Err(fault) => return Err(Ending::unreadable(fault.kind())),
     };
