@@ -13,7 +13,7 @@ use crate::telling::{TELL, tell_line};
 use crate::words::read_words;
 use exchange_log::put_peer;
 use gateway_core::Gateway;
-use live_ends::{CaptureFiles, CommonEnding, Live, Parting, begin, end, open_capture, read_file};
+use live_ends::{CaptureFiles, CommonEnding, Live, begin, end, open_capture, read_file};
 use live_gateway::{Desk, agents_line, boxed, end_desk, open_desk};
 use live_journal::Trace;
 use live_page::{PageProgram, Reception, run_with_site};
@@ -138,14 +138,22 @@ fn gateway_of(alloc: Global, text: &[u8], start: &Start) -> Result<Box<Gateway>,
     }
 }
 
-// The first file of a capture that is parted, and what is known of the others, in a box: who is lent what is recorded is lent little.
-fn open_parted<R: Files + Alloc + Clone + Drop>(
+// The file of a capture, if one is asked for; where it is parted its first file, and what is known of the others, in a box: who is lent what
+// is recorded is lent little.
+fn open_files<R: Files + Alloc + Clone + Drop>(
     rt: &R,
     alloc: Global,
-    name: &str,
-    parting: Parting,
+    settings: &Settings<'_>,
     recording: &mut Recording<R>,
 ) -> Result<(), ErrorKind> {
+    let (Some(name), Some(parting)) = (settings.capture, settings.parting) else {
+        let capture = match open_capture(rt, alloc, settings.capture) {
+            Ok(capture) => capture,
+            Err(fault) => return Err(fault),
+        };
+        recording.outlets.capture = capture;
+        return Ok(());
+    };
     let files = match CaptureFiles::find(rt, alloc, name, parting) {
         Ok(files) => files,
         Err(fault) => return Err(fault),
@@ -159,24 +167,6 @@ fn open_parted<R: Files + Alloc + Clone + Drop>(
     };
     recording.outlets.capture = Some(outlet);
     recording.files = Some(files);
-    Ok(())
-}
-
-// The file of a capture, if one is asked for, and the others, where it is parted.
-fn open_files<R: Files + Alloc + Clone + Drop>(
-    rt: &R,
-    alloc: Global,
-    settings: &Settings<'_>,
-    recording: &mut Recording<R>,
-) -> Result<(), ErrorKind> {
-    if let (Some(name), Some(parting)) = (settings.capture, settings.parting) {
-        return open_parted(rt, alloc, name, parting, recording);
-    }
-    let capture = match open_capture(rt, alloc, settings.capture) {
-        Ok(capture) => capture,
-        Err(fault) => return Err(fault),
-    };
-    recording.outlets.capture = capture;
     Ok(())
 }
 
