@@ -85,23 +85,8 @@ fn replayed<R: AllocGlobal + Files>(rt: &R, file: &str, recording: &mut Recordin
     ending_by(&verdict)
 }
 
-// Replays the trace in the file that this word names, unless that asks how the program is used: how it ends by that. The file is the one
-// that it reads.
-fn replay_file<R: AllocGlobal + Files>(rt: &R, word: &str, recording: &mut Recording<R>) -> Said
-    ensures { IfOk result.text (λ text. Says word.now [] result.ending text.items) }
-{
-    let ending = match unless_help(word) {
-        Ok(file) => replayed(rt, file, recording),
-        Err(ending) => ending,
-    };
-    let files = FileNames {
-        read_from: word,
-        written_to: "",
-    };
-    ending.said(rt.alloc(), files)
-}
-
-/// Replays the trace in the file that the words behind `--replay` name, and says what is found: how the program ends by that.
+/// Replays the trace in the file that the words behind `--replay` name, unless they ask how the program is used, and says what is found:
+/// how the program ends by that. The file is the one that it reads.
 pub fn replay_trace<R: AllocGlobal + Files>(
     rt: &R,
     words: &[String],
@@ -111,7 +96,18 @@ pub fn replay_trace<R: AllocGlobal + Files>(
         → IfOk result.text (λ text. Says (string_bytes file) [] result.ending text.items) }
 {
     match words {
-        [file] => replay_file(rt, file.as_str(), recording),
+        [file] => {
+            let word = file.as_str();
+            let ending = match unless_help(word) {
+                Ok(file) => replayed(rt, file, recording),
+                Err(ending) => ending,
+            };
+            let files = FileNames {
+                read_from: word,
+                written_to: "",
+            };
+            ending.said(rt.alloc(), files)
+        }
         _ => Ending::Common(CommonEnding::Usage).said_of_no_file(rt.alloc()),
     }
 }
