@@ -88,15 +88,23 @@ fn begin_records<R: Files + Alloc + Clone + Drop>(
     Ok(())
 }
 
-// Serves at this desk until the end, and answers who asked for that once all is written. As long as a start waits it waits first, before
-// its clock begins: so what is recorded of the gateway doesn't tell it.
-fn serve_desk<R: Files + Net + Clock + RandomSource, P: Reception>(
+// Begins the records of this desk, serves there until the end, and answers who asked for that once all is written. As long as a start
+// waits it waits first, before its clock begins: so what is recorded of the gateway doesn't tell it.
+fn serve_desk<R: Files + Net + Clock + RandomSource + Alloc + Clone + Drop, P: Reception>(
     rt: &R,
+    alloc: Global,
+    settings: &Settings<'_>,
     begun: Begun,
     desk: &mut Desk<Live<'_, R>, Trace>,
     visitors: &mut Option<Box<PageReception<P>>>,
     recording: &mut Recording<R>,
 ) -> Ending {
+    let own = desk.exchange.around.own();
+    let page = page_address(visitors);
+    match begin_records(rt, alloc, settings, own, page, begun, recording) {
+        Ok(()) => {}
+        Err(kind) => return Ending::Common(CommonEnding::unwritable(kind)),
+    }
     if let Some(waits) = begun.waits {
         sleep(rt, Duration::from_millis(waits));
         if desk.exchange.around.clock.begin_anew().is_err() {
@@ -138,8 +146,8 @@ fn gateway_of(alloc: Global, text: &[u8], start: &Start) -> Result<Box<Gateway>,
     }
 }
 
-// The file of a capture, if one is asked for; where it is parted its first file, and what is known of the others, in a box: who is lent what
-// is recorded is lent little.
+// The file of a capture, if one is asked for; where it is parted its first file, and what is known of the others, in a box: who is lent
+// what is recorded is lent little.
 fn open_files<R: Files + Alloc + Clone + Drop>(
     rt: &R,
     alloc: Global,
@@ -198,12 +206,15 @@ fn serve_with<R: Files + Net + Clock + RandomSource + Alloc + Clone + Drop, P: R
     let Ok(mut desk) = open_desk(alloc, &asked, config, gateway, live, admission) else {
         return Ending::Common(CommonEnding::OutOfMemory);
     };
-    let page = page_address(&visitors);
-    match begin_records(rt, alloc, settings, own, page, begun, recording) {
-        Ok(()) => {}
-        Err(kind) => return Ending::Common(CommonEnding::unwritable(kind)),
-    }
-    serve_desk(rt, begun, &mut desk, &mut visitors, recording)
+    serve_desk(
+        rt,
+        alloc,
+        settings,
+        begun,
+        &mut desk,
+        &mut visitors,
+        recording,
+    )
 }
 
 // What is said of the flaw that the configuration in this file with this text has, if it has one: a line that names the file.
