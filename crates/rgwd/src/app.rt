@@ -65,31 +65,9 @@ fn start_line(
     line.end()
 }
 
-// Makes the file of a capture, where one is asked for, and says on standard error where the sockets are, and how it starts.
-fn begin_records<R: Files + Alloc + Clone + Drop>(
-    rt: &R,
-    alloc: Global,
-    settings: &Settings<'_>,
-    own: [SocketAddrV4; 2],
-    page: Option<SocketAddrV4>,
-    begun: Begun,
-    recording: &mut Recording<R>,
-) -> Result<(), ErrorKind> {
-    match open_files(rt, alloc, settings, recording) {
-        Ok(()) => {}
-        Err(fault) => return Err(fault),
-    }
-    let has_page = settings.sockets.http.is_some();
-    // For want of memory that line alone isn't said.
-    if let Ok(line) = start_line(alloc, own, has_page, page, begun) {
-        recording.outlets.error.say(line.as_slice());
-    }
-    recording.outlets.offer();
-    Ok(())
-}
-
-// Begins the records of this desk, serves there until the end, and answers who asked for that once all is written. As long as a start
-// waits it waits first, before its clock begins: so what is recorded of the gateway doesn't tell it.
+// Makes the file of a capture, where one is asked for, says on standard error where the sockets are, and how it starts; then serves at this
+// desk until the end, and answers who asked for that once all is written. As long as a start waits it waits first, before its clock begins:
+// so what is recorded of the gateway doesn't tell it.
 fn serve_desk<R: Files + Net + Clock + RandomSource + Alloc + Clone + Drop, P: Reception>(
     rt: &R,
     alloc: Global,
@@ -99,12 +77,17 @@ fn serve_desk<R: Files + Net + Clock + RandomSource + Alloc + Clone + Drop, P: R
     visitors: &mut Option<Box<PageReception<P>>>,
     recording: &mut Recording<R>,
 ) -> Ending {
-    let own = desk.exchange.around.own();
-    let page = page_address(visitors);
-    match begin_records(rt, alloc, settings, own, page, begun, recording) {
+    match open_files(rt, alloc, settings, recording) {
         Ok(()) => {}
         Err(kind) => return Ending::Common(CommonEnding::unwritable(kind)),
     }
+    let own = desk.exchange.around.own();
+    let has_page = settings.sockets.http.is_some();
+    // For want of memory that line alone isn't said.
+    if let Ok(line) = start_line(alloc, own, has_page, page_address(visitors), begun) {
+        recording.outlets.error.say(line.as_slice());
+    }
+    recording.outlets.offer();
     if let Some(waits) = begun.waits {
         sleep(rt, Duration::from_millis(waits));
         if desk.exchange.around.clock.begin_anew().is_err() {
