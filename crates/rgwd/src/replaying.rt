@@ -44,24 +44,6 @@ fn broken_text(alloc: Global, file: &str, why: &[u8]) -> Result<Vec<u8>, AllocEr
     said.end()
 }
 
-// Says on standard output what is found; of what is no trace on standard error.
-fn tell_verdict<R: Files>(
-    alloc: Global,
-    file: &str,
-    verdict: &Verdict,
-    recording: &mut Recording<R>,
-) -> Result<(), AllocError> {
-    let mut text = Vec::new(alloc);
-    put_verdict(alloc, &mut text, verdict)?;
-    if matches!(verdict, Verdict::Broken { .. }) {
-        let said = broken_text(alloc, file, text.as_slice())?;
-        recording.outlets.error.say(said.as_slice());
-    } else {
-        recording.outlets.output.say(text.as_slice());
-    }
-    Ok(())
-}
-
 // How the program ends that found this, and said so.
 fn ending_by(verdict: &Verdict) -> Ending
     ensures { result ≡ replayed_by verdict.now }
@@ -73,14 +55,24 @@ fn ending_by(verdict: &Verdict) -> Ending
     }
 }
 
-// Replays the trace in this file, and says what is found: how the program ends by that.
+// Replays the trace in this file, and says on standard output what is found; of what is no trace on standard error: how the program ends by
+// that.
 fn replayed<R: AllocGlobal + Files>(rt: &R, file: &str, recording: &mut Recording<R>) -> Ending {
     let verdict = match verdict_of(rt, rt.alloc(), file) {
         Ok(verdict) => verdict,
         Err(ending) => return ending,
     };
-    if tell_verdict(rt.alloc(), file, &verdict, recording).is_err() {
+    let mut text = Vec::new(rt.alloc());
+    if put_verdict(rt.alloc(), &mut text, &verdict).is_err() {
         return Ending::Common(CommonEnding::OutOfMemory);
+    }
+    if matches!(&verdict, Verdict::Broken { .. }) {
+        let Ok(said) = broken_text(rt.alloc(), file, text.as_slice()) else {
+            return Ending::Common(CommonEnding::OutOfMemory);
+        };
+        recording.outlets.error.say(said.as_slice());
+    } else {
+        recording.outlets.output.say(text.as_slice());
     }
     ending_by(&verdict)
 }
