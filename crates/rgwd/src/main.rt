@@ -3,6 +3,7 @@
 
 mod app;
 mod behind;
+mod examples;
 mod opening;
 mod reception;
 mod recording;
