@@ -6,9 +6,12 @@
 //! - `<`, `>` a datagram comes from the first gateway, 127.0.0.1:2427, or goes there, or from and to the address behind them.
 //! - `type AUEP ..` this is typed at the socket for commands.
 //! - `print ..` a line of standard output.
+//! - `words check`, `words --list` it is asked which checks there are. What words that ask for nothing to serve lead to is told as it is at
+//!   the end: `print ..`, or `log ..` of standard error, and `status ..` (`asked.rt`).
 //! - `read print` what is printed is read from here on, and `read print 1048413` so many bytes wait for that from the start; where the log
 //!   is read late, nobody reads that without it.
 //! - `refused print` memory is refused for what is printed, from the start.
+use crate::asked::{asks_for_list, put_list, put_said};
 use crate::loads::{load_line, play_load};
 use crate::stories::{
     Clocks, EndClock, LateRecord, Machine, Place, Program, Records, Story, Transcript, line_of,
@@ -19,7 +22,7 @@ use agent_texts::Journal;
 use live_agent::{Recorder, Wire, WireSettings, serve_over, wire_over};
 use live_ends::{AddressWord, CommonEnding, SocketWanted};
 use mg_bytes::OutOfMemory;
-use rgca_words::{Settings, WordFault, read_words};
+use rgca_words::{Named, Settings, WordFault, read_words, word_ending};
 use scenario_files::{Report, Titled};
 use std::alloc::{AllocError, Global};
 use std::net::{Ipv4Addr, Net, SocketAddrV4};
@@ -65,18 +68,12 @@ pub(crate) fn config_in(alloc: Global, settings: &str) -> Result<Option<AgentCon
     }
 }
 
-// What a command line asks for, read as the program reads it; nothing where its words are wrong.
-fn settings_by<'a>(
-    alloc: Global,
-    line: &'a [String],
-) -> Result<Option<Box<Settings<'a>>>, OutOfMemory> {
-    let mut said = unread_outlet(alloc)?;
-    let settings = match read_words(alloc, line, &mut said) {
-        Ok(settings) => settings,
-        Err(WordFault::Common(CommonEnding::OutOfMemory)) => return Err(AllocError),
-        Err(_) => return Ok(None),
+// What a command line asks for, read as the program reads it; or why it asks for nothing that is served.
+fn settings_by<'a>(alloc: Global, line: &'a [String]) -> Result<Box<Settings<'a>>, WordFault> {
+    let Ok(mut said) = unread_outlet(alloc) else {
+        return Err(WordFault::Common(CommonEnding::OutOfMemory));
     };
-    Ok(Some(settings))
+    read_words(alloc, line, &mut said)
 }
 
 // What is asked of a wire, which ends behind what comes where no word says when.
@@ -190,11 +187,18 @@ impl Program for CallAgent {
         if let Some(line) = load_line(alloc, story.words.as_slice())? {
             return play_load(alloc, line.as_slice(), story, given);
         }
-        let line = line_of(alloc, "rgca", "agent.toml", story.words.as_slice())?;
-        match settings_by(alloc, line.as_slice())? {
-            Some(settings) => play_asked(alloc, &settings, story, given),
-            None => Ok(false),
+        if asks_for_list(story.words.as_slice()) {
+            return put_list(alloc, story, given);
         }
+        let line = line_of(alloc, "rgca", "agent.toml", story.words.as_slice())?;
+        let settings = match settings_by(alloc, line.as_slice()) {
+            Ok(settings) => settings,
+            Err(fault) => {
+                let said = word_ending(fault).said(alloc, Named::nothing());
+                return put_said(said, story, given);
+            }
+        };
+        play_asked(alloc, &settings, story, given)
     }
 }
 

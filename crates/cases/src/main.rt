@@ -9,6 +9,7 @@
 //! What is told otherwise than it happens is printed under its title. `docs/SCENARIOS.md` says how scenarios are written.
 #![tactic(auto)]
 
+mod asked;
 mod calls;
 mod checks;
 mod desk;

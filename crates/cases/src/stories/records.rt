@@ -8,7 +8,6 @@ use crate::stories::story::Story;
 use live_ends::CommonEnding;
 use live_journal::{Journal, Trace};
 use live_outlets::{Finisher, Record, TEXT_ROOM, Written, boxed};
-use mg_bytes::Draft;
 use std::alloc::{AllocError, Global};
 use std::rc::Rc;
 use std::rt::Clock;
@@ -162,11 +161,8 @@ impl Records {
     /// Tells with which status the program ends, where a story asks for that.
     pub fn tell_status(&mut self, ending: CommonEnding, story: &Story) {
         if story.has_status {
-            let mut text = Draft::new(self.alloc);
-            text.put(b"status ");
-            text.put_decimal(u64::from(ending.status()));
-            text.put(b"\n");
-            self.given.put(self.clocks.stamp(), text);
+            let at = self.clocks.stamp();
+            self.given.tell_status(at, ending.status());
         }
     }
 

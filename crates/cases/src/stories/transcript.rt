@@ -116,6 +116,15 @@ impl Transcript {
         }
     }
 
+    /// It ended then, with this status.
+    pub fn tell_status(&mut self, at: Stamp, status: u8) {
+        let mut text = Draft::new(self.alloc);
+        text.put(b"status ");
+        text.put_decimal(u64::from(status));
+        text.put(b"\n");
+        self.put(at, text);
+    }
+
     /// All of another one, beside all of this.
     pub fn append(&mut self, other: &mut Transcript) {
         self.is_refused = self.is_refused || other.is_refused;

@@ -5,7 +5,7 @@ use scenario_files::parted;
 use std::alloc::Global;
 use std::io::{self, Write};
 
-/// Which words are wrong is said, and nobody reads that: a story with such words can't be played.
+/// Which words are wrong is said, and nobody reads that: of `rgwd` no story has such words, and one of `rgca` tells how it ends.
 #[derive(Drop)]
 pub struct Unread;
 
