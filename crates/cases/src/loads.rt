@@ -5,7 +5,9 @@
 //! - `words load`, `words --rate N`, `words --for N` and the others.
 //! - `type 127.0.0.1:2428 change 1 at 1000 line 1 off` this comes from the telephones of the first gateway.
 //! - `answer 127.0.0.1:2428 watch 60` this goes there.
-//! - `log ..` a line of standard error, `print ..` one of the report, and `print status 0` the exit status.
+//! - `log ..` a line of standard error, `print ..` one of the report, and `print status 0` the exit status; where no load is made for its
+//!   words `log ..` and `status 2`.
+use crate::asked::put_said;
 use crate::desk::{CallAgent, config_in, wire_of};
 use crate::stories::{Machine, Program, Records, Story, Transcript, line_of};
 use agent_config::AgentConfig;
@@ -14,7 +16,7 @@ use live_ends::{AddressWord, CommonEnding, SocketWanted};
 use live_outlets::Written;
 use load_bench::{LoadFault, LoadSettings};
 use mg_bytes::OutOfMemory;
-use rgca_words::read_load_words;
+use rgca_words::{Named, load_words_ending, read_load_words};
 use std::alloc::{AllocError, Global};
 
 /// The words of a load, of which the first is `load`, as the program's own reader is given them; nothing where words ask for none.
@@ -111,8 +113,12 @@ pub fn play_load(
     story: &mut Story,
     given: &mut Transcript,
 ) -> Result<bool, OutOfMemory> {
-    let Ok((file, settings)) = read_load_words(line) else {
-        return Ok(false);
+    let (file, settings) = match read_load_words(line) {
+        Ok(asked) => asked,
+        Err(fault) => {
+            let said = load_words_ending(fault).said(alloc, Named::nothing());
+            return put_said(said, story, given);
+        }
     };
     match config_in(alloc, story.settings.as_str())? {
         Some(config) => play_by(alloc, file, settings, &config, story, given),
