@@ -6,12 +6,12 @@
 //! - `<`, `>` a datagram comes from the first gateway, 127.0.0.1:2427, or goes there, or from and to the address behind them.
 //! - `type AUEP ..` this is typed at the socket for commands.
 //! - `print ..` a line of standard output.
-//! - `words check`, `words --list` it is asked which checks there are. What words that ask for nothing to serve lead to is told as it is at
-//!   the end: `print ..`, or `log ..` of standard error, and `status ..` (`asked.rt`).
+//! - `words check`, `words --list` it is asked which checks there are; `--help` behind `check`, `phones` or `load`, how that is used. What
+//!   is said of words that ask for nothing to serve is told, and the exit status: `print ..`, or `log ..` of standard error, `status ..`.
 //! - `read print` what is printed is read from here on, and `read print 1048413` so many bytes wait for that from the start; where the log
 //!   is read late, nobody reads that without it.
 //! - `refused print` memory is refused for what is printed, from the start.
-use crate::asked::{asks_for_list, put_list, put_said};
+use crate::asked::{asks_for_help, asks_for_list, put_help, put_list, put_said};
 use crate::loads::{load_line, play_load};
 use crate::stories::{
     Clocks, EndClock, LateRecord, Machine, Place, Program, Records, Story, Transcript, line_of,
@@ -184,6 +184,9 @@ impl Program for CallAgent {
         given: &mut Transcript,
     ) -> Result<bool, OutOfMemory> {
         let alloc = rt.alloc();
+        if asks_for_help(story.words.as_slice()) {
+            return put_help(alloc, story, given);
+        }
         if let Some(line) = load_line(alloc, story.words.as_slice())? {
             return play_load(alloc, line.as_slice(), story, given);
         }
