@@ -15,6 +15,7 @@ mod checks;
 mod desk;
 mod live;
 mod loads;
+mod phone_words;
 mod phones;
 mod played;
 mod scripts;
