@@ -125,9 +125,13 @@ pub fn open_desk<S: Surroundings + Drop>(
     ensures begins { IfOk result (λ desk. (desk.value.is_of_page ≡ false) × (desk.value.schedule ≡ opening 0)
         × IsUnwatched desk.value.watch) }
 {
-    let lines = Lines::new(alloc)?;
+    let Ok(lines) = Lines::new(alloc) else {
+        return Err(AllocError);
+    };
     let domain = gateway.setup().names.domain.as_bytes();
-    let exchange = exchange_of(alloc, settings, domain, around)?;
+    let Ok(exchange) = exchange_of(alloc, settings, domain, around) else {
+        return Err(AllocError);
+    };
     let trace = Trace::new(alloc, settings.has_trace, config, gateway.setup().first);
     let desk = Desk {
         alloc,

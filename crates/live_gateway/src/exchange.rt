@@ -82,8 +82,12 @@ pub(crate) fn exchange_of<S: Surroundings + Drop>(
     ensures recorded { IfOk result (λ exchange. BeginsRecords settings.now domain.now exchange.journal) }
     ensures unused { IfOk result (λ exchange. IsUnused exchange) }
 {
-    let network = network_of(alloc, settings.network, domain)?;
-    let journal = journal_of(alloc, settings, domain)?;
+    let Ok(network) = network_of(alloc, settings.network, domain) else {
+        return Err(AllocError);
+    };
+    let Ok(journal) = journal_of(alloc, settings, domain) else {
+        return Err(AllocError);
+    };
     let around = Box::into_inner(around);
     let now = Now {
         clock: 0,

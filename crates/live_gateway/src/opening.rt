@@ -68,11 +68,23 @@ pub(crate) fn journal_of(
     ensures counted { IfOk result (λ journal. CountsNothing journal.tally.value) }
     ensures recorded { IfOk result (λ journal. BeginsRecords settings.now domain.now journal) }
 {
+    let Ok(tally) = tally_of(alloc) else {
+        return Err(AllocError);
+    };
+    let Ok(log) = log_of(alloc, settings.has_log, domain) else {
+        return Err(AllocError);
+    };
+    let Ok(capture) = capture_of(alloc, settings) else {
+        return Err(AllocError);
+    };
+    let Ok(board) = board_of(alloc, settings.has_page) else {
+        return Err(AllocError);
+    };
     Ok(Journal {
-        tally: tally_of(alloc)?,
-        log: log_of(alloc, settings.has_log, domain)?,
-        capture: capture_of(alloc, settings)?,
-        board: board_of(alloc, settings.has_page)?,
+        tally,
+        log,
+        capture,
+        board,
         written: Written::ALL,
     })
 }
