@@ -4,7 +4,7 @@
 ghost use Rattle.std.specs.Prelude.{◌≡◌, ◌↔◌, ◌<◌, ◌⊎◌, ◌-◌, ◌^◌, ℕ, true, false, not, codes, List, Option, IsTrue, IfOk};
 ghost use Rattle.turns.specs.Runs.{is_end};
 ghost use Rattle.turns.specs.Schedule.{opening};
-ghost use Rattle.plain_machine.specs.Event.{GatewayEvent, tick};
+ghost use Rattle.plain_machine.specs.Event.{GatewayEvent};
 ghost use Rattle.plain_machine.specs.Lists.{plain};
 ghost use Rattle.gateway_core.specs.Stands.{Stands};
 ghost use Rattle.live_journal.specs.Recording.{trace_head, Begins};
@@ -13,16 +13,14 @@ ghost use Rattle.live_telephones.specs.Asking.{AsksFor};
 ghost use Rattle.live_telephones.specs.Watching.{IsUnwatched};
 ghost use Rattle.rgw_scripts.specs.declared.step.ScriptLine.{ScriptLine};
 ghost use Rattle.surroundings.specs.Hearing.{AnswersTo};
-ghost use Rattle.surroundings.specs.Speaking.{admitted_by};
 ghost use Rattle.live_gateway.specs.Desk.{at_desk, GoesOn};
 ghost use Rattle.live_gateway.specs.Ending.{EndsAt, AsksForEnd};
 ghost use Rattle.live_gateway.specs.Exchanging.{OnlyWrites};
 ghost use Rattle.live_play.specs.Readable.{first_unread};
 ghost use Rattle.live_gateway.specs.Answering.{DoesLine, AnswersRequest};
-ghost use Rattle.live_gateway.specs.Leaving.{OnlyPlays, OnlyTicks, DoesVisit, Leaves};
+ghost use Rattle.live_gateway.specs.Leaving.{OnlyPlays, DoesVisit, Leaves};
 ghost use Rattle.live_gateway.specs.Opening.{CountsNothing, BeginsBoard, BeginsNetwork, BeginsRecords, IsUnused, IsUnplayed, IsUntyped};
-ghost use Rattle.live_gateway.specs.Turning.{Tries, LooksForOne, DoesLines, Does, DoesNext, RunsTurns};
-ghost use Rattle.traces.specs.Writing.{passed};
+ghost use Rattle.live_gateway.specs.Turning.{LooksForOne, DoesLines, Does, DoesNext, RunsTurns};
 
 use crate::admission::Admission;
 use crate::arriving::{read_address, read_bytes};
@@ -148,26 +146,6 @@ pub fn open_desk<S: Surroundings + Drop>(
 }
 
 impl<S: Surroundings + Drop, T: Teller + Drop> Desk<S, T> {
-    // The clock goes on.
-    fn tick(&mut self, moment: u64)
-        requires { (moment < first_unread) × ((events : List GatewayEvent) → Stands self.old.play.gateway.value events
-            → (plain self.old.play.gateway.value.setup events).now < moment) }
-        ensures play { GoesOn T.told S.traffic self.old self.new }
-        ensures tried { Tries S.sends (admitted_by self.old.admission.speakers) (passed moment) (tick moment)
-            (at_desk T.told S.traffic self.old) (record self.old.exchange { now = self.new.exchange.now })
-            (at_desk T.told S.traffic self.new) self.new.exchange }
-        ensures rest { OnlyTicks S.dates moment self.old self.new }
-    {
-        self.exchange.begin(moment);
-        let done = self.play.tick(&mut self.exchange, moment);
-        note_taken(
-            &mut self.exchange,
-            done.is_ok(),
-            self.play.gateway.sent(),
-            &self.admission.speakers,
-        );
-    }
-
     // A datagram is taken, if one is there, and who sent it is heard.
     fn datagram(&mut self)
         ensures play { GoesOn T.told S.traffic self.old self.new }
@@ -338,7 +316,16 @@ impl<S: Surroundings + Drop, T: Teller + Drop> Desk<S, T> {
         ensures over { is_end turn ≡ true → (self.new.play ≡ self.old.play) × (self.new.end ≡ self.old.end) }
     {
         match turn {
-            Turn::Tick { moment } => self.tick(moment),
+            Turn::Tick { moment } => {
+                self.exchange.begin(moment);
+                let done = self.play.tick(&mut self.exchange, moment);
+                note_taken(
+                    &mut self.exchange,
+                    done.is_ok(),
+                    self.play.gateway.sent(),
+                    &self.admission.speakers,
+                );
+            }
             Turn::Command => self.command(),
             Turn::Datagram => self.datagram(),
             Turn::Visit => self.visit(visitors, moment),
