@@ -20,7 +20,7 @@ ghost use Rattle.live_play.specs.Readable.{first_unread};
 ghost use Rattle.live_gateway.specs.Answering.{DoesLine, AnswersRequest};
 ghost use Rattle.live_gateway.specs.Leaving.{OnlyPlays, DoesVisit, Leaves};
 ghost use Rattle.live_gateway.specs.Opening.{CountsNothing, BeginsBoard, BeginsNetwork, BeginsRecords, IsUnused, IsUnplayed, IsUntyped};
-ghost use Rattle.live_gateway.specs.Turning.{LooksForOne, DoesLines, Does, DoesNext, RunsTurns};
+ghost use Rattle.live_gateway.specs.Turning.{LooksForOne, Does, DoesNext, RunsTurns};
 
 use crate::admission::Admission;
 use crate::arriving::{read_address, read_bytes};
@@ -264,24 +264,6 @@ impl<S: Surroundings + Drop, T: Teller + Drop> Desk<S, T> {
         }
     }
 
-    // A line is taken, if one is there. Who types and the page take turns: behind what was typed comes one act of the page's.
-    fn command(&mut self)
-        ensures play { GoesOn T.told S.traffic self.old self.new }
-        ensures lines { DoesLines T.told S.traffic S.sockets S.tells S.sends S.hears S.answers self.old self.new }
-        ensures schedule { self.new.schedule ≡ self.old.schedule }
-    {
-        let was_page = self.is_of_page;
-        self.exchange.hear(&mut self.lines);
-        self.take_line();
-        self.is_of_page = take_from_page(
-            self.alloc,
-            &mut self.exchange,
-            &mut self.lines,
-            !was_page,
-            false,
-        );
-    }
-
     // A visitor is served, if one is there.
     fn visit<V: Visitors<S>>(&mut self, visitors: &mut Option<Box<V>>, moment: u64)
         ensures { DoesVisit S.traffic S.tells V.serves moment visitors.old visitors.new self.old self.new }
@@ -326,7 +308,19 @@ impl<S: Surroundings + Drop, T: Teller + Drop> Desk<S, T> {
                     &self.admission.speakers,
                 );
             }
-            Turn::Command => self.command(),
+            // A line is taken, if one is there. Who types and the page take turns: behind what was typed comes one act of the page's.
+            Turn::Command => {
+                let was_page = self.is_of_page;
+                self.exchange.hear(&mut self.lines);
+                self.take_line();
+                self.is_of_page = take_from_page(
+                    self.alloc,
+                    &mut self.exchange,
+                    &mut self.lines,
+                    !was_page,
+                    false,
+                );
+            }
             Turn::Datagram => self.datagram(),
             Turn::Visit => self.visit(visitors, moment),
             Turn::Look => self.exchange.wait(0),

@@ -1,4 +1,5 @@
-use Rattle.std.proofs.Common.{◌≡◌, ℕ, refl, ◌∙◌, ap, subst, sym}
+use Rattle.std.proofs.Common.{◌≡◌, ℕ, false, refl, ◌∙◌, ap, subst, sym}
+use Rattle.std.specs.Prelude.{not}
 use Rattle.plain_machine.specs.Event.{tick}
 use Rattle.surroundings.specs.Speaking.{admitted_by}
 use Rattle.traces.specs.Writing.{passed}
@@ -7,8 +8,8 @@ use Rattle.live_play.specs.Coming.{Came}
 use Rattle.live_play.specs.Running.{live}
 use Rattle.live_gateway.specs.Desk.{at_desk}
 use Rattle.live_gateway.specs.Exchanging.{handed_by, Waits}
-use Rattle.live_gateway.proofs.DeskLemmas.{standing_of, counted_by, ticks, stays_so}
-use Rattle.live_gateway.proofs.FrameLemmas.{made_of, with_exchange, visit_same}
+use Rattle.live_gateway.proofs.DeskLemmas.{standing_of, between, counted_by, ticks, stays_so}
+use Rattle.live_gateway.proofs.FrameLemmas.{made_of, heard_alone, heard_same, page_same, with_exchange, visit_same}
 use Rattle.live_gateway.proofs.OverLemmas.{same_now, taken_quietly, refused_quietly, noted_now}
 use Rattle.live_gateway.proofs.TurningLemmas.{tries, takes_from, tries_begun}
 use Rattle.live_gateway.proofs.desk.Desk.do_turn.Goals as goal
@@ -57,10 +58,44 @@ returns-in-Tick-clause-does g c =
     c.tick-done.ensures.ends))
 
 pub returns-in-Command-clause-play : goal.returns-in-Command-clause-play
-returns-in-Command-clause-play g c = c.command.ensures.play
+returns-in-Command-clause-play g c =
+    between g.T.Teller.told g.S.Surroundings.traffic _ _ _ _
+    c.take_line.ensures.play
+    (heard_same g.T.Teller.told g.S.Surroundings.traffic c.args.self.now c.hear.new.self c.hear.new.lines c.hear.ensures.rest c.hear.ensures.traffic)
+    refl
+    (page_same g.T.Teller.told g.S.Surroundings.traffic g.S.Surroundings.tells (not c.args.self.now.is_of_page) false c.take_line.new.self
+    (record c.take_line.new.self {
+      exchange = c.take_from_page-self.new.exchange;
+      lines = c.take_from_page-self.new.lines;
+      is_of_page = c.take_from_page-self.result;
+    })
+    (record {
+      asked = c.take_from_page-self.ensures.took.0;
+      asks = c.take_from_page-self.ensures.took.1;
+      rest = refl;
+      shown = c.take_from_page-self.ensures.shown;
+      took = c.take_from_page-self.ensures.took.2;
+    })).0
+    refl
 
 pub returns-in-Command-clause-does : goal.returns-in-Command-clause-does
-returns-in-Command-clause-does g c = rw (c.in-Command.is) c.command.ensures.lines
+returns-in-Command-clause-does g c = rw (c.in-Command.is) (record {
+  heard = record c.args.self.now { exchange = c.hear.new.self; lines = c.hear.new.lines };
+  done = c.take_line.new.self;
+  taken = c.hear.ensures.heard.0;
+  hearing = c.hear.ensures.heard.1;
+  before = with_exchange (record c.args.self.now { lines = c.hear.new.lines }) _ _
+      (heard_alone c.args.self.now.exchange c.hear.new.self _ c.hear.ensures.rest c.hear.ensures.heard.2);
+  kept = c.hear.ensures.traffic;
+  line = c.take_line.ensures.line;
+  behind = record {
+    asked = c.take_from_page-self.ensures.took.0;
+    asks = c.take_from_page-self.ensures.took.1;
+    rest = refl;
+    shown = c.take_from_page-self.ensures.shown;
+    took = c.take_from_page-self.ensures.took.2;
+  };
+})
 
 pub returns-in-Datagram-clause-play : goal.returns-in-Datagram-clause-play
 returns-in-Datagram-clause-play g c = c.datagram.ensures.play
@@ -111,7 +146,7 @@ returns-in-Tick-clause-leaves g c =
     )
 
 pub returns-in-Command-clause-leaves : goal.returns-in-Command-clause-leaves
-returns-in-Command-clause-leaves g c = rw (c.in-Command.is) (c.command.ensures.play.admission, c.command.ensures.schedule, refl)
+returns-in-Command-clause-leaves g c = rw (c.in-Command.is) (c.take_line.ensures.play.admission, c.take_line.ensures.schedule, refl)
 
 pub returns-in-Datagram-clause-leaves : goal.returns-in-Datagram-clause-leaves
 returns-in-Datagram-clause-leaves g c = rw (c.in-Datagram.is) (c.datagram.ensures.rest, refl)
