@@ -64,22 +64,9 @@ fn put_head(alloc: Global, out: &mut Vec<u8>, config: &[u8], first: u32) -> Resu
     head.append_to(out)
 }
 
-// The trace of this record, of which nothing is kept yet: so all the room is left that it doesn't take itself.
-fn with_room(told: Record) -> Trace
-    ensures told { result.record ≡ told }
-    ensures room { result.room ≡ TEXT_ROOM - length told.out.items }
-    ensures broken_off { result.is_broken_off ≡ false }
-{
-    let room = TEXT_ROOM.saturating_sub(told.out.len());
-    Trace {
-        record: told,
-        room,
-        is_broken_off: false,
-    }
-}
-
 impl Trace {
-    /// A trace that has its head, where one is asked for: the text of the configuration, and the number with which ids begin.
+    /// A trace that has its head, where one is asked for: the text of the configuration, and the number with which ids begin. Nothing of it is
+    /// kept yet: so all the room is left that it doesn't take itself.
     #[tactic(auto, using(told_messages::proofs::RecordLemmas::putting))]
     pub fn new(alloc: Global, is_on: bool, config: &[u8], first: u32) -> Trace
         ensures head { Begins is_on (trace_head config.now first) result.record }
@@ -88,13 +75,23 @@ impl Trace {
     {
         let mut record = Record::new(alloc, is_on);
         if !is_on {
-            return with_room(record);
+            let room = TEXT_ROOM.saturating_sub(record.out.len());
+            return Trace {
+                record,
+                room,
+                is_broken_off: false,
+            };
         }
         match put_head(alloc, &mut record.out, config, first) {
             Ok(()) => {}
             Err(_) => record.refuse(),
         }
-        with_room(record)
+        let room = TEXT_ROOM.saturating_sub(record.out.len());
+        Trace {
+            record,
+            room,
+            is_broken_off: false,
+        }
     }
 
     /// So much room is left in what is kept, in bytes.
