@@ -16,23 +16,6 @@ use traces::{ReplayFault, Verdict, put_verdict, replay};
 /// The word that asks for it, which is the first.
 pub const REPLAY: &str = "--replay";
 
-// What is found in the trace in this file.
-fn verdict_of<R: Files>(rt: &R, alloc: Global, file: &str) -> Result<Verdict, Ending> {
-    let opened = match File::open(rt, file) {
-        Ok(opened) => opened,
-        Err(fault) => return Err(Ending::unreadable(fault.kind())),
-    };
-    let trace = match BufReader::new(alloc, opened) {
-        Ok(trace) => trace,
-        Err(fault) => return Err(Ending::unreadable(fault.kind())),
-    };
-    match replay(alloc, trace) {
-        Ok(verdict) => Ok(verdict),
-        Err(ReplayFault::OutOfMemory) => Err(Ending::Common(CommonEnding::OutOfMemory)),
-        Err(ReplayFault::Read { kind }) => Err(Ending::unreadable(kind)),
-    }
-}
-
 // What is said of this file, which is no trace: it names it.
 fn broken_text(alloc: Global, file: &str, why: &[u8]) -> Result<Vec<u8>, AllocError>
     ensures { IfOk result (λ said. said.items ≡ file.now ++ codes ": " ++ why.now) }
@@ -58,16 +41,26 @@ fn ending_by(verdict: &Verdict) -> Ending
 // Replays the trace in this file, and says on standard output what is found; of what is no trace on standard error: how the program ends by
 // that.
 fn replayed<R: AllocGlobal + Files>(rt: &R, file: &str, recording: &mut Recording<R>) -> Ending {
-    let verdict = match verdict_of(rt, rt.alloc(), file) {
-        Ok(verdict) => verdict,
-        Err(ending) => return ending,
+    let alloc = rt.alloc();
+    let opened = match File::open(rt, file) {
+        Ok(opened) => opened,
+        Err(fault) => return Ending::unreadable(fault.kind()),
     };
-    let mut text = Vec::new(rt.alloc());
-    if put_verdict(rt.alloc(), &mut text, &verdict).is_err() {
+    let trace = match BufReader::new(alloc, opened) {
+        Ok(trace) => trace,
+        Err(fault) => return Ending::unreadable(fault.kind()),
+    };
+    let verdict = match replay(alloc, trace) {
+        Ok(verdict) => verdict,
+        Err(ReplayFault::OutOfMemory) => return Ending::Common(CommonEnding::OutOfMemory),
+        Err(ReplayFault::Read { kind }) => return Ending::unreadable(kind),
+    };
+    let mut text = Vec::new(alloc);
+    if put_verdict(alloc, &mut text, &verdict).is_err() {
         return Ending::Common(CommonEnding::OutOfMemory);
     }
     if matches!(&verdict, Verdict::Broken { .. }) {
-        let Ok(said) = broken_text(rt.alloc(), file, text.as_slice()) else {
+        let Ok(said) = broken_text(alloc, file, text.as_slice()) else {
             return Ending::Common(CommonEnding::OutOfMemory);
         };
         recording.outlets.error.say(said.as_slice());
