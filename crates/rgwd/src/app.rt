@@ -280,17 +280,18 @@ fn said_by<R: AllocGlobal + Files + Net + Clock + RandomSource + Clone + Drop, P
     words: &[String],
     recording: &mut Recording<R>,
 ) -> Said {
+    let alloc = rt.alloc();
     if let Some(asked) = words_behind(TELL, words) {
-        return tell_line(rt, asked, recording).said_of_no_file(rt.alloc());
+        return tell_line(rt, asked, recording).said_of_no_file(alloc);
     }
     if let Some(asked) = words_behind(REPLAY, words) {
         return replay_trace(rt, asked, recording);
     }
-    let settings = match read_words(rt.alloc(), words, recording) {
+    let settings = match read_words(alloc, words, recording) {
         Ok(settings) => settings,
-        Err(ending) => return ending.said_of_no_file(rt.alloc()),
+        Err(ending) => return ending.said_of_no_file(alloc),
     };
-    perform::<R, P>(rt, rt.alloc(), &settings, recording)
+    perform::<R, P>(rt, alloc, &settings, recording)
 }
 
 /// The program, over what its machine gives it.

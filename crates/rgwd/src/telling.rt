@@ -46,13 +46,14 @@ pub fn tell_line<R: AllocGlobal + Files + Net + Clock>(
             });
         }
     };
-    let Ok(line) = line.join(rt.alloc(), " ") else {
+    let alloc = rt.alloc();
+    let Ok(line) = line.join(alloc, " ") else {
         return Ending::Common(CommonEnding::OutOfMemory);
     };
     if line.as_str().trim_ascii().is_empty() {
         return Ending::Common(CommonEnding::Usage);
     }
-    let Ok(mut room) = vec![in rt.alloc(); 0u8; ROOM] else {
+    let Ok(mut room) = vec![in alloc; 0u8; ROOM] else {
         return Ending::Common(CommonEnding::OutOfMemory);
     };
     match ask(rt, address, line.as_bytes(), &mut room) {
