@@ -26,15 +26,15 @@ use crate::admission::Admission;
 use crate::arriving::{read_address, read_bytes};
 use crate::exchange::{Exchange, exchange_of};
 use crate::opening::DeskSettings;
-use crate::turn_parts::{answer_act, note_datagram, note_taken, situation, take_from_page, typist};
+use crate::turn_parts::{note_datagram, note_taken, situation, take_from_page, typist};
 use crate::visitors::Visitors;
 use gateway_core::{DATAGRAM_ROOM, Gateway};
 use live_journal::{Recorder, Trace, report_with};
 use live_outlets::{DONE, boxed};
 use live_play::LivePlay;
 use live_telephones::{
-    PHONES_FROM_AFAR, TelephoneRequest, Watch, all_shown, answer_put, lost_of, question_answer,
-    request_in, short_answer, show,
+    PHONES_FROM_AFAR, TelephoneRequest, Watch, act_answer, all_shown, answer_put, lost_of,
+    question_answer, request_in, short_answer, show,
 };
 use std::alloc::{AllocError, Global};
 use surroundings::{Lines, Surroundings, Teller};
@@ -253,7 +253,10 @@ impl<S: Surroundings + Drop, T: Teller + Drop> Desk<S, T> {
                     &self.admission.speakers,
                 );
                 let printed = self.play.printed();
-                answer_act(&mut self.exchange, &mut self.lines, done, printed);
+                let answer = act_answer(done, printed);
+                let clock = self.exchange.now.clock;
+                self.exchange.journal.answered(clock, answer);
+                self.lines.answer(&mut self.exchange.around, answer);
             }
             TelephoneRequest::Show { line } => {
                 let asked = self.play.ask(text, line);

@@ -1,18 +1,14 @@
 //! What a turn does that needs no gateway, but what that tells: who has one pays for the layout of all that it holds.
-ghost use Rattle.std.specs.Prelude.{◌≡◌, ◌<◌, ◌⊎◌, ◌&&◌, ℕ, Bool, List, Option, Result};
+ghost use Rattle.std.specs.Prelude.{◌≡◌, ◌<◌, ◌⊎◌, ◌&&◌, ℕ, Bool, Option, Result};
 ghost use Rattle.mg_bytes.specs.Lists.{is_empty};
-ghost use Rattle.surroundings.specs.Hearing.{AnswersTo};
-ghost use Rattle.surroundings.specs.Requests.{requests_from};
 ghost use Rattle.surroundings.specs.Speaking.{admitted_by};
-ghost use Rattle.surroundings.specs.Typing.{left_of, behind};
+ghost use Rattle.surroundings.specs.Typing.{left_of};
 ghost use Rattle.surroundings.specs.declared.surroundings.Fault.{Fault};
 ghost use Rattle.surroundings.specs.declared.surroundings.Told.{Told};
-ghost use Rattle.told_messages.specs.Showing.{nobody, GoesOn, Happened};
-ghost use Rattle.page_board.specs.declared.ring.Kind.TheVariants.{Told as OfTold};
 ghost use Rattle.turns.specs.Clock.{earlier, has_come};
-ghost use Rattle.live_gateway.specs.Answering.{IsTypist, IsActAnswer};
+ghost use Rattle.live_gateway.specs.Answering.{IsTypist};
 ghost use Rattle.live_gateway.specs.Exchanging.{Explains, Notes, next_due, moment_at, faults_by};
-ghost use Rattle.live_gateway.specs.Leaving.{OnlyShows, OnlyTells, IsAsked, TakesIf};
+ghost use Rattle.live_gateway.specs.Leaving.{OnlyShows, IsAsked, TakesIf};
 ghost use Rattle.live_gateway.specs.Turning.{ready_at};
 ghost use Rattle.live_gateway.specs.Visiting.{AreReady, ClosesAt};
 ghost use Rattle.live_play.specs.Readable.{first_unread};
@@ -20,8 +16,8 @@ ghost use Rattle.live_play.specs.Readable.{first_unread};
 use crate::exchange::Exchange;
 use crate::visitors::{Visitors, are_ready, next_deadline};
 use exchange_log::Note;
-use gateway_core::{Refusal, SentMessage, TextOutcome};
-use live_telephones::{Typist, act_answer, take_act, typist_of};
+use gateway_core::{SentMessage, TextOutcome};
+use live_telephones::{Typist, take_act, typist_of};
 use small_rules::count;
 use std::alloc::Global;
 use std::net::SocketAddrV4;
@@ -120,27 +116,6 @@ pub(crate) fn typist(lines: &Lines, are_open: bool) -> Typist
     let is_here = lines.is_from_loopback();
     let is_afar = lines.is_from_afar();
     typist_of(is_here, is_afar, are_open)
-}
-
-/// The act that the line asked for was done, or refused: that is answered.
-pub(crate) fn answer_act<S: Surroundings + Drop>(
-    exchange: &mut Exchange<S>,
-    lines: &mut Lines,
-    done: Result<(), Refusal>,
-    printed: &[u8],
-)
-    ensures traffic { S.traffic exchange.new.around ≡ S.traffic exchange.old.around }
-    ensures answered { (answer : List ℕ) × IsActAnswer done printed.now answer
-        × AnswersTo S.answers lines.old.sender exchange.old.around answer exchange.new.around
-        × GoesOn (Happened exchange.old.now.clock OfTold nobody answer) exchange.old.journal.board exchange.new.journal.board }
-    ensures left { left_of lines.new ≡ requests_from (behind (left_of lines.old)) }
-    ensures sender { lines.new.sender ≡ lines.old.sender }
-    ensures rest { OnlyTells exchange.old exchange.new }
-{
-    let answer = act_answer(done, printed);
-    let clock = exchange.now.clock;
-    exchange.journal.answered(clock, answer);
-    lines.answer(&mut exchange.around, answer);
 }
 
 // Whether the page is asked for its next act: where it is its turn, or nobody may have typed.

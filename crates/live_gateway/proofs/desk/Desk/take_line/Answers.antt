@@ -8,7 +8,7 @@ use Rattle.live_gateway.specs.Desk.{at_desk}
 use Rattle.live_gateway.specs.Exchanging.{handed_by}
 use Rattle.live_gateway.proofs.DeskLemmas.{standing_of, counted_behind, acts, asks, line_is_quiet, line_is_still, line_is_line}
 use Rattle.live_gateway.proofs.LineLemmas.{taken_free}
-use Rattle.live_gateway.proofs.OverLemmas.{taken_quietly, refused_quietly, shown_so}
+use Rattle.live_gateway.proofs.OverLemmas.{taken_quietly, refused_quietly, shown_so, told_so as only_told}
 use Rattle.live_gateway.proofs.AnsweringLemmas.{tries_act, asks_of}
 use Rattle.live_gateway.proofs.desk.Desk.take_line.Goals as goal
 
@@ -17,9 +17,9 @@ returns-in-Show-clause-play g c =
     asks g.T.Teller.told g.S.Surroundings.traffic _ _ (λ (input : Input). input ≡ typed c.in-Some.text.now)
     (line_is_quiet c.in-Some.text.now) (line_is_still c.in-Some.text.now)
     (line_is_line c.in-Some.text.now (taken_free _ c.in-Some.text.now _ c.in-Some.ensures))
-    (rw (c.answer.ensures.traffic)
+    (rw (c.answer-in-Show.ensures.traffic)
     (c.ask-asked.ensures.ran (handed_by c.args.self.now.exchange.network (g.S.Surroundings.traffic c.args.self.now.exchange.around).sent)))
-    (rw (c.answer.ensures.traffic) refl)
+    (rw (c.answer-in-Show.ensures.traffic) refl)
     refl
 
 pub returns-in-Show-clause-line : goal.returns-in-Show-clause-line
@@ -38,14 +38,14 @@ returns-in-Show-clause-line g c =
       (
         c.question_answer-answer.result.now,
         record {
-          answered = c.answer.ensures.answered;
-          left = c.answer.ensures.left;
-          sender = c.answer.ensures.sender;
+          answered = c.answer-in-Show.ensures.answered;
+          left = c.answer-in-Show.ensures.left;
+          sender = c.answer-in-Show.ensures.sender;
         },
         asks_of _ _ c.ask-asked.result c.ask-asked.new.self.printed.items _ _ _
-            (rw (c.answer.ensures.traffic)
+            (rw (c.answer-in-Show.ensures.traffic)
             (c.ask-asked.ensures.answered (handed_by c.args.self.now.exchange.network (g.S.Surroundings.traffic c.args.self.now.exchange.around).sent)))
-            (rw (c.answer.ensures.traffic)
+            (rw (c.answer-in-Show.ensures.traffic)
             (c.ask-asked.ensures.ran (handed_by c.args.self.now.exchange.network (g.S.Surroundings.traffic c.args.self.now.exchange.around).sent)))
             (rw (c.printed.ensures) at c.question_answer-answer.ensures.asked)
             c.question_answer-answer.ensures.memory,
@@ -62,15 +62,17 @@ returns-in-Act-clause-play g c =
     (line_is_line c.in-Some.text.now (taken_free _ c.in-Some.text.now _ c.in-Some.ensures))
     c.act-done.ensures.ran
     c.act-done.ensures.came
-    (counted_behind told traffic c.act-done.new.self c.act-done.new.out c.note_taken.new.exchange c.answer_act.new.exchange _ _ _
-    c.note_taken.ensures c.answer_act.ensures.rest c.answer_act.ensures.traffic)
+    (counted_behind told traffic c.act-done.new.self c.act-done.new.out c.note_taken.new.exchange
+    (record c.note_taken.new.exchange { around = c.answer.new.around; journal = c.answered.new.self }) _ _ _
+    c.note_taken.ensures (only_told c.note_taken.new.exchange c.answered.new.self c.answer.new.around c.answered.ensures.rest) c.answer.ensures.traffic)
     refl
 
 pub returns-in-Act-clause-line : goal.returns-in-Act-clause-line
 returns-in-Act-clause-line g c =
     let told = g.T.Teller.told in
     let traffic = g.S.Surroundings.traffic in
-    let answered = c.answer_act.ensures.answered in
+    let answer = c.act_answer-answer.result.now in
+    let told_behind = only_told c.note_taken.new.exchange c.answered.new.self c.answer.new.around c.answered.ensures.rest in
     let notes = rw (c.is_ok.ensures.value, c.sent.ensures.kept, c.deref.ensures) at c.note_taken.ensures in
     inr (
       c.in-Some.text.now,
@@ -86,10 +88,10 @@ returns-in-Act-clause-line g c =
       record {
         asked = record c.args.self.now.exchange { journal = c.act.new.self };
         done = c.note_taken.new.exchange;
-        answer = answered.0;
+        answer = answer;
         before = shown_so c.args.self.now.exchange c.act.new.self c.act.ensures.rest;
         shown = c.act.ensures.shown;
-        tries = tries_act g.S.Surroundings.sends (admitted_by c.args.self.now.admission.speakers) _ _ _ c.act-done.result _ answered.0 (at_desk told traffic c.args.self.now)
+        tries = tries_act g.S.Surroundings.sends (admitted_by c.args.self.now.admission.speakers) _ _ _ c.act-done.result _ answer (at_desk told traffic c.args.self.now)
             (standing_of told traffic c.act-done.new.self c.act-done.new.out) _
             (record c.args.self.now.exchange { journal = c.act.new.self }) c.act-done.new.out c.note_taken.new.exchange
             c.act-done.ensures.outlet
@@ -99,18 +101,23 @@ returns-in-Act-clause-line g c =
             notes)
             (refused_quietly c.act-done.result _ (phone c.in-Act.line c.in-Act.act) _ c.act-done.new.out _ (λ log. refl) notes)
             (ap (λ (x : Came). x.refused) c.act-done.ensures.came)
-            (counted_behind told traffic c.act-done.new.self c.act-done.new.out c.note_taken.new.exchange c.answer_act.new.exchange _ _ _
-            notes c.answer_act.ensures.rest c.answer_act.ensures.traffic)
-            (rw (c.printed-printed.ensures) at answered.1)
+            (counted_behind told traffic c.act-done.new.self c.act-done.new.out c.note_taken.new.exchange
+            (record c.note_taken.new.exchange { around = c.answer.new.around; journal = c.answered.new.self }) _ _ _
+            notes told_behind c.answer.ensures.traffic)
+            (record {
+              done_so = c.act_answer-answer.ensures.done;
+              memory = c.act_answer-answer.ensures.memory;
+              refused = rw (c.printed-printed.ensures) at c.act_answer-answer.ensures.refused;
+            })
             c.act-done.ensures.ends;
         says = record {
-          answered = answered.2;
-          left = c.answer_act.ensures.left;
-          sender = c.answer_act.ensures.sender;
+          answered = c.answer.ensures.answered;
+          left = c.answer.ensures.left;
+          sender = c.answer.ensures.sender;
         };
-        kept = c.answer_act.ensures.traffic;
-        told_so = answered.3;
-        behind = c.answer_act.ensures.rest;
+        kept = c.answer.ensures.traffic;
+        told_so = c.answered.ensures.shown;
+        behind = told_behind;
         rest = refl;
       },
     )
