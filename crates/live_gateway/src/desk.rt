@@ -26,7 +26,7 @@ use crate::admission::Admission;
 use crate::arriving::{read_address, read_bytes};
 use crate::exchange::{Exchange, exchange_of};
 use crate::opening::DeskSettings;
-use crate::turn_parts::{note_datagram, note_taken, situation, take_from_page, typist};
+use crate::turn_parts::{note_datagram, note_taken, situation, take_from_page};
 use crate::visitors::Visitors;
 use gateway_core::{DATAGRAM_ROOM, Gateway};
 use live_journal::{Recorder, Trace, report_with};
@@ -34,7 +34,7 @@ use live_outlets::{DONE, boxed};
 use live_play::LivePlay;
 use live_telephones::{
     PHONES_FROM_AFAR, TelephoneRequest, Watch, act_answer, all_shown, answer_put, lost_of,
-    question_answer, request_in, short_answer, show,
+    question_answer, request_in, short_answer, show, typist_of,
 };
 use std::alloc::{AllocError, Global};
 use surroundings::{Lines, Surroundings, Teller};
@@ -237,7 +237,9 @@ impl<S: Surroundings + Drop, T: Teller + Drop> Desk<S, T> {
         ensures line { DoesLine T.told S.traffic S.sends S.answers self.old self.new }
         ensures schedule { self.new.schedule ≡ self.old.schedule }
     {
-        let who = typist(&self.lines, self.admission.are_phones_open);
+        let is_here = self.lines.is_from_loopback();
+        let is_afar = self.lines.is_from_afar();
+        let who = typist_of(is_here, is_afar, self.admission.are_phones_open);
         let Some(text) = self.lines.line() else {
             return;
         };

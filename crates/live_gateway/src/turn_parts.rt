@@ -6,7 +6,6 @@ ghost use Rattle.surroundings.specs.Typing.{left_of};
 ghost use Rattle.surroundings.specs.declared.surroundings.Fault.{Fault};
 ghost use Rattle.surroundings.specs.declared.surroundings.Told.{Told};
 ghost use Rattle.turns.specs.Clock.{earlier, has_come};
-ghost use Rattle.live_gateway.specs.Answering.{IsTypist};
 ghost use Rattle.live_gateway.specs.Exchanging.{Explains, Notes, next_due, moment_at, faults_by};
 ghost use Rattle.live_gateway.specs.Leaving.{OnlyShows, IsAsked, TakesIf};
 ghost use Rattle.live_gateway.specs.Turning.{ready_at};
@@ -17,7 +16,7 @@ use crate::exchange::Exchange;
 use crate::visitors::{Visitors, are_ready, next_deadline};
 use exchange_log::Note;
 use gateway_core::{SentMessage, TextOutcome};
-use live_telephones::{Typist, take_act, typist_of};
+use live_telephones::take_act;
 use small_rules::count;
 use std::alloc::Global;
 use std::net::SocketAddrV4;
@@ -107,15 +106,6 @@ pub(crate) fn note_datagram<S: Surroundings + Drop>(
     } else {
         journal.untaken(now, source, bytes, Note::OutOfMemory);
     }
-}
-
-/// Who typed the line that is answered next, where the telephones are open to other machines or not.
-pub(crate) fn typist(lines: &Lines, are_open: bool) -> Typist
-    ensures { IsTypist lines.now are_open result }
-{
-    let is_here = lines.is_from_loopback();
-    let is_afar = lines.is_from_afar();
-    typist_of(is_here, is_afar, are_open)
 }
 
 // Whether the page is asked for its next act: where it is its turn, or nobody may have typed.

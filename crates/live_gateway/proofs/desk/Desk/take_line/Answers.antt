@@ -29,8 +29,14 @@ returns-in-Show-clause-line g c =
       Show c.in-Show.line,
       c.in-Some.ensures,
       record {
-        who = c.typist-who.result;
-        typist = c.typist-who.ensures;
+        who = c.typist_of-who.result;
+        typist = record {
+          is_here = c.is_from_loopback-is_here.result;
+          is_afar = c.is_from_afar-is_afar.result;
+          here = c.is_from_loopback-is_here.ensures;
+          afar = c.is_from_afar-is_afar.ensures;
+          by = c.typist_of-who.ensures;
+        };
         said = c.in-Show.ensures.said;
         asked = c.in-Show.ensures.request;
         memory = c.in-Show.ensures.memory;
@@ -79,8 +85,14 @@ returns-in-Act-clause-line g c =
       AsksAct c.in-Act.line c.in-Act.act,
       c.in-Some.ensures,
       record {
-        who = c.typist-who.result;
-        typist = c.typist-who.ensures;
+        who = c.typist_of-who.result;
+        typist = record {
+          is_here = c.is_from_loopback-is_here.result;
+          is_afar = c.is_from_afar-is_afar.result;
+          here = c.is_from_loopback-is_here.ensures;
+          afar = c.is_from_afar-is_afar.ensures;
+          by = c.typist_of-who.ensures;
+        };
         said = c.in-Act.ensures.said;
         asked = c.in-Act.ensures.request;
         memory = c.in-Act.ensures.memory;
