@@ -18,7 +18,9 @@ use Rattle.live_outlets.specs.declared.written.Written.{Written}
 use Rattle.live_ends.specs.Ending.{served_ending}
 use Rattle.live_outlets.specs.Written.{faults_in}
 use Rattle.live_journal.specs.declared.trace.Trace.{Trace}
-use Rattle.live_telephones.specs.Losses.{counts_text}
+use Rattle.live_journal.specs.Reporting.{counts_with}
+use Rattle.live_telephones.specs.Losses.{counts_text, lost_of_lines}
+use Rattle.message_counts.specs.declared.reporting.Faults.{Faults}
 use Rattle.live_gateway.specs.declared.desk.Desk.{Desk}
 use Rattle.live_gateway.specs.declared.exchange.Exchange.{Exchange}
 use Rattle.live_gateway.specs.Ending.{EndsAt, WroteTimes, WritesLast, AsksForEnd, is_record_refused, EndsWith, OnlyEnds}
@@ -51,6 +53,17 @@ pub wrote_once_more : {W : Type 0} (writes : W → W → Type 0) (count : ℕ) (
 wrote_once_more {W} writes count was between is some once =
     let more : suc count ≡ count + 1 = omega arith in
     subst (λ (n : ℕ). WroteTimes writes n was is) more (between, some, once)
+
+-- ---- what was counted
+
+-- it is told by all events that the gateway stands for, where so many events of its lines were lost
+pub counts_so : {V E : Type 0} (items : V → List ℕ) (counts : Result V E) (journal : Journal) (faults : Faults) (lost : ℕ) (gateway : GatewayState)
+    → ((events : List GatewayEvent) → Stands gateway events → lost ≡ lost_of_lines (plain gateway.setup events) gateway.setup.names.lines)
+    → IfOk counts (λ v. items v ≡ counts_with journal lost faults)
+    → (events : List GatewayEvent) → Stands gateway events
+    → IfOk counts (λ v. items v ≡ counts_text journal faults gateway.setup (plain gateway.setup events))
+counts_so items counts journal faults lost gateway loses says = λ events stands.
+    subst (λ (n : ℕ). IfOk counts (λ v. items v ≡ counts_with journal n faults)) (loses events stands) says
 
 -- ---- what is said last
 
