@@ -12,30 +12,8 @@ pub struct Recording<R: Files> {
     pub files: Option<Box<CaptureFiles>>,
 }
 
-// What is captured goes on in the next file; where that can't be made the capture has failed.
-fn begin_next<R: Files>(
-    rt: &R,
-    files: &mut CaptureFiles,
-    outlets: &mut Outlets<R::File>,
-    captured: &mut Capture,
-) {
-    match files.next(rt) {
-        Ok(outlet) => {
-            outlets.capture = Some(outlet);
-            captured.begin_file();
-        }
-        Err(kind) => {
-            if let Some(capture) = &mut outlets.capture {
-                if let Ok(name) = files.file() {
-                    capture.name = name;
-                }
-                capture.refuse(kind);
-            }
-        }
-    }
-}
-
-// What a turn has put goes into the next file, where the one that is written is full, and has taken all that was put before.
+// What a turn has put goes into the next file, where the one that is written is full, and has taken all that was put before; where that
+// can't be made the capture has failed.
 fn turn_over<R: Files>(
     rt: &R,
     files: &mut CaptureFiles,
@@ -48,7 +26,20 @@ fn turn_over<R: Files>(
         None => true,
     };
     if more > 0 && files.is_full(more) && is_taken {
-        begin_next(rt, files, outlets, captured);
+        match files.next(rt) {
+            Ok(outlet) => {
+                outlets.capture = Some(outlet);
+                captured.begin_file();
+            }
+            Err(kind) => {
+                if let Some(capture) = &mut outlets.capture {
+                    if let Ok(name) = files.file() {
+                        capture.name = name;
+                    }
+                    capture.refuse(kind);
+                }
+            }
+        }
     }
     files.put(captured.record.out.len());
 }
