@@ -130,27 +130,6 @@ fn last_of(files: &[Text]) -> &[u8] {
     }
 }
 
-// Gives a reader the file with this path, which its script brings there: how the program ends where that can't be had.
-fn give_file<R: Files>(
-    rt: &R,
-    alloc: Global,
-    path: &str,
-    reader: &mut Reader<'_>,
-    place: Place,
-) -> Option<Ending> {
-    let text = match text_in(rt, alloc, path) {
-        Ok(text) => text,
-        Err(fault) => {
-            let said = include_text(alloc, reader.files(), place, path, fault);
-            return Some(bad_script(said));
-        }
-    };
-    if reader.give(text).is_err() {
-        return Some(Ending::Common(CommonEnding::OutOfMemory));
-    }
-    None
-}
-
 // Gives a reader the file that its script brings there: how the program ends where that can't be had.
 fn give_include<R: Files>(
     rt: &R,
@@ -163,7 +142,17 @@ fn give_include<R: Files>(
         return Some(Ending::Common(CommonEnding::OutOfMemory));
     };
     let path = str::from_utf8(path.as_slice()).unwrap_or("");
-    give_file(rt, alloc, path, reader, place)
+    let text = match text_in(rt, alloc, path) {
+        Ok(text) => text,
+        Err(fault) => {
+            let said = include_text(alloc, reader.files(), place, path, fault);
+            return Some(bad_script(said));
+        }
+    };
+    if reader.give(text).is_err() {
+        return Some(Ending::Common(CommonEnding::OutOfMemory));
+    }
+    None
 }
 
 // Reads a script to its end: how the program ends where it can't be played.
