@@ -178,23 +178,6 @@ fn read_on<R: Files>(
     None
 }
 
-// Reads a script in this file with this text: how the program ends where it can't be played.
-fn read_with<R: Files>(
-    rt: &R,
-    alloc: Global,
-    script: &str,
-    text: Text,
-    reader: &mut Reader<'_>,
-) -> Option<Ending> {
-    let Ok(file) = copied(alloc, script.as_bytes()) else {
-        return Some(Ending::Common(CommonEnding::OutOfMemory));
-    };
-    if reader.begin(file, text).is_err() {
-        return Some(Ending::Common(CommonEnding::OutOfMemory));
-    }
-    read_on(rt, alloc, script, reader)
-}
-
 /// The script that is to be played, with all files that it brings. It can't be had, or has a fault: so the program ends then.
 pub fn read_script<R: Files>(
     rt: &R,
@@ -205,8 +188,14 @@ pub fn read_script<R: Files>(
         Ok(text) => text,
         Err(fault) => return Err(file_ending(alloc, settings.script, fault)),
     };
+    let Ok(file) = copied(alloc, settings.script.as_bytes()) else {
+        return Err(Ending::Common(CommonEnding::OutOfMemory));
+    };
     let mut reader = Reader::new(alloc, settings.names.as_slice());
-    if let Some(ending) = read_with(rt, alloc, settings.script, text, &mut reader) {
+    if reader.begin(file, text).is_err() {
+        return Err(Ending::Common(CommonEnding::OutOfMemory));
+    }
+    if let Some(ending) = read_on(rt, alloc, settings.script, &mut reader) {
         return Err(ending);
     }
     Ok(reader.into_script())
