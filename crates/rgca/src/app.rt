@@ -95,40 +95,22 @@ fn served<R: AllocGlobal + Files + Net + Clock>(
     serve(rt, rt.alloc(), &settings, outlets)
 }
 
-// What the program is asked for.
-#[derive(Clone, Copy)]
-enum Part {
-    Serving,
-    Check,
-    Phones,
-    Load,
-}
-
-// What these words ask for, which stand behind the program's name.
-fn part_in(asked: &[String]) -> Part {
-    let Some(word) = asked.first() else {
-        return Part::Serving;
-    };
-    match word.as_str() {
-        "check" => Part::Check,
-        "phones" => Part::Phones,
-        "load" => Part::Load,
-        _ => Part::Serving,
-    }
-}
-
-// How the program with these words ends, of which the first is its name, and what it says then.
+// How the program with these words ends, of which the first is its name, and what it says then. Where the word behind that asks for nothing
+// else, it serves.
 fn said_by<R: AllocGlobal + Files + Net + Clock>(
     rt: &R,
     words: &[String],
     outlets: &mut Outlets<R::File>,
 ) -> Said {
     let asked = words.get(1..).unwrap_or(&[]);
-    match part_in(asked) {
-        Part::Check => checked(rt, asked, outlets),
-        Part::Phones => played(rt, rt.alloc(), asked),
-        Part::Load => loaded(rt, rt.alloc(), asked, outlets),
-        Part::Serving => served(rt, words, outlets),
+    let Some(word) = asked.first() else {
+        return served(rt, words, outlets);
+    };
+    match word.as_str() {
+        "check" => checked(rt, asked, outlets),
+        "phones" => played(rt, rt.alloc(), asked),
+        "load" => loaded(rt, rt.alloc(), asked, outlets),
+        _ => served(rt, words, outlets),
     }
 }
 
