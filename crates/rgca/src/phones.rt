@@ -50,20 +50,6 @@ fn play_with<R: Net + Clock>(
     play_ending(alloc, player.files(), settings.names.as_slice(), &played)
 }
 
-// Plays a script over these sockets.
-fn play_over<R: Net + Clock>(
-    alloc: Global,
-    live: &mut Live<'_, R>,
-    settings: &PhoneSettings<'_>,
-    script: Script,
-) -> Ending {
-    let gateways = u16::try_from(settings.addresses.len()).unwrap_or(u16::MAX);
-    let Ok(mut player) = Player::new(alloc, script, gateways, 0) else {
-        return Ending::Common(CommonEnding::OutOfMemory);
-    };
-    play_with(alloc, live, settings, &mut player)
-}
-
 // Plays a script, over two sockets, of which the first is used.
 fn play<R: Net + Clock>(
     rt: &R,
@@ -80,7 +66,11 @@ fn play<R: Net + Clock>(
         Ok(live) => live,
         Err(_) => return Ending::System,
     };
-    play_over(alloc, &mut live, settings, script)
+    let gateways = u16::try_from(settings.addresses.len()).unwrap_or(u16::MAX);
+    let Ok(mut player) = Player::new(alloc, script, gateways, 0) else {
+        return Ending::Common(CommonEnding::OutOfMemory);
+    };
+    play_with(alloc, &mut live, settings, &mut player)
 }
 
 // Reads a script, and plays it: how the program ends then, and what it says, which names the file of the script.
