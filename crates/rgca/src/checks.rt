@@ -10,14 +10,20 @@ use mg_bytes::OutOfMemory;
 use rgca_words::{CheckWords, Ending, Named, Said, check_words_ending, read_check_words};
 use std::alloc::Global;
 use std::fs::File;
-use std::io::{self, Write};
+use std::io::{ErrorKind, Write};
 use std::net::{Net, SocketAddrV4};
 use std::rt::{Clock, Files};
 
-// A new file with this text, or in place of what it had.
-fn make_file<R: Files>(rt: &R, file: &str, text: &str) -> io::Result<()> {
-    let mut out = File::create(rt, file)?;
-    out.write_all(text.as_bytes())
+// A new file with this text, or in place of what it had; or by which error there is none.
+fn make_file<R: Files>(rt: &R, file: &str, text: &str) -> Result<(), ErrorKind> {
+    let mut out = match File::create(rt, file) {
+        Ok(out) => out,
+        Err(fault) => return Err(fault.kind()),
+    };
+    match out.write_all(text.as_bytes()) {
+        Ok(()) => Ok(()),
+        Err(fault) => Err(fault.kind()),
+    }
 }
 
 // An object that says why it fails, as a line.
@@ -81,8 +87,8 @@ fn reported<R: AllocGlobal + Files, F: Write + Drop>(
     };
     match make_file(rt, file, checked.junit.as_str()) {
         Ok(()) => Ending::Checked { status },
-        Err(fault) => {
-            let ending = Ending::Common(CommonEnding::unwritable(fault.kind()));
+        Err(kind) => {
+            let ending = Ending::Common(CommonEnding::unwritable(kind));
             failed(rt.alloc(), words, out, ending)
         }
     }
