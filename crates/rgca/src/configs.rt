@@ -17,7 +17,10 @@ pub fn config_of(
     if text.len() > LIMIT {
         return Err(too_long(alloc, LIMIT));
     }
-    let config = read_config(alloc, text)?;
+    let config = match read_config(alloc, text) {
+        Ok(config) => config,
+        Err(refusal) => return Err(refusal),
+    };
     if is_routed && config.map.is_none() {
         let place = Place {
             gateway: None,
