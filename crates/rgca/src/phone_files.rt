@@ -79,14 +79,6 @@ fn text_in<R: Files>(rt: &R, alloc: Global, path: &str) -> Result<Text, FileFaul
     Ok(Text::of(text))
 }
 
-// What is said of a script that can't be played.
-fn script_text(alloc: Global, files: &[Text], fault: ScriptFault) -> Result<Text, OutOfMemory> {
-    match fault {
-        ScriptFault::OutOfMemory => Err(AllocError),
-        ScriptFault::Line { place, fault } => fault_line(alloc, files, place, fault),
-    }
-}
-
 // What is said where a script can't have the file with this path that it brings there: the program would end so if it were the script
 // itself. It names the file.
 fn include_text(
@@ -166,8 +158,11 @@ fn read_on<R: Files>(
         let place = match reader.go_on() {
             Ok(Wanted::File { place }) => place,
             Ok(Wanted::Nothing) => return None,
-            Err(fault) => {
-                return Some(bad_script(script_text(alloc, reader.files(), fault)));
+            Err(ScriptFault::OutOfMemory) => {
+                return Some(Ending::Common(CommonEnding::OutOfMemory));
+            }
+            Err(ScriptFault::Line { place, fault }) => {
+                return Some(bad_script(fault_line(alloc, reader.files(), place, fault)));
             }
         };
         let ending = give_include(rt, alloc, script, reader, place);
