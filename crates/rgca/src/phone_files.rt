@@ -1,5 +1,5 @@
 //! Reads a script of telephones, with all files that it brings.
-ghost use Rattle.std.specs.Prelude.{◌≡◌, ◌≢◌, ◌⊎◌, ℕ, List, [], ◌++◌, IfOk, MatchResult};
+ghost use Rattle.std.specs.Prelude.{◌≡◌, ◌≢◌, ℕ, List, [], ◌++◌, IfOk, MatchResult};
 ghost use Rattle.phone_scripts.specs.Wording.{place_text};
 ghost use Rattle.rgca.specs.Endings.{too_long_text, FileEnds};
 ghost use Rattle.rgca_words.specs.Names.{Says};
@@ -36,16 +36,6 @@ fn long_text(alloc: Global, path: &str) -> Result<Text, OutOfMemory>
     said.into_text()
 }
 
-// How the program ends by a file that is too long.
-fn too_long(alloc: Global, path: &str) -> Ending
-    ensures { (result ≡ Ending.BadScript (too_long_text LIMIT path.now)) ⊎ (result ≡ Ending.Common CommonEnding.OutOfMemory) }
-{
-    match long_text(alloc, path) {
-        Ok(text) => Ending::BadScript { text },
-        Err(_) => Ending::Common(CommonEnding::OutOfMemory),
-    }
-}
-
 // Why a file can't be had.
 #[derive(Clone, Copy)]
 enum FileFault {
@@ -63,7 +53,7 @@ fn file_ending(alloc: Global, path: &str, fault: FileFault) -> Ending
 {
     match fault {
         FileFault::Refused { kind } => Ending::Common(CommonEnding::unreadable(kind)),
-        FileFault::TooLong => too_long(alloc, path),
+        FileFault::TooLong => bad_script(long_text(alloc, path)),
     }
 }
 
