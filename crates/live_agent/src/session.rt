@@ -5,7 +5,7 @@ ghost use Rattle.live_agent.specs.Datagrams.{HearsDatagram, HearsTexts, TakesDat
 ghost use Rattle.live_agent.specs.Handing.{HandsTo};
 ghost use Rattle.live_agent.specs.Sending.{SendsCommand, SendsOutputs};
 ghost use Rattle.live_agent.specs.Settling.{SendsEach, SendsIssued, SettlesAll, ShowsEach};
-ghost use Rattle.live_agent.specs.Ticking.{GivesUpAll, GivesUpEach, TicksAll, TicksEach, WakesAll, WakesEach};
+ghost use Rattle.live_agent.specs.Ticking.{GivesUpAll, GivesUpEach, TicksEach, WakesAll, WakesEach};
 ghost use Rattle.live_agent.specs.Serving.{Serves, TurnsOnce};
 ghost use Rattle.transmission.specs.Texts.{texts_of};
 ghost use Rattle.live_agent.specs.Turning.{stop_request, line_request, AsksFirst, AnswersWith, TellsCounts, TakesTyped, DoesTurn, DoesNext};
@@ -416,21 +416,6 @@ fn tick_each<S: Surroundings + Drop>(
     }
 }
 
-// The clock goes on, that of each agent first: by one that was behind what is issued now would be sent again at once.
-fn tick<S: Surroundings + Drop>(board: &mut Switchboard, wire: &mut Wire<S>, to: u64, moment: u64)
-    ensures { TicksAll (HandsTo S.sends S.traffic) moment to board.old wire.old board.new wire.new }
-{
-    wire.now.clock = to;
-    let ticking = board.gateways();
-    tick_each(board, wire, to, ticking);
-    wire.is_behind = is_behind(moment, to);
-    let giving_up = board.gateways();
-    give_up_each(board, wire, giving_up);
-    let waking = board.gateways();
-    wake_each(board, waking);
-    settle(board, wire);
-}
-
 // Whether something may be there of who types, or of the network.
 fn is_there(ready: Ready) -> bool
     ensures { result ≡ ready.commands || ready.datagrams }
@@ -509,7 +494,16 @@ fn do_turn<S: Surroundings + Drop>(
 {
     match turn {
         Turn::Tick { moment: to } => {
-            tick(board, wire, to, moment);
+            // The clock of each agent first: by one that was behind what is issued now would be sent again at once.
+            wire.now.clock = to;
+            let ticking = board.gateways();
+            tick_each(board, wire, to, ticking);
+            wire.is_behind = is_behind(moment, to);
+            let giving_up = board.gateways();
+            give_up_each(board, wire, giving_up);
+            let waking = board.gateways();
+            wake_each(board, waking);
+            settle(board, wire);
             wire.pass_load(alloc, moment);
         }
         Turn::Command => take_line(alloc, board, wire, moment),

@@ -1,5 +1,6 @@
-use Rattle.std.proofs.Common.{refl}
+use Rattle.std.proofs.Common.{ℕ, Bool, length, refl, subst}
 use Rattle.live_agent.specs.Handing.{HandsTo}
+use Rattle.live_agent.specs.Ticking.{GivesUpEach, TicksEach, WakesEach}
 use Rattle.live_agent.proofs.ServingLemmas.{waited_until}
 use Rattle.live_agent.proofs.TickingLemmas.{did_tick}
 use Rattle.live_agent.proofs.session.do_turn.Goals as goal
@@ -10,8 +11,28 @@ returns-in-Command g c = rw (c.in-Command.is) c.take_line.ensures
 pub returns-in-Tick : goal.returns-in-Tick
 returns-in-Tick g c =
     rw (c.in-Tick.is)
-    (did_tick (HandsTo g.S.Surroundings.sends g.S.Surroundings.traffic) g.S.Surroundings.answers c.args.moment c.in-Tick.to c.args.board.now c.tick.new.board
-    c.args.wire.now c.tick.new.wire c.pass_load.new.self c.tick.ensures c.pass_load.ensures.passes c.pass_load.ensures.journal)
+    (did_tick (HandsTo g.S.Surroundings.sends g.S.Surroundings.traffic) g.S.Surroundings.answers c.args.moment c.in-Tick.to c.args.board.now c.settle.new.board
+    c.args.wire.now c.settle.new.wire c.pass_load.new.self (record {
+      ticked = c.tick_each.new.board;
+      said = c.tick_each.new.wire;
+      given = c.give_up_each.new.board;
+      told = c.give_up_each.new.wire;
+      woken = c.wake_each.new.board;
+      ticks = subst
+          (λ (gateways : ℕ). TicksEach (HandsTo g.S.Surroundings.sends g.S.Surroundings.traffic) c.in-Tick.to gateways c.args.board.now (record c.args.wire.now { now = record c.args.wire.now.now { clock = c.in-Tick.to } })
+          c.tick_each.new.board c.tick_each.new.wire)
+          c.gateways-ticking.ensures c.tick_each.ensures;
+      gives_up = subst
+          (λ (is_behind : Bool). GivesUpEach (HandsTo g.S.Surroundings.sends g.S.Surroundings.traffic) (length c.tick_each.new.board.gateways.items) c.tick_each.new.board
+          (record c.tick_each.new.wire { is_behind = is_behind }) c.give_up_each.new.board c.give_up_each.new.wire)
+          c.is_behind-wire.ensures
+          (subst
+          (λ (gateways : ℕ). GivesUpEach (HandsTo g.S.Surroundings.sends g.S.Surroundings.traffic) gateways c.tick_each.new.board (record c.tick_each.new.wire { is_behind = c.is_behind-wire.result })
+          c.give_up_each.new.board c.give_up_each.new.wire)
+          c.gateways-giving_up.ensures c.give_up_each.ensures);
+      wakes = subst (λ (gateways : ℕ). WakesEach gateways c.give_up_each.new.board c.wake_each.new.board) c.gateways-waking.ensures c.wake_each.ensures;
+      settles = c.settle.ensures;
+    }) c.pass_load.ensures.passes c.pass_load.ensures.journal)
 
 pub returns-in-Datagram : goal.returns-in-Datagram
 returns-in-Datagram g c = rw (c.in-Datagram.is) c.take_datagram.ensures
