@@ -1,7 +1,8 @@
 -- Turns, one behind another.
 use Rattle.std.proofs.Common.{◌≡◌, inl, ℕ, ◌+◌, suc, Bool, true, false, Result, Ok, Err, refl, sym, ap, subst, ◌∙◌, arith}
-use Rattle.std.specs.Prelude.{⊤, not, List, Option}
+use Rattle.std.specs.Prelude.{⊤, is_err, not, List, Option}
 use Rattle.agent_texts.specs.declared.journal.Journal.{Journal}
+use Rattle.live_ends.specs.declared.ending.CommonEnding.TheVariants.{Served, Clock}
 use Rattle.surroundings.specs.Sending.{Traffic}
 use Rattle.surroundings.specs.declared.surroundings.Fault.{Fault}
 use Rattle.surroundings.specs.declared.surroundings.Told.{Told}
@@ -10,7 +11,7 @@ use Rattle.switchboard.specs.declared.switchboard.Switchboard.{Switchboard}
 use Rattle.turns.specs.Schedule.{opening}
 use Rattle.turns.specs.declared.schedule.Schedule.{Schedule}
 use Rattle.live_agent.specs.declared.wire.Wire.{Wire}
-use Rattle.live_agent.specs.Serving.{Runs, RunsTurns, Serves, StopsAt, Writes}
+use Rattle.live_agent.specs.Serving.{served_ending, Runs, RunsTurns, Serves, StopsAt, Writes}
 use Rattle.live_agent.specs.Turning.{Waits, WaitsUntil}
 use Rattle.live_agent.specs.Wiring.{due_of, longest_until, AsksNext, FallsDueFirst}
 
@@ -87,3 +88,13 @@ module _ {S : Type 0} (passes : S → Result ℕ Fault → Type 0) (tells : S �
       → StopsAt passes tells (Err fault) count now is schedule
   stops_failed fault count now was is schedule same_wire failed =
       subst (λ (one : Wire S). passes one.around (Err fault)) (sym same_wire) failed
+
+-- how an exchange ends whose clock failed, and one that served
+
+pub ended_failed : (served : Result ⊤ Fault) → is_err served ≡ true → Clock ≡ served_ending served
+ended_failed (Ok done) failed = absurd cc
+ended_failed (Err fault) failed = refl
+
+pub ended_well : (served : Result ⊤ Fault) → is_err served ≡ false → Served ≡ served_ending served
+ended_well (Ok done) well = refl
+ended_well (Err fault) well = absurd cc

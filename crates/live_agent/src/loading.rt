@@ -6,7 +6,7 @@ ghost use Rattle.load_bench.specs.Over.{bench_over};
 ghost use Rattle.load_bench.specs.Telephones.{CountsCame, CountsSent};
 ghost use Rattle.live_agent.specs.Clock.{milliseconds};
 ghost use Rattle.live_agent.specs.Handing.{HandsTo};
-ghost use Rattle.live_agent.specs.Serving.{has_served, LoadsOver, Serves, ServesBegun, TurnsOnce};
+ghost use Rattle.live_agent.specs.Serving.{LoadsOver, Serves, ServesBegun, TurnsOnce};
 ghost use Rattle.live_agent.specs.declared.loading.LoadEnding.TheVariants.{Unmade};
 ghost use Rattle.live_agent.specs.declared.loading.TheConstants.{ROOM};
 ghost use Rattle.live_agent.specs.Telephones.{end_of, lines_at, lines_of, load_ending, BeginsLoad, CountsFor, EndsLoad};
@@ -15,7 +15,7 @@ ghost use Rattle.live_agent.specs.Telephones.{SaysAll, SaysAndReports, SaysEach,
 ghost use Rattle.live_agent.specs.Wiring.{due_of, with_read, FallsDueOver};
 
 use crate::recorder::Recorder;
-use crate::serving::{MICROSECONDS, WireSettings, board_of, open_wire, served_ending};
+use crate::serving::{MICROSECONDS, WireSettings, board_of, open_wire};
 use crate::session::serve;
 use crate::wire::Wire;
 use agent_config::{AgentConfig, GatewayConfig};
@@ -431,22 +431,6 @@ fn begin<S: Surroundings + Drop>(
     None
 }
 
-// Whether an exchange served to its end.
-fn has_served(ending: CommonEnding) -> bool
-    ensures { result ≡ has_served ending }
-{
-    match ending {
-        CommonEnding::Served => true,
-        CommonEnding::Help | CommonEnding::Version | CommonEnding::Usage | CommonEnding::Told => {
-            false
-        }
-        CommonEnding::BadAddress { .. } | CommonEnding::BadNetwork { .. } => false,
-        CommonEnding::Unreadable { .. } | CommonEnding::Unwritable { .. } => false,
-        CommonEnding::Unbound { .. } | CommonEnding::Clock | CommonEnding::Write => false,
-        CommonEnding::OutOfMemory => false,
-    }
-}
-
 // Serves the gateways of a configuration until a load that has begun is over, and routes calls between their lines where that is asked for.
 // What is recorded is written after each turn. Where its exchange served its report is told then, and that is written, too.
 fn serve_load<S: Surroundings + Drop, W: Recorder>(
@@ -468,9 +452,8 @@ fn serve_load<S: Surroundings + Drop, W: Recorder>(
     };
     let served = serve(alloc, &mut board, wire, recorder);
     board.close();
-    let came = served_ending(served);
-    if !has_served(came) {
-        return LoadEnding::Common(came);
+    if served.is_err() {
+        return LoadEnding::Common(CommonEnding::Clock);
     }
     let ending = wire.end_load(alloc, file, agent);
     recorder.write(&mut wire.journal, wire.now.time);

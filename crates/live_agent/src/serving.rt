@@ -5,7 +5,7 @@ ghost use Rattle.live_ends.specs.declared.ending.CommonEnding.TheVariants.{OutOf
 ghost use Rattle.live_agent.specs.Clock.{milliseconds};
 ghost use Rattle.live_agent.specs.Ending.{is_record_refused, ending_of, WritesAndEnds};
 ghost use Rattle.live_agent.specs.Handing.{HandsTo};
-ghost use Rattle.live_agent.specs.Serving.{served_ending, Serves, ServesOver, ServesToEnd, TurnsOnce};
+ghost use Rattle.live_agent.specs.Serving.{Serves, ServesOver, ServesToEnd, TurnsOnce};
 ghost use Rattle.live_agent.specs.Wiring.{SpoilsSo};
 ghost use Rattle.live_outlets.specs.Recording.{state_when};
 ghost use Rattle.live_outlets.specs.declared.record.RecordState.TheVariants as states;
@@ -28,7 +28,7 @@ use std::io::Write;
 use std::net::{Net, SocketAddrV4};
 use std::rt::{Clock, Files};
 use std::time::Instant;
-use surroundings::{Fault, Surroundings};
+use surroundings::Surroundings;
 use switchboard::Switchboard;
 
 /// Microseconds in a millisecond.
@@ -129,16 +129,6 @@ pub(crate) fn board_of<S: Surroundings + Drop>(
     match Switchboard::of(alloc, config, is_routed, time) {
         Ok(board) => Ok(board),
         Err(_) => Err(CommonEnding::OutOfMemory),
-    }
-}
-
-/// How it ends where it served, or the clock failed.
-pub(crate) fn served_ending(served: Result<(), Fault>) -> CommonEnding
-    ensures { result ≡ served_ending served }
-{
-    match served {
-        Ok(()) => CommonEnding::Served,
-        Err(_) => CommonEnding::Clock,
     }
 }
 
