@@ -1,7 +1,7 @@
 //! Makes a load: calls at a rate between the telephones of gateways, which another call agent serves, or this program's own exchange.
 ghost use Rattle.std.specs.Prelude.{◌≡◌, ◌&&◌, ◌++◌, true, false, is_some, length, vec_len, IfOk, OnOk};
 ghost use Rattle.load_bench.specs.declared.settings.LoadFault.TheVariants.{OutOfMemory};
-ghost use Rattle.load_bench.specs.Opening.{unfailed, BeginsWith};
+ghost use Rattle.load_bench.specs.Opening.{unfailed};
 ghost use Rattle.load_bench.specs.Over.{bench_over};
 ghost use Rattle.load_bench.specs.Telephones.{CountsCame, CountsSent};
 ghost use Rattle.live_agent.specs.Clock.{milliseconds};
@@ -342,20 +342,6 @@ fn fill(bench: &mut Bench, config: &AgentConfig, now: u64) -> Result<(), OutOfMe
     Ok(())
 }
 
-// The bench of a configuration's gateways that have telephones, which are asked at this moment, in ms.
-fn bench_of(
-    alloc: Global,
-    config: &AgentConfig,
-    settings: LoadSettings,
-    now: u64,
-) -> Result<Box<Bench>, OutOfMemory>
-    ensures { IfOk result (λ bench. BeginsWith settings now (lines_of config.now.gateways.items) bench.value) }
-{
-    let mut bench = Bench::new(alloc, settings, now)?;
-    fill(&mut *bench, config, now)?;
-    Ok(bench)
-}
-
 // The room for what telephones say.
 fn room_of(alloc: Global) -> Result<Vec<u8>, OutOfMemory>
     ensures { IfOk result (λ room. vec_len room ≡ ROOM) }
@@ -375,7 +361,10 @@ fn begin<S: Surroundings + Drop>(
     let Ok(now) = wire.around.moment() else {
         return Some(CommonEnding::Clock);
     };
-    let Ok(mut bench) = bench_of(alloc, config, settings, now) else {
+    let Ok(mut bench) = Bench::new(alloc, settings, now) else {
+        return Some(CommonEnding::OutOfMemory);
+    };
+    let Ok(()) = fill(&mut *bench, config, now) else {
         return Some(CommonEnding::OutOfMemory);
     };
     say_all(alloc, &mut wire.around, &mut *bench);
