@@ -23,7 +23,7 @@ use exchange_log::put_peer;
 use live_ends::{CommonEnding, Live, SocketWanted, open_capture};
 use live_outlets::{Finisher, Outlets, Written, boxed};
 use mg_bytes::{Draft, OutOfMemory};
-use std::alloc::Global;
+use std::alloc::{AllocError, Global};
 use std::io::Write;
 use std::net::{Net, SocketAddrV4};
 use std::rt::{Clock, Files};
@@ -82,10 +82,15 @@ pub fn wire_over<S: Surroundings + Drop>(
     ensures is_here { IfOk result (λ wire. wire.value.journal.value.here ≡ here) }
 {
     let journal = Journal::new(alloc, settings.has_log, settings.has_capture, here);
-    let journal = boxed(alloc, journal)?;
+    // By hand: a question mark is some twenty steps more, at each of which a check pays for all that stands there.
+    let Ok(journal) = boxed(alloc, journal) else {
+        return Err(AllocError);
+    };
     let network = network_of(alloc, settings.network);
     let around = Box::into_inner(around);
-    let wire = Wire::new(alloc, around, network, journal, settings.end)?;
+    let Ok(wire) = Wire::new(alloc, around, network, journal, settings.end) else {
+        return Err(AllocError);
+    };
     boxed(alloc, wire)
 }
 

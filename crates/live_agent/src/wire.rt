@@ -181,6 +181,10 @@ impl<S: Surroundings + Drop> Wire<S> {
         ensures quiet { IfOk result (λ wire. (wire.is_behind ≡ false) × (wire.is_offering ≡ false)) }
         ensures load { IfOk result (λ wire. wire.load ≡ None) }
     {
+        // By hand: a question mark is some twenty steps more, at each of which a check pays for all that stands there.
+        let Ok(lines) = Lines::new(alloc) else {
+            return Err(AllocError);
+        };
         let now = Now {
             clock: 0,
             time: around.time(),
@@ -188,7 +192,7 @@ impl<S: Surroundings + Drop> Wire<S> {
         Ok(Wire {
             alloc,
             around,
-            lines: Lines::new(alloc)?,
+            lines,
             network,
             journal,
             now,
