@@ -10,7 +10,7 @@ ghost use Rattle.live_agent.specs.Serving.{LoadsOver, Serves, ServesBegun, Turns
 ghost use Rattle.live_agent.specs.declared.loading.LoadEnding.TheVariants.{Unmade};
 ghost use Rattle.live_agent.specs.declared.loading.TheConstants.{ROOM};
 ghost use Rattle.live_agent.specs.Telephones.{end_of, lines_at, lines_of, load_ending, BeginsLoad, CountsFor, EndsLoad};
-ghost use Rattle.live_agent.specs.Telephones.{HearsOnce, HearsTelephones, KeepsRoom, PassesLoad, Reports};
+ghost use Rattle.live_agent.specs.Telephones.{HearsOnce, HearsTelephones, KeepsRoom, PassesLoad};
 ghost use Rattle.live_agent.specs.Telephones.{SaysAll, SaysAndReports, SaysEach, SaysOne, SaysPassed};
 ghost use Rattle.live_agent.specs.Wiring.{due_of, with_read, FallsDueOver};
 
@@ -222,22 +222,8 @@ fn end_of(is_over: bool, end: Option<u64>) -> Option<u64>
     if is_over { Some(0) } else { end }
 }
 
-// What came of a load, whose report is put here: by a configuration in a file of this name, whose call agent is there.
-fn report(bench: &mut Bench, out: &mut Vec<u8>, file: &str, agent: &str) -> LoadEnding
-    ensures ending { result ≡ load_ending bench.new }
-    ensures reports { Reports bench.old bench.new }
-{
-    bench.put_report(out, file, agent);
-    match bench.fault() {
-        Some(fault) => LoadEnding::Unmade(fault),
-        None => LoadEnding::Made {
-            is_enough: bench.is_enough(),
-        },
-    }
-}
-
-// A load is over, at this moment of the clock by which commands are counted, in ms: telephones are to tell nothing more. Then what came of
-// it is reported.
+// A load is over, at this moment of the clock by which commands are counted, in ms: telephones are to tell nothing more. Then the report
+// of what came of it is put here: by a configuration in a file of this name, whose call agent is there.
 fn end_and_report<S: Surroundings>(
     alloc: Global,
     around: &mut S,
@@ -252,7 +238,13 @@ fn end_and_report<S: Surroundings>(
 {
     bench.end(now);
     say_all(alloc, around, bench);
-    report(bench, out, file, agent)
+    bench.put_report(out, file, agent);
+    match bench.fault() {
+        Some(fault) => LoadEnding::Unmade(fault),
+        None => LoadEnding::Made {
+            is_enough: bench.is_enough(),
+        },
+    }
 }
 
 impl<S: Surroundings + Drop> Wire<S> {
