@@ -15,7 +15,7 @@ ghost use Rattle.live_agent.specs.Wiring.{due_of, ms_until, longest_until, IsSit
 
 use crate::loading::count_came;
 use crate::recorder::Recorder;
-use crate::wire::{MOST_AT_ONCE, Wire};
+use crate::wire::{MOST_AT_ONCE, Wire, log_pause};
 use agent_texts::count;
 use bad_network::Way;
 use call_agent::{IssueFault, Issued};
@@ -514,7 +514,7 @@ fn do_turn<S: Surroundings + Drop>(
             let due = earlier(board.next_due(), wire.due(moment));
             wire.wait(longest_until(until, due, moment));
         }
-        Turn::Note { pause } => wire.note_pause(pause),
+        Turn::Note { pause } => log_pause(alloc, &mut wire.journal.log, wire.now.time, pause),
         Turn::Visit => {}
         Turn::End => {}
     }

@@ -35,7 +35,6 @@ pub(crate) const MOST_AT_ONCE: u16 = 65_535;
 
 /// A wire over these surroundings.
 pub struct Wire<S> {
-    alloc: Global,
     pub around: S,
     // What is left of what was typed.
     pub(crate) lines: Lines,
@@ -61,7 +60,6 @@ pub struct Wire<S> {
 impl<S: Drop> Drop for Wire<S> {
     fn drop(self) {
         let Wire {
-            alloc: _,
             around,
             lines,
             network,
@@ -142,9 +140,9 @@ fn offer_to(
     }
 }
 
-// That the program was stopped, and goes on at this moment, in microseconds since 1970, is put into the log.
+/// That the program was stopped, and goes on at this moment, in microseconds since 1970, is put into the log.
 #[tactic(auto, using(agent_texts::proofs::TellingLemmas::telling))]
-fn log_pause(alloc: Global, log: &mut Record, time: u64, pause: Pause)
+pub(crate) fn log_pause(alloc: Global, log: &mut Record, time: u64, pause: Pause)
     ensures { Tells (pause_line time pause.lateness pause.read) log.old log.new }
 {
     if log.is_on() && put_pause(alloc, &mut log.out, time, pause.lateness, pause.read).is_err() {
@@ -190,7 +188,6 @@ impl<S: Surroundings + Drop> Wire<S> {
             time: around.time(),
         };
         Ok(Wire {
-            alloc,
             around,
             lines,
             network,
@@ -394,16 +391,6 @@ impl<S: Surroundings + Drop> Wire<S> {
         for datagram in datagrams {
             self.send(datagram.to, datagram.bytes.as_bytes(), is_repeat);
         }
-    }
-
-    /// The program was stopped, and goes on: that is noted in the log.
-    pub(crate) fn note_pause(&mut self, pause: Pause)
-        ensures told { Tells (pause_line self.old.now.time pause.lateness pause.read) self.old.journal.value.log
-            self.new.journal.value.log }
-        ensures journal { self.new.journal.value ≡ record self.old.journal.value { log = self.new.journal.value.log } }
-        ensures rest { self.new ≡ record self.old { journal = self.new.journal } }
-    {
-        log_pause(self.alloc, &mut self.journal.log, self.now.time, pause);
     }
 
     /// Waits until something comes, but no longer than this, in ms, nor than until what waits to be taken is offered again.

@@ -1,4 +1,5 @@
-use Rattle.std.proofs.Common.{ℕ, Bool, length, refl, subst}
+use Rattle.std.proofs.Common.{ℕ, Bool, length, refl, ap, subst}
+use Rattle.agent_texts.specs.declared.journal.Journal.{Journal}
 use Rattle.live_agent.specs.Handing.{HandsTo}
 use Rattle.live_agent.specs.Ticking.{GivesUpEach, TicksEach, WakesEach}
 use Rattle.live_agent.proofs.ServingLemmas.{waited_until}
@@ -50,4 +51,8 @@ returns-in-Wait g c =
     )
 
 pub returns-in-Note : goal.returns-in-Note
-returns-in-Note g c = rw (c.in-Note.is) (refl, (c.note_pause.ensures.told, c.note_pause.ensures.journal, c.note_pause.ensures.rest))
+returns-in-Note g c =
+    rw (c.in-Note.is) (
+      refl,
+      (rw (c.deref_mut.ensures.value) at c.log_pause.ensures, ap (λ (journal : Journal). record journal { log = c.log_pause.new.log }) c.deref_mut.ensures.value, refl),
+    )
