@@ -2,7 +2,7 @@
 ghost use Rattle.std.specs.Prelude.{◌≡◌};
 ghost use Rattle.call_routing.specs.Exchange.{line_of};
 ghost use Rattle.agent_texts.specs.Telling.{is_caller_in, words_of, call_line, line_line, end_told, standing_told, change_told, Tells};
-ghost use Rattle.agent_texts.specs.Standings.{stands_for, is_joined, progress_of, tone_standing, part_standing, standing_of, with_progress, with_failure, with_end, with_refusal, with_rest, with_change};
+ghost use Rattle.agent_texts.specs.Standings.{stands_for, is_joined, progress_of, standing_of, with_progress, with_failure, with_end, with_refusal, with_rest, with_change};
 
 use crate::journal::Journal;
 use crate::station::{Station, number_at};
@@ -73,28 +73,6 @@ fn progress_of(exchange: &Exchange, line: usize, part: Part) -> Progress
     }
 }
 
-fn tone_standing(tone: Tone) -> Standing
-    ensures { result ≡ tone_standing tone }
-{
-    match tone {
-        Tone::Busy => Standing::Busy,
-        Tone::Reorder => Standing::Reorder,
-    }
-}
-
-fn part_standing(side: Side, part: Part, progress: Progress) -> Standing
-    ensures { result ≡ part_standing side part progress }
-{
-    match side {
-        Side::Called => Standing::Called,
-        Side::Caller => Standing::Caller {
-            call: part.call,
-            other: part.other,
-            progress,
-        },
-    }
-}
-
 /// How a line stands now; one that there isn't is at rest.
 pub fn standing_of(exchange: &Exchange, line: usize) -> Standing
     ensures { result ≡ standing_of exchange.now line }
@@ -102,10 +80,16 @@ pub fn standing_of(exchange: &Exchange, line: usize) -> Standing
     match exchange.phase(line) {
         None | Some(Phase::Resting) => Standing::Rest,
         Some(Phase::Dialling) => Standing::Dialling,
-        Some(Phase::Hearing(tone)) => tone_standing(tone),
-        Some(Phase::InCall(part)) => {
-            part_standing(part.side, part, progress_of(exchange, line, part))
-        }
+        Some(Phase::Hearing(Tone::Busy)) => Standing::Busy,
+        Some(Phase::Hearing(Tone::Reorder)) => Standing::Reorder,
+        Some(Phase::InCall(part)) => match part.side {
+            Side::Called => Standing::Called,
+            Side::Caller => Standing::Caller {
+                call: part.call,
+                other: part.other,
+                progress: progress_of(exchange, line, part),
+            },
+        },
     }
 }
 
