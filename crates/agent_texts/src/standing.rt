@@ -2,7 +2,7 @@
 ghost use Rattle.std.specs.Prelude.{◌≡◌};
 ghost use Rattle.call_routing.specs.Exchange.{line_of};
 ghost use Rattle.agent_texts.specs.Telling.{is_caller_in, words_of, call_line, line_line, end_told, standing_told, change_told, Tells};
-ghost use Rattle.agent_texts.specs.Standings.{stands_for, is_joined, progress_of, standing_of, with_progress, with_failure, with_end, with_refusal, with_rest, with_change};
+ghost use Rattle.agent_texts.specs.Standings.{stands_for, is_joined, progress_of, standing_of, with_failure, with_end, with_refusal, with_rest, with_change};
 
 use crate::journal::Journal;
 use crate::station::{Station, number_at};
@@ -102,17 +102,6 @@ fn is_caller_in(standing: Standing, call: u64) -> bool
     }
 }
 
-// Counts how far a call of a line has come.
-fn count_progress(tally: &mut Tally, progress: Progress)
-    ensures { tally.new ≡ with_progress progress tally.old }
-{
-    match progress {
-        Progress::Ringing => count(&mut tally.calls),
-        Progress::Answered => {}
-        Progress::Connected => count(&mut tally.set_up),
-    }
-}
-
 // Counts that a call of a line, which stands so now, ended before its ends were connected.
 fn count_failure(tally: &mut Tally, is: Standing)
     ensures { tally.new ≡ with_failure is tally.old }
@@ -159,12 +148,16 @@ fn count_rest(tally: &mut Tally, was: Standing, is: Standing)
     }
 }
 
-// Counts what becomes of a line that stood so.
+// Counts what becomes of a line that stood so: how far a call of its own has come, where it has one now.
 fn count_change(tally: &mut Tally, was: Standing, is: Standing)
     ensures { tally.new ≡ with_change was is tally.old }
 {
     match is {
-        Standing::Caller { progress, .. } => count_progress(tally, progress),
+        Standing::Caller { progress, .. } => match progress {
+            Progress::Ringing => count(&mut tally.calls),
+            Progress::Answered => {}
+            Progress::Connected => count(&mut tally.set_up),
+        },
         Standing::Rest
         | Standing::Dialling
         | Standing::Busy
