@@ -2,7 +2,7 @@
 ghost use Rattle.std.specs.Prelude.{◌≡◌};
 ghost use Rattle.call_routing.specs.Exchange.{line_of};
 ghost use Rattle.agent_texts.specs.Telling.{is_caller_in, words_of, call_line, line_line, end_told, standing_told, change_told, Tells};
-ghost use Rattle.agent_texts.specs.Standings.{stands_for, is_joined, progress_of, standing_of, with_failure, with_end, with_refusal, with_rest, with_change};
+ghost use Rattle.agent_texts.specs.Standings.{stands_for, is_joined, progress_of, standing_of, with_failure, with_rest, with_change};
 
 use crate::journal::Journal;
 use crate::station::{Station, number_at};
@@ -116,34 +116,22 @@ fn count_failure(tally: &mut Tally, is: Standing)
     }
 }
 
-// Counts the end of a call that has come so far, of a line that stands so now.
-fn count_end(tally: &mut Tally, progress: Progress, is: Standing)
-    ensures { tally.new ≡ with_end progress is tally.old }
-{
-    match progress {
-        Progress::Ringing | Progress::Answered => count_failure(tally, is),
-        Progress::Connected => {}
-    }
-}
-
-// Counts that what a line dialled led to no call.
-fn count_refusal(tally: &mut Tally, is: Standing)
-    ensures { tally.new ≡ with_refusal is tally.old }
-{
-    match is {
-        Standing::Busy => count(&mut tally.busy),
-        Standing::Reorder => count(&mut tally.wrong_number),
-        Standing::Rest | Standing::Dialling | Standing::Caller { .. } | Standing::Called => {}
-    }
-}
-
 // Counts what became of a line that has no call of its own now.
 fn count_rest(tally: &mut Tally, was: Standing, is: Standing)
     ensures { tally.new ≡ with_rest was is tally.old }
 {
     match was {
-        Standing::Caller { progress, .. } => count_end(tally, progress, is),
-        Standing::Dialling => count_refusal(tally, is),
+        // Its call is over.
+        Standing::Caller { progress, .. } => match progress {
+            Progress::Ringing | Progress::Answered => count_failure(tally, is),
+            Progress::Connected => {}
+        },
+        // What it dialled led to no call.
+        Standing::Dialling => match is {
+            Standing::Busy => count(&mut tally.busy),
+            Standing::Reorder => count(&mut tally.wrong_number),
+            Standing::Rest | Standing::Dialling | Standing::Caller { .. } | Standing::Called => {}
+        },
         Standing::Rest | Standing::Busy | Standing::Reorder | Standing::Called => {}
     }
 }
