@@ -3,7 +3,7 @@ ghost use Rattle.std.specs.Prelude.{◌≡◌, ◌||◌, IfOk};
 ghost use Rattle.mg_bytes.specs.Case.{same_but_case};
 ghost use Rattle.mg_bytes.specs.Items.{items_of};
 ghost use Rattle.mgcp_text.specs.Reading.{read_text};
-ghost use Rattle.call_office.specs.Hooks.{hook_of, hook_among, hook_told, hook_by, is_lifted, is_off, was_off, changed, told_by_hook, is_off_hook, notified};
+ghost use Rattle.call_office.specs.Hooks.{hook_of, hook_among, hook_told, hook_by, was_off, changed, told_by_hook, is_off_hook, notified};
 
 use call_routing::{Phase, Side, Told};
 use mg_bytes::{OutOfMemory, list_items, same_no_case};
@@ -67,32 +67,17 @@ pub(crate) fn audited_hook(alloc: Global, text: &[u8]) -> Result<Option<bool>, O
     }
 }
 
-fn is_lifted(side: Side, answered: bool) -> bool
-    ensures { result ≡ is_lifted side answered }
-{
-    match side {
-        Side::Caller => true,
-        Side::Called => answered,
-    }
-}
-
-// Whether a line in this phase is off hook.
-fn is_off(phase: Phase) -> bool
-    ensures { result ≡ is_off phase }
-{
-    match phase {
-        Phase::Resting => false,
-        Phase::Dialling | Phase::Hearing(_) => true,
-        Phase::InCall(part) => is_lifted(part.side, part.answered),
-    }
-}
-
+// Whether the exchange has a line in this phase off hook.
 fn was_off(phase: Option<Phase>) -> bool
     ensures { result ≡ was_off phase }
 {
     match phase {
-        Some(phase) => is_off(phase),
-        None => false,
+        None | Some(Phase::Resting) => false,
+        Some(Phase::Dialling | Phase::Hearing(_)) => true,
+        Some(Phase::InCall(part)) => match part.side {
+            Side::Caller => true,
+            Side::Called => part.answered,
+        },
     }
 }
 
