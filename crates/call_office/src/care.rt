@@ -1,6 +1,6 @@
 //! What is kept of a line beside what the exchange knows: which command is next, and what the one in flight is for.
 ghost use Rattle.std.specs.Prelude.{◌≡◌, option_map};
-ghost use Rattle.call_office.specs.Duties.{next_behind, told_still, is_held, begun, owed_behind, owed, lost, outlived, announced, again_at, held_from, is_due_at, woken, is_put_off, duty_answered, last_duty, first_duty, duty_behind, routed_by, changed_by, fixed_order};
+ghost use Rattle.call_office.specs.Duties.{next_behind, told_still, is_held, begun, owed_behind, owed, lost, outlived, announced, held_from, is_due_at, woken, is_put_off, duty_answered, last_duty, first_duty, duty_behind, routed_by, changed_by, fixed_order};
 
 use agent_texts::{Refusals, Standing};
 use call_routing::{Cause, MOST_PUT_OFF, PutOff, may_pass};
@@ -117,13 +117,6 @@ fn owed_behind(next: Duty, duty: Duty) -> Duty
         Duty::Audit => duty,
         Duty::Route => duty,
     }
-}
-
-// When a command that is put off at this moment is sent again, in ms.
-fn again_at(moment: u64) -> u64
-    ensures { result ≡ again_at moment }
-{
-    moment.saturating_add(AGAIN_AFTER)
 }
 
 // What comes before a command that was put off so, if anything does.
@@ -246,7 +239,7 @@ impl Care {
     fn hold(&mut self, moment: u64)
         ensures { self.new ≡ held_from moment self.old }
     {
-        self.again = Some(again_at(moment));
+        self.again = Some(moment.saturating_add(AGAIN_AFTER));
     }
 
     // At this moment what was put off is sent again, if it was to be.
