@@ -1,6 +1,6 @@
 //! What is kept of a line beside what the exchange knows: which command is next, and what the one in flight is for.
 ghost use Rattle.std.specs.Prelude.{◌≡◌, option_map};
-ghost use Rattle.call_office.specs.Duties.{next_behind, told_still, is_held, begun, owed_behind, owed, lost, outlived, announced, held_from, is_due_at, woken, is_put_off, duty_answered, last_duty, first_duty, duty_behind, routed_by, changed_by, fixed_order};
+ghost use Rattle.call_office.specs.Duties.{next_behind, told_still, is_held, begun, owed_behind, owed, lost, outlived, announced, held_from, is_due_at, woken, is_put_off, duty_answered, duty_behind, routed_by, changed_by, fixed_order};
 
 use agent_texts::{Refusals, Standing};
 use call_routing::{Cause, MOST_PUT_OFF, PutOff, may_pass};
@@ -124,31 +124,18 @@ fn duty_behind(off: PutOff) -> Option<Duty>
     ensures { result ≡ duty_behind off }
 {
     if off.times == MOST_PUT_OFF {
-        Some(last_duty(off.cause))
+        // It may be put off no more.
+        match off.cause {
+            Cause::Hook | Cause::Request => Some(Duty::Audit),
+            Cause::Connection => Some(Duty::Clear),
+        }
     } else if off.times == 1 {
-        first_duty(off.cause)
+        match off.cause {
+            Cause::Hook => Some(Duty::Audit),
+            Cause::Request | Cause::Connection => None,
+        }
     } else {
         None
-    }
-}
-
-// What comes before a command that may be put off no more.
-fn last_duty(cause: Cause) -> Duty
-    ensures { result ≡ last_duty cause }
-{
-    match cause {
-        Cause::Hook | Cause::Request => Duty::Audit,
-        Cause::Connection => Duty::Clear,
-    }
-}
-
-// What comes before a command that was put off once.
-fn first_duty(cause: Cause) -> Option<Duty>
-    ensures { result ≡ first_duty cause }
-{
-    match cause {
-        Cause::Hook => Some(Duty::Audit),
-        Cause::Request | Cause::Connection => None,
     }
 }
 
