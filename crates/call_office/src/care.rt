@@ -1,6 +1,6 @@
 //! What is kept of a line beside what the exchange knows: which command is next, and what the one in flight is for.
 ghost use Rattle.std.specs.Prelude.{◌≡◌, option_map};
-ghost use Rattle.call_office.specs.Duties.{next_behind, told_still, is_held, begun, owed_behind, owed, lost, outlived, announced, held_from, is_due_at, woken, is_put_off, duty_answered, duty_behind, routed_by, changed_by, fixed_order};
+ghost use Rattle.call_office.specs.Duties.{is_held, begun, owed_behind, owed, lost, outlived, announced, held_from, is_due_at, woken, is_put_off, duty_answered, duty_behind, routed_by, changed_by, fixed_order};
 
 use agent_texts::{Refusals, Standing};
 use call_routing::{Cause, MOST_PUT_OFF, PutOff, may_pass};
@@ -88,27 +88,6 @@ pub(crate) const NEW_CARE: Care = Care {
     },
 };
 
-fn next_behind(duty: Duty) -> Duty
-    ensures { result ≡ next_behind duty }
-{
-    match duty {
-        Duty::Clear => Duty::Audit,
-        Duty::Audit => Duty::Route,
-        Duty::Route => Duty::Route,
-    }
-}
-
-// Whether it counts that the line has told something, where this duty begins.
-fn told_still(duty: Duty, has_told: bool) -> bool
-    ensures { result ≡ told_still duty has_told }
-{
-    match duty {
-        Duty::Clear => has_told,
-        Duty::Audit => false,
-        Duty::Route => has_told,
-    }
-}
-
 fn owed_behind(next: Duty, duty: Duty) -> Duty
     ensures { result ≡ owed_behind next duty }
 {
@@ -176,10 +155,17 @@ impl Care {
             return;
         }
         let duty = self.next;
-        self.has_told = told_still(duty, self.has_told);
-        self.next = next_behind(duty);
         self.flight = Some(duty);
         self.is_outlived = false;
+        match duty {
+            Duty::Clear => self.next = Duty::Audit,
+            Duty::Audit => {
+                // It counts what the line tells from now on.
+                self.has_told = false;
+                self.next = Duty::Route;
+            }
+            Duty::Route => self.next = Duty::Route,
+        }
     }
 
     // The line is to be cleared or audited next.
