@@ -3,7 +3,7 @@ ghost use Rattle.std.specs.Prelude.{◌≡◌, ◌||◌, IfOk};
 ghost use Rattle.mg_bytes.specs.Case.{same_but_case};
 ghost use Rattle.mg_bytes.specs.Items.{items_of};
 ghost use Rattle.mgcp_text.specs.Reading.{read_text};
-ghost use Rattle.call_office.specs.Hooks.{hook_of, hook_among, hook_told, hook_by, was_off, changed, told_by_hook, is_off_hook, notified};
+ghost use Rattle.call_office.specs.Hooks.{hook_of, hook_among, hook_told, hook_by, was_off, told_by_hook, is_off_hook, notified};
 
 use call_routing::{Phase, Side, Told};
 use mg_bytes::{OutOfMemory, list_items, same_no_case};
@@ -81,25 +81,21 @@ fn was_off(phase: Option<Phase>) -> bool
     }
 }
 
-// What the exchange is told of a hook, which it has off or on.
-fn changed(is_off: bool, was_off: bool) -> Told
-    ensures { result ≡ changed is_off was_off }
-{
-    if is_off {
-        if was_off { Told::Flash } else { Told::OffHook }
-    } else if was_off {
-        Told::OnHook
-    } else {
-        Told::Flash
-    }
-}
-
-/// What a line in this phase tells by its hook.
+/// What a line in this phase tells by its hook: what is new of that, by what the exchange has it.
 pub(crate) fn told_by_hook(hook: Option<bool>, phase: Option<Phase>) -> Told
     ensures { result ≡ told_by_hook hook (was_off phase) }
 {
+    let was = was_off(phase);
     match hook {
-        Some(is_off) => changed(is_off, was_off(phase)),
+        Some(is_off) => {
+            if is_off {
+                if was { Told::Flash } else { Told::OffHook }
+            } else if was {
+                Told::OnHook
+            } else {
+                Told::Flash
+            }
+        }
         None => Told::Flash,
     }
 }
