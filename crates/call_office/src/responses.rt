@@ -1,22 +1,13 @@
 //! What a final response to a command of the exchange says became of it.
 ghost use Rattle.std.specs.Prelude.{◌≡◌, true, IfOk, OnErr};
 ghost use Rattle.mgcp_text.specs.Reading.{read_text};
-ghost use Rattle.call_office.specs.Responses.{creates, connection_in, created, created_by, is_creation, outcome_by};
+ghost use Rattle.call_office.specs.Responses.{connection_in, created, created_by, is_creation, outcome_by};
 
 use agent_config::copied;
 use call_routing::{Command, Outcome};
 use mg_bytes::{Identifier, OutOfMemory};
 use mgcp_text::{Message, Param, TextFault, param_at, read_message};
 use std::alloc::{AllocError, Global};
-
-fn creates(flight: Option<Command>) -> bool
-    ensures { result ≡ creates flight }
-{
-    match flight {
-        Some(Command::Create { .. }) => true,
-        Some(Command::Ask(_) | Command::Modify { .. } | Command::Delete { .. }) | None => false,
-    }
-}
 
 // The connection that an answer names.
 fn connection_in(params: &[Param<'_>]) -> Option<Identifier>
@@ -72,7 +63,14 @@ fn creation(alloc: Global, code: u16, text: &[u8]) -> Result<Outcome, OutOfMemor
 fn is_creation(code: u16, flight: Option<Command>) -> bool
     ensures { result ≡ is_creation code flight }
 {
-    code < 300 && creates(flight)
+    if code < 300 {
+        match flight {
+            Some(Command::Create { .. }) => true,
+            Some(Command::Ask(_) | Command::Modify { .. } | Command::Delete { .. }) | None => false,
+        }
+    } else {
+        false
+    }
 }
 
 /// What this final response with this code says became of the command in flight. Memory is wanted for what was created alone.
