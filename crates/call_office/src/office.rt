@@ -373,21 +373,7 @@ fn restart(exchange: &mut Exchange, line: usize, is_restart: bool)
     }
 }
 
-// What a notification that told these events is to the exchange, where an audit had found the handset lifted before, or hadn't.
-fn heard(
-    alloc: Global,
-    plan: &NumberPlan,
-    was_found_off: bool,
-    observed: &[Observed],
-) -> Result<Option<Told>, OutOfMemory>
-    ensures told { IfOk result (λ told. told ≡ notified was_found_off (told_in plan.now observed.now)) }
-    ensures memory { OnErr result (tells_digits observed.now ≡ true) }
-{
-    let told = told_in(alloc, plan, observed)?;
-    Ok(notified(was_found_off, told))
-}
-
-// A notification of the line told these events.
+// A notification of the line told these events, where an audit had found its handset lifted before, or hadn't.
 fn hear(
     alloc: Global,
     exchange: &mut Exchange,
@@ -401,7 +387,8 @@ fn hear(
     ensures err { OnErr result (exchange.new ≡ exchange.old) }
     ensures memory { OnErr result (tells_digits observed.now ≡ true) }
 {
-    match heard(alloc, plan, was_found_off, observed)? {
+    let told = told_in(alloc, plan, observed)?;
+    match notified(was_found_off, told) {
         Some(told) => exchange.tell(line, told),
         None => {}
     }
