@@ -559,37 +559,6 @@ impl Office {
         Ok(order)
     }
 
-    // The command in flight to the line was answered by this final response at this moment.
-    fn take_answer(&mut self, alloc: Global, line: usize, moment: u64, code: u16, text: &[u8])
-        ensures outlived { is_outlived (slice_get self.old.cares.items line) ≡ true
-            → self.new.exchange ≡ forsaken self.old.exchange line (flight_of (slice_get self.old.cares.items line)) }
-        ensures taken { is_outlived (slice_get self.old.cares.items line) ≡ false
-            → TakesResponse (flight_of (slice_get self.old.cares.items line)) line moment code text.now
-            self.old.exchange (cared landed self.old.cares.items line) self.new.exchange self.new.cares.items }
-        ensures answer { TakesAnswer (is_outlived (slice_get self.old.cares.items line)) line moment code text.now
-            self.old.exchange self.old.cares.items self.new.exchange self.new.cares.items }
-        ensures waits { waits self.new.worklist.waiting.items self.new.worklist.is_all line ≡ true }
-        ensures touches { Touches line self.old self.new }
-        ensures rest { self.new ≡ record self.old { exchange = self.new.exchange; cares = self.new.cares; worklist = self.new.worklist } }
-    {
-        if is_outlived(care_at(self.cares.as_slice(), line)) {
-            return self.given_up(line);
-        }
-        touch(&mut self.worklist, &self.exchange, line);
-        let duty = flight_of(change_at(&mut self.cares, line, Change::Land));
-        take_response(
-            alloc,
-            &mut self.exchange,
-            &mut self.cares,
-            line,
-            duty,
-            moment,
-            code,
-            text,
-        );
-        touch(&mut self.worklist, &self.exchange, line);
-    }
-
     /// The command in flight to the line was answered by this final response at this moment, in ms: when what was put off of the line is
     /// sent again, if anything was. Where the gateway has started again since, the answer says nothing of what is there now, and the
     /// command counts as given up.
@@ -613,7 +582,23 @@ impl Office {
         ensures again { result ≡ again_of (slice_get self.new.cares.items line) }
         ensures rest { self.new ≡ record self.old { exchange = self.new.exchange; cares = self.new.cares; worklist = self.new.worklist } }
     {
-        self.take_answer(alloc, line, moment, code, text);
+        if is_outlived(care_at(self.cares.as_slice(), line)) {
+            self.given_up(line);
+            return again_of(care_at(self.cares.as_slice(), line));
+        }
+        touch(&mut self.worklist, &self.exchange, line);
+        let duty = flight_of(change_at(&mut self.cares, line, Change::Land));
+        take_response(
+            alloc,
+            &mut self.exchange,
+            &mut self.cares,
+            line,
+            duty,
+            moment,
+            code,
+            text,
+        );
+        touch(&mut self.worklist, &self.exchange, line);
         again_of(care_at(self.cares.as_slice(), line))
     }
 
