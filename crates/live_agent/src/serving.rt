@@ -108,8 +108,9 @@ pub(crate) fn open_wire<'a, R: Net + Clock>(
         Err(ending) => return Err(ending),
     };
     let own = live.own();
-    let here = if own[0].port() > 0 {
-        own[0]
+    let told = own[0];
+    let here = if told.port() > 0 {
+        told
     } else {
         settings.listen.address
     };
@@ -221,12 +222,14 @@ fn tell_addresses<R: Net + Clock, F: Write + Drop>(
     outlets: &mut Outlets<F>,
 ) {
     let own = live.own();
-    if own[0].port() > 0 && own[1].port() > 0 {
+    let listen = own[0];
+    let control = own[1];
+    if listen.port() > 0 && control.port() > 0 {
         let mut line = Draft::new(alloc);
         line.put(b"listen ");
-        put_peer(&mut line, own[0]);
+        put_peer(&mut line, listen);
         line.put(b" control ");
-        put_peer(&mut line, own[1]);
+        put_peer(&mut line, control);
         line.put(b"\n");
         // For want of memory that line alone isn't said.
         if let Ok(line) = line.end() {
