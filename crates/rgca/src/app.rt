@@ -61,7 +61,8 @@ fn serve_with<R: Files + Net + Clock>(
         Ok(config) => config,
         Err(refusal) => return config_ending(refusal),
     };
-    let (is_routed, capture) = (settings.route, settings.capture);
+    let is_routed = settings.route;
+    let capture = settings.capture;
     let wire = wire_settings(settings, &config);
     Ending::Common(serve_agent(rt, alloc, &config, is_routed, wire, capture, outlets))
 }
@@ -88,11 +89,12 @@ fn served<R: AllocGlobal + Files + Net + Clock>(
     words: &[String],
     outlets: &mut Outlets<R::File>,
 ) -> Said {
-    let settings = match read_words(rt.alloc(), words, &mut outlets.error) {
+    let alloc = rt.alloc();
+    let settings = match read_words(alloc, words, &mut outlets.error) {
         Ok(settings) => settings,
-        Err(fault) => return word_ending(fault).said(rt.alloc(), Named::nothing()),
+        Err(fault) => return word_ending(fault).said(alloc, Named::nothing()),
     };
-    serve(rt, rt.alloc(), &settings, outlets)
+    serve(rt, alloc, &settings, outlets)
 }
 
 // How the program with these words ends, of which the first is its name, and what it says then. Where the word behind that asks for nothing
@@ -124,7 +126,8 @@ fn run_with<R: AllocGlobal + Files + Net + Clock>(
         Ok(words) => said_by(rt, words.as_slice(), outlets),
         Err(ending) => Ending::Common(*ending).said(rt.alloc(), Named::nothing()),
     };
-    let (status, is_asked) = (ending.status(), ending.is_asked());
+    let status = ending.status();
+    let is_asked = ending.is_asked();
     end(rt, outlets, text, status, is_asked)
 }
 
