@@ -73,8 +73,9 @@ fn unchecked_ending(fault: CheckFault, gateway: SocketAddrV4, own: SocketAddrV4)
 }
 
 // Keeps the report of this check in its file, where one is asked for: how the program ends then.
-fn reported<R: AllocGlobal + Files, F: Write + Drop>(
+fn reported<R: Files, F: Write + Drop>(
     rt: &R,
+    alloc: Global,
     words: &CheckWords<'_>,
     checked: &Checked,
     out: &mut Outlet<F>,
@@ -89,7 +90,7 @@ fn reported<R: AllocGlobal + Files, F: Write + Drop>(
         Ok(()) => Ending::Checked { status },
         Err(kind) => {
             let ending = Ending::Common(CommonEnding::unwritable(kind));
-            failed(rt.alloc(), words, out, ending)
+            failed(alloc, words, out, ending)
         }
     }
 }
@@ -98,6 +99,7 @@ fn reported<R: AllocGlobal + Files, F: Write + Drop>(
 #[tactic(auto, unfolding(crate::specs::Endings::CheckEnds))]
 fn check_by<R: AllocGlobal + Files + Net + Clock, F: Write + Drop>(
     rt: &R,
+    alloc: Global,
     words: &CheckWords<'_>,
     out: &mut Outlet<F>,
 ) -> Ending
@@ -107,22 +109,23 @@ fn check_by<R: AllocGlobal + Files + Net + Clock, F: Write + Drop>(
         Ok(checked) => checked,
         Err(fault) => {
             let ending = unchecked_ending(fault, words.settings.gateway, words.settings.own);
-            return failed(rt.alloc(), words, out, ending);
+            return failed(alloc, words, out, ending);
         }
     };
-    reported(rt, words, &checked, out)
+    reported(rt, alloc, words, &checked, out)
 }
 
 // Checks a gateway as these words ask: how the program ends then, and what it says, which names the file of the report.
 fn check_said<R: AllocGlobal + Files + Net + Clock, F: Write + Drop>(
     rt: &R,
+    alloc: Global,
     words: &CheckWords<'_>,
     out: &mut Outlet<F>,
 ) -> Said
     ensures ends { CheckEnds words.now result.ending }
     ensures says { IfOk result.text (λ text. Says [] (name_of words.now.junit) [] result.ending text.items) }
 {
-    check_by(rt, words, out).said(rt.alloc(), words.named())
+    check_by(rt, alloc, words, out).said(alloc, words.named())
 }
 
 // Tells which checks there are.
@@ -161,12 +164,13 @@ pub fn checked<R: AllocGlobal + Files + Net + Clock, F: Write + Drop>(
     ensures list { asks_for_list words.now ≡ true → ListEnds result.ending }
     ensures checks { asks_for_list words.now ≡ false → AskedEnds result.ending }
 {
+    let alloc = rt.alloc();
     if asks_for_list(words) {
-        return listed(rt.alloc(), &mut outlets.output).said(rt.alloc(), Named::nothing());
+        return listed(alloc, &mut outlets.output).said(alloc, Named::nothing());
     }
-    let asked = match read_check_words(rt.alloc(), words, &mut outlets.error) {
+    let asked = match read_check_words(alloc, words, &mut outlets.error) {
         Ok(asked) => asked,
-        Err(fault) => return check_words_ending(fault).said(rt.alloc(), Named::nothing()),
+        Err(fault) => return check_words_ending(fault).said(alloc, Named::nothing()),
     };
-    check_said(rt, &asked, &mut outlets.output)
+    check_said(rt, alloc, &asked, &mut outlets.output)
 }
