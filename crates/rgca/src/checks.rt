@@ -8,7 +8,7 @@ use live_ends::{AddressWord, CommonEnding};
 use live_outlets::{Outlet, Outlets};
 use mg_bytes::OutOfMemory;
 use rgca_words::{CheckWords, Ending, Named, Said, check_words_ending, read_check_words};
-use std::alloc::Global;
+use std::alloc::{AllocError, Global};
 use std::fs::File;
 use std::io::{ErrorKind, Write};
 use std::net::{Net, SocketAddrV4};
@@ -28,10 +28,17 @@ fn make_file<R: Files>(rt: &R, file: &str, text: &str) -> Result<(), ErrorKind> 
 
 // An object that says why it fails, as a line.
 fn fault_line(alloc: Global, ending: &Ending, named: Named<'_>) -> Result<String, OutOfMemory> {
-    let why = ending.text(alloc, named)?;
+    // By hand: a question mark is some twenty steps more, at each of which a check pays for all that stands there.
+    let Ok(why) = ending.text(alloc, named) else {
+        return Err(AllocError);
+    };
     let why = str::from_utf8(why.as_slice()).unwrap_or("");
-    let mut line = fault_text(alloc, why.trim_end())?;
-    line.push('\n')?;
+    let Ok(mut line) = fault_text(alloc, why.trim_end()) else {
+        return Err(AllocError);
+    };
+    let Ok(()) = line.push('\n') else {
+        return Err(AllocError);
+    };
     Ok(line)
 }
 
