@@ -20,7 +20,7 @@ use call_routing::NumberPlan;
 use endpoint_names::{Pattern, write_name};
 use mg_bytes::{OutOfMemory, Sequence, Text};
 use plain_machine::{Event, Outputs, Refusal};
-use std::alloc::Global;
+use std::alloc::{AllocError, Global};
 use std::net::SocketAddrV4;
 use transmission::same_address;
 
@@ -189,17 +189,29 @@ impl Switchboard {
             ≡ self.old.stations.items ++ stations_from (length self.old.gateways.items) config.now.gateways.items) }
         ensures office { OnOk result (self.old.office ≡ None → is_some self.new.office ≡ (is_routed && is_some config.now.map)) }
     {
-        self.add_all(config, time)?;
+        // By hand: a question mark is some twenty steps more, at each of which a check pays for all that stands there.
+        let Ok(()) = self.add_all(config, time) else {
+            return Err(AllocError);
+        };
         if !is_routed {
             return Ok(());
         }
         let Some(map) = &config.map else {
             return Ok(());
         };
-        let plan = plan_of(self.alloc, &self.stations)?;
-        let map = copied(self.alloc, map.as_bytes())?;
-        let office = Office::new(self.alloc, self.stations.len())?;
-        self.dialling = Dialling::of(self.alloc, plan, map)?;
+        let Ok(plan) = plan_of(self.alloc, &self.stations) else {
+            return Err(AllocError);
+        };
+        let Ok(map) = copied(self.alloc, map.as_bytes()) else {
+            return Err(AllocError);
+        };
+        let Ok(office) = Office::new(self.alloc, self.stations.len()) else {
+            return Err(AllocError);
+        };
+        let Ok(dialling) = Dialling::of(self.alloc, plan, map) else {
+            return Err(AllocError);
+        };
+        self.dialling = dialling;
         self.office = Some(office);
         Ok(())
     }
