@@ -157,9 +157,16 @@ impl Switchboard {
         let place = self.gateways.len();
         let first = self.stations.len();
         let lines = lines_of(numbers);
-        let gateway = Gateway::new(self.alloc, own, address, domain, first, lines, time)?;
-        self.gateways.push(gateway)?;
-        put_stations(self.alloc, &mut self.stations, place, domain, numbers)?;
+        // By hand, as below: a gateway is held here.
+        let Ok(gateway) = Gateway::new(self.alloc, own, address, domain, first, lines, time) else {
+            return Err(AllocError);
+        };
+        let Ok(()) = self.gateways.push(gateway) else {
+            return Err(AllocError);
+        };
+        let Ok(()) = put_stations(self.alloc, &mut self.stations, place, domain, numbers) else {
+            return Err(AllocError);
+        };
         Ok(())
     }
 
