@@ -247,7 +247,9 @@ fn begin_capture<R: Files>(
     capture: Option<&str>,
     outlets: &mut Outlets<R::File>,
 ) -> Option<CommonEnding> {
-    let file = capture?;
+    let Some(file) = capture else {
+        return None;
+    };
     outlets.capture = match open_capture(rt, alloc, capture) {
         Ok(opened) => opened,
         Err(kind) => return Some(CommonEnding::unwritable(kind)),
