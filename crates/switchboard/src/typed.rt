@@ -110,10 +110,16 @@ pub(crate) fn typed_in(text: &[u8]) -> Option<Typed<'_>>
     ensures { option_map (λ typed. (typed.verb.now, (typed.name.now, typed.rest.now))) result ≡ typed_in text.now }
 {
     let mut left = lines(text);
-    let line = left.next()?;
+    let Some(line) = left.next() else {
+        return None;
+    };
     let mut said = words(line);
-    let verb = said.next()?;
-    let name = said.next()?;
+    let Some(verb) = said.next() else {
+        return None;
+    };
+    let Some(name) = said.next() else {
+        return None;
+    };
     match said.next() {
         Some(_) => None,
         None => Some(Typed {
