@@ -91,8 +91,12 @@ fn include_text(
     Ok(Text::of(text))
 }
 
-// Where a file is that a script brings: one that is relative stands in the script's folder.
-fn path_of(alloc: Global, script: &str, file: &[u8]) -> Result<Vec<u8>, OutOfMemory> {
+// Where the last of these files is, which a script brings: one that is relative stands in the script's folder.
+fn path_of(alloc: Global, script: &str, files: &[Text]) -> Result<Vec<u8>, OutOfMemory> {
+    let file: &[u8] = match files {
+        [.., file] => file.as_bytes(),
+        [] => b"",
+    };
     let mut path = Draft::new(alloc);
     if !file.starts_with(b"/") {
         if let Some((folder, _)) = script.rsplit_once('/') {
@@ -104,14 +108,6 @@ fn path_of(alloc: Global, script: &str, file: &[u8]) -> Result<Vec<u8>, OutOfMem
     path.end()
 }
 
-// The name of the file that was named last.
-fn last_of(files: &[Text]) -> &[u8] {
-    match files {
-        [.., file] => file.as_bytes(),
-        [] => b"",
-    }
-}
-
 // Gives a reader the file that its script brings there: how the program ends where that can't be had.
 fn give_include<R: Files>(
     rt: &R,
@@ -120,7 +116,7 @@ fn give_include<R: Files>(
     reader: &mut Reader<'_>,
     place: Place,
 ) -> Option<Ending> {
-    let Ok(path) = path_of(alloc, script, last_of(reader.files())) else {
+    let Ok(path) = path_of(alloc, script, reader.files()) else {
         return Some(Ending::Common(CommonEnding::OutOfMemory));
     };
     let path = str::from_utf8(path.as_slice()).unwrap_or("");
