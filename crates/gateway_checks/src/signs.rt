@@ -1,7 +1,6 @@
 //! Signs of a datagram's text, and what they stand for.
 ghost use Rattle.std.specs.Prelude.{◌≡◌, ◌++◌, IfOk};
-ghost use Rattle.gateway_checks.specs.Sending.{sign_at, stands_for, bytes_behind, put_at, left_behind, bytes_of, length_behind};
-ghost use Rattle.gateway_checks.specs.Sending.{written_out, ended};
+ghost use Rattle.gateway_checks.specs.Sending.{sign_at, stands_for, bytes_behind, put_at, left_behind, written_out, ended};
 
 use mg_bytes::{Draft, OutOfMemory};
 
@@ -31,38 +30,23 @@ fn sign_at(text: &[u8]) -> Option<Sign>
     }
 }
 
-impl Sign {
-    // What it stands for.
-    fn bytes(self) -> &'static [u8]
-        ensures { result.now ≡ bytes_of self }
-    {
-        match self {
-            Sign::LineEnd => b"\r\n",
-            Sign::Tab => b"\t",
-            Sign::LineFeed => b"\n",
-        }
-    }
-
-    // How many bytes it has behind its first.
-    fn length_behind(self) -> usize
-        ensures { result ≡ length_behind self }
-    {
-        match self {
-            Sign::LineEnd => 2,
-            Sign::Tab | Sign::LineFeed => 1,
-        }
-    }
-}
-
 // Puts what this sign stands for, or a byte that begins none: how many bytes behind that belong to it.
 fn put_sign(out: &mut Draft, byte: u8, sign: Option<Sign>) -> usize
     ensures put { out.new ≡ out.old ++ stands_for byte sign }
     ensures left { result ≡ bytes_behind sign }
 {
     match sign {
-        Some(sign) => {
-            out.put(sign.bytes());
-            sign.length_behind()
+        Some(Sign::LineEnd) => {
+            out.put(b"\r\n");
+            2
+        }
+        Some(Sign::Tab) => {
+            out.put(b"\t");
+            1
+        }
+        Some(Sign::LineFeed) => {
+            out.put(b"\n");
+            1
         }
         None => {
             out.put_byte(byte);
