@@ -1,7 +1,7 @@
 //! The report as JUnit's XML: a test case for each check.
 ghost use Rattle.std.specs.Prelude.{◌≡◌, ◌++◌, OnOk, string_bytes};
 ghost use Rattle.std.specs.Str.Lossy.{utf8_lossy};
-ghost use Rattle.gateway_checks.specs.Junit.{xml_byte, xml_text, outcome_text, skipped_text, verdict_text, case_head, case_text};
+ghost use Rattle.gateway_checks.specs.Junit.{xml_byte, xml_text, outcome_text, skipped_text, verdict_text, case_text};
 ghost use Rattle.gateway_checks.specs.Junit.{skipped_in, all_in, with_count, suite_head, suite_text};
 
 use crate::check::Check;
@@ -69,17 +69,6 @@ fn put_verdict(out: &mut Draft, verdict: Option<Verdict>, due: &str, said: &str)
     }
 }
 
-// Puts what a case begins with: the check's name, and the sections of its rule.
-fn put_case_head(out: &mut Draft, check: &Check<'_>)
-    ensures { out.new ≡ out.old ++ case_head check.now }
-{
-    out.put(b"<testcase name=\"");
-    put_plain(out, check.name);
-    out.put(b"\" classname=\"RFC 3435, ");
-    put_text(out, check.sections);
-    out.put(b"\">");
-}
-
 /// Puts a check: its name, the sections of its rule, its verdict, what was due, and what was said.
 pub fn put_case(
     out: &mut String,
@@ -91,7 +80,11 @@ pub fn put_case(
     ensures { OnOk result (string_bytes out.new ≡ string_bytes out.old ++ utf8_lossy (case_text check.now verdict due.now said.now)) }
 {
     let mut case = Draft::new(*out.allocator());
-    put_case_head(&mut case, check);
+    case.put(b"<testcase name=\"");
+    put_plain(&mut case, check.name);
+    case.put(b"\" classname=\"RFC 3435, ");
+    put_text(&mut case, check.sections);
+    case.put(b"\">");
     put_verdict(&mut case, verdict, due, said);
     case.put(b"</testcase>\n");
     append(case, out)
