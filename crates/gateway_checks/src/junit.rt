@@ -2,7 +2,7 @@
 ghost use Rattle.std.specs.Prelude.{◌≡◌, ◌++◌, OnOk, string_bytes};
 ghost use Rattle.std.specs.Str.Lossy.{utf8_lossy};
 ghost use Rattle.gateway_checks.specs.Junit.{xml_byte, xml_text, outcome_text, skipped_text, verdict_text, case_text};
-ghost use Rattle.gateway_checks.specs.Junit.{skipped_in, all_in, with_count, suite_head, suite_text};
+ghost use Rattle.gateway_checks.specs.Junit.{skipped_in, all_in, with_count, suite_text};
 
 use crate::check::Check;
 use crate::judging::Verdict;
@@ -112,21 +112,7 @@ fn put_count(out: &mut Draft, text: &[u8], count: u64)
     out.put_decimal(count);
 }
 
-// Puts what a report begins with: how many checks there were, how many failed, and how many were skipped.
-fn put_suite_head(out: &mut Draft, all: u64, failed: u64, skipped: u64)
-    ensures { out.new ≡ out.old ++ suite_head all failed skipped }
-{
-    put_count(
-        out,
-        b"<?xml version=\"1.0\" encoding=\"UTF-8\"?>\n<testsuite name=\"rgca check\" tests=\"",
-        all,
-    );
-    put_count(out, b"\" failures=\"", failed);
-    put_count(out, b"\" errors=\"0\" skipped=\"", skipped);
-    out.put(b"\">\n");
-}
-
-/// The whole report, of these cases.
+/// The whole report, of these cases: first how many checks there were, how many failed, and how many were skipped.
 pub fn put_suite(out: &mut String, cases: &str, tally: &Tally) -> Result<(), OutOfMemory>
     ensures { OnOk result (string_bytes out.new ≡ string_bytes out.old ++ utf8_lossy (suite_text cases.now tally.now)) }
 {
@@ -134,7 +120,14 @@ pub fn put_suite(out: &mut String, cases: &str, tally: &Tally) -> Result<(), Out
     let failed = u64::from(tally.failed);
     let skipped = skipped_in(tally);
     let mut suite = Draft::new(*out.allocator());
-    put_suite_head(&mut suite, all, failed, skipped);
+    put_count(
+        &mut suite,
+        b"<?xml version=\"1.0\" encoding=\"UTF-8\"?>\n<testsuite name=\"rgca check\" tests=\"",
+        all,
+    );
+    put_count(&mut suite, b"\" failures=\"", failed);
+    put_count(&mut suite, b"\" errors=\"0\" skipped=\"", skipped);
+    suite.put(b"\">\n");
     put_plain(&mut suite, cases);
     suite.put(b"</testsuite>\n");
     append(suite, out)
