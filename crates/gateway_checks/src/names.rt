@@ -3,7 +3,7 @@ ghost use Rattle.std.specs.Prelude.{◌≡◌, ◌++◌, ◌∷◌, [], Some, If
 ghost use Rattle.std.specs.List.{slice_split};
 ghost use Rattle.std.specs.Str.{str_to_ascii_uppercase};
 ghost use Rattle.std.specs.Str.Lossy.{utf8_lossy};
-ghost use Rattle.gateway_checks.specs.Naming.{meaning_in, meaning_of, value_kept, kept_or_name, endpoint_name, upper_endpoint_name};
+ghost use Rattle.gateway_checks.specs.Naming.{meaning_in, meaning_of, value_kept, endpoint_name, upper_endpoint_name};
 ghost use Rattle.gateway_checks.specs.Naming.{value_meant, is_brace, piece_filled, filled_by, value_under, filled};
 ghost use Rattle.gateway_checks.specs.Naming.{id_by, id_in, is_own, differ, names_kept, kept_with};
 ghost use Rattle.gateway_checks.specs.Sending.{datagram};
@@ -209,21 +209,7 @@ impl<'a> Names<'a> {
         None
     }
 
-    // Puts the value that has a name; the name in its braces where none has it.
-    fn put_kept(&self, out: &mut Draft, name: &[u8])
-        ensures { out.new ≡ out.old ++ kept_or_name name.now (value_kept name.now (names_kept self.now)) }
-    {
-        match self.value_kept(name) {
-            Some(value) => out.put(value),
-            None => {
-                out.put(b"{");
-                out.put(name);
-                out.put(b"}");
-            }
-        }
-    }
-
-    // Puts what a name stands for that means this.
+    // Puts what a name stands for that means this; the name in its braces where nothing was kept under it.
     fn put_meant(&self, out: &mut Draft, name: &[u8], meaning: Meaning)
         ensures { out.new ≡ out.old
             ++ value_meant self.now.base self.now.places (names_kept self.now) name.now meaning }
@@ -239,7 +225,14 @@ impl<'a> Names<'a> {
             Meaning::There => put_plain(out, places.there),
             Meaning::Call => out.put_decimal(u64::from(self.base)),
             Meaning::Description => put_plain(out, SDP),
-            Meaning::Kept => self.put_kept(out, name),
+            Meaning::Kept => match self.value_kept(name) {
+                Some(value) => out.put(value),
+                None => {
+                    out.put(b"{");
+                    out.put(name);
+                    out.put(b"}");
+                }
+            },
         }
     }
 
