@@ -1,6 +1,6 @@
 //! What is made of an answer, of a step and of a check.
 ghost use Rattle.std.specs.Prelude.{◌≡◌};
-ghost use Rattle.gateway_checks.specs.Judging.{is_permanent, judged, settled, verdict_of};
+ghost use Rattle.gateway_checks.specs.Judging.{judged, settled, verdict_of};
 
 /// Why a step isn't met.
 #[derive(Clone, Copy)]
@@ -24,22 +24,15 @@ pub enum Verdict {
     Failed,
 }
 
-// Whether a return code says that the gateway can't do what it is asked (RFC 3435, 2.4: a permanent error).
-fn is_permanent(code: u16) -> bool
-    ensures { result ≡ is_permanent code }
-{
-    500 <= code && code <= 599
-}
-
 /// What is at fault with an answer, if anything is: whether its return code is due, whether what was asked may be left out,
-/// and the code.
+/// and the code, of which 500 to 599 say that the gateway can't do what it is asked (RFC 3435, 2.4: a permanent error).
 #[tactic(auto, unfolding(crate::specs::Judging::judged))]
 pub fn judged(is_due: bool, is_optional: bool, code: u16) -> Option<Fault>
     ensures { result ≡ judged is_due is_optional code }
 {
     if is_due {
         None
-    } else if is_optional && is_permanent(code) {
+    } else if is_optional && (500 <= code && code <= 599) {
         Some(Fault::NotSupported)
     } else {
         Some(Fault::Otherwise)
