@@ -1,4 +1,5 @@
 //! A line is sent to somebody's socket, and the answer is waited for.
+use std::io;
 use std::io::ErrorKind;
 use std::net::{Ipv4Addr, Net, SocketAddrV4, UdpSocket};
 use std::rt::Clock;
@@ -19,10 +20,10 @@ pub enum AskFault {
 }
 
 // Why a line isn't answered that can't be sent.
-fn unsent(kind: ErrorKind) -> AskFault {
-    match kind {
+fn unsent(fault: io::Error) -> AskFault {
+    match fault.kind() {
         ErrorKind::ConnectionRefused => AskFault::NoAnswer,
-        _ => AskFault::Refused { kind },
+        kind => AskFault::Refused { kind },
     }
 }
 
@@ -47,15 +48,15 @@ enum Heard {
     Nothing,
 }
 
-// Waits so long, in ms, for a datagram of the peer's. An error is of the system's kind.
-fn take_from_peer(socket: &UdpSocket, left: u64, room: &mut [u8]) -> Result<Heard, ErrorKind> {
+// Waits so long, in ms, for a datagram of the peer's.
+fn take_from_peer(socket: &UdpSocket, left: u64, room: &mut [u8]) -> Result<Heard, AskFault> {
     let peer = match socket.peer_addr() {
         Ok(peer) => peer,
-        Err(fault) => return Err(fault.kind()),
+        Err(fault) => return Err(unsent(fault)),
     };
     match socket.set_read_timeout(Some(Duration::from_millis(left))) {
         Ok(()) => {}
-        Err(fault) => return Err(fault.kind()),
+        Err(fault) => return Err(unsent(fault)),
     }
     match socket.recv_from(room) {
         Ok((length, source)) if source == peer => Ok(Heard::Answer { length }),
@@ -85,7 +86,7 @@ fn hear<R: Clock>(rt: &R, socket: &UdpSocket, room: &mut Vec<u8>) -> Result<(), 
             }
             Ok(Heard::Other) => {}
             Ok(Heard::Nothing) => break,
-            Err(kind) => return Err(unsent(kind)),
+            Err(fault) => return Err(fault),
         }
     }
     Err(AskFault::NoAnswer)
@@ -100,16 +101,16 @@ pub fn ask<R: Net + Clock>(
 ) -> Result<(), AskFault> {
     let socket = match UdpSocket::bind(rt, SocketAddrV4::new(Ipv4Addr::UNSPECIFIED, 0)) {
         Ok(socket) => socket,
-        Err(fault) => return Err(unsent(fault.kind())),
+        Err(fault) => return Err(unsent(fault)),
     };
     // So it takes datagrams from there alone, and it is told where nobody is there.
     match socket.connect(address) {
         Ok(()) => {}
-        Err(fault) => return Err(unsent(fault.kind())),
+        Err(fault) => return Err(unsent(fault)),
     }
     match socket.send(line) {
         Ok(_) => {}
-        Err(fault) => return Err(unsent(fault.kind())),
+        Err(fault) => return Err(unsent(fault)),
     }
     hear(rt, &socket, room)
 }
