@@ -57,18 +57,12 @@ fn note_visit(visit: &mut Visit, event: &Event) {
     visit.is_writable = visit.is_writable || event.is_writable();
 }
 
-fn is_visit(visit: Visit) -> bool
-    ensures { result ≡ is_visit visit }
-{
-    visit.is_readable || visit.is_writable
-}
-
 // Whether something was told of a visitor's socket.
 fn is_any_visit(visits: &[Visit]) -> bool
     ensures { result ≡ list_any is_visit visits.now }
 {
     for visit in visits {
-        if is_visit(*visit) {
+        if visit.is_readable || visit.is_writable {
             return true;
         }
     }
