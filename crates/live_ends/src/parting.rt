@@ -91,11 +91,6 @@ fn numbers_of<R: Files + Alloc + Clone + Drop>(
     Ok(numbers)
 }
 
-// The greatest of numbers; 0 where there is none.
-fn greatest(numbers: &[u64]) -> u64 {
-    numbers.iter().copied().max().unwrap_or(0)
-}
-
 impl CaptureFiles {
     /// The files of this name: what is there already is older than what will be. Its errors are want of memory, and that the folder
     /// can't be read, for this kind.
@@ -109,6 +104,7 @@ impl CaptureFiles {
             Ok(numbers) => numbers,
             Err(kind) => return Err(kind),
         };
+        let greatest = numbers.as_slice().iter().copied().max().unwrap_or(0);
         let Ok(copy) = String::from_str(alloc, name) else {
             return Err(ErrorKind::OutOfMemory);
         };
@@ -116,7 +112,7 @@ impl CaptureFiles {
             alloc,
             name: copy,
             parting,
-            number: greatest(numbers.as_slice()),
+            number: greatest,
             written: 0,
         };
         files.clear(rt, numbers.as_slice());
