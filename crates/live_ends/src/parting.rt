@@ -58,14 +58,19 @@ fn is_old(files: u64, number: u64, next: u64) -> bool
     number.saturating_add(files) <= next
 }
 
-// The number that an entry of a folder has behind this name, if it has one. A name that is no text is no capture's.
-fn number_in<R: Files + Alloc + Clone + Drop>(
+// Notes the number that an entry of a folder has behind this name, if it has one, and gives whether memory was there for it. A name that is
+// no text is no capture's.
+fn note_number<R: Files + Alloc + Clone + Drop>(
+    numbers: &mut Vec<u64>,
     name: &str,
     entry: io::Result<DirEntry<R, R::A>>,
-) -> Option<u64> {
+) -> bool {
     match entry {
-        Ok(entry) => number_behind(name.as_bytes(), entry.file_name().as_bytes()),
-        Err(_) => None,
+        Ok(entry) => match number_behind(name.as_bytes(), entry.file_name().as_bytes()) {
+            Some(number) => numbers.push(number).is_ok(),
+            None => true,
+        },
+        Err(_) => true,
     }
 }
 
@@ -82,9 +87,7 @@ fn numbers_of<R: Files + Alloc + Clone + Drop>(
     };
     let mut numbers = Vec::new(alloc);
     for entry in entries {
-        if let Some(number) = number_in(name, entry)
-            && numbers.push(number).is_err()
-        {
+        if !note_number(&mut numbers, name, entry) {
             return Err(ErrorKind::OutOfMemory);
         }
     }
