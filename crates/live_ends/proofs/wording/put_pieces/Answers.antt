@@ -1,4 +1,3 @@
-use Rattle.std.proofs.Common.{◌∙◌, ap, ◌++◌, List, ℕ}
 use Rattle.live_ends.specs.Wording.{piece_text}
 use Rattle.live_ends.proofs.PuttingLemmas.{put_one, put_each}
 use Rattle.live_ends.proofs.wording.put_pieces.Goals as goal
