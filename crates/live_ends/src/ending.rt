@@ -2,7 +2,9 @@
 ghost use Rattle.std.specs.Prelude.{◌≡◌, ◌≢◌, ◌++◌, Ok, Err, Some, None, OnOk, IfOk, IfErr, IfSome};
 ghost use Rattle.std.specs.Net.Grammar.{IsSocketV4Text};
 ghost use Rattle.bad_network.specs.Parts.{spoiling_of};
+ghost use Rattle.live_outlets.specs.Reasons.{reason_of};
 ghost use Rattle.live_outlets.specs.Written.{faults_in};
+ghost use Rattle.live_ends.specs.AddressWords.{word_text};
 ghost use Rattle.live_ends.specs.Ending.{status_of, is_asked, served_ending, bad_address_text, bad_network_text, refused_text};
 ghost use Rattle.live_ends.specs.Ending.{unbound_text, ending_text};
 
@@ -207,16 +209,16 @@ impl CommonEnding {
             CommonEnding::BadAddress { word } => put_bad_address(out, word),
             CommonEnding::BadNetwork { fault } => put_bad_network(out, fault),
             CommonEnding::Unreadable { kind } => {
-                put_refused(out, files.read_from, ": read fault", reason_of(kind))
+                put_refused(out, files.read_from, ": read fault", kind)
             }
             CommonEnding::Unwritable { kind } => {
-                put_refused(out, files.written_to, ": write fault", reason_of(kind))
+                put_refused(out, files.written_to, ": write fault", kind)
             }
             CommonEnding::Unbound {
                 word,
                 address,
                 kind,
-            } => put_unbound(alloc, out, word.text(), address, reason_of(kind)),
+            } => put_unbound(alloc, out, word, address, kind),
             CommonEnding::Clock => put_pieces(out, &["clock fault\n"]),
             CommonEnding::OutOfMemory => put_pieces(out, &["out of memory\n"]),
         }
@@ -264,31 +266,38 @@ fn put_bad_network(out: &mut Vec<u8>, fault: SpoilingFault) -> Result<(), OutOfM
     put_pieces(out, &["--network: ", wanted_by(fault), "\n"])
 }
 
-// The system refuses what this names, for a reason.
+// The system refuses what this names, by an error of this kind.
 fn put_refused<'t>(
     out: &mut Vec<u8>,
     name: &'t str,
     fault: &'t str,
-    reason: &'t str,
+    kind: ErrorKind,
 ) -> Result<(), OutOfMemory>
-    ensures { OnOk result (out.new.items ≡ out.old.items ++ refused_text name.now fault.now reason.now) }
+    ensures { OnOk result (out.new.items ≡ out.old.items ++ refused_text name.now fault.now (reason_of kind)) }
 {
-    put_pieces(out, &[name, fault, reason, "\n"])
+    put_pieces(out, &[name, fault, reason_of(kind), "\n"])
 }
 
-// No socket can be had at the address that this word asks for.
+// No socket can be had at the address that this word asks for, by an error of this kind.
 fn put_unbound(
     alloc: Global,
     out: &mut Vec<u8>,
-    word: &str,
+    word: AddressWord,
     address: SocketAddrV4,
-    reason: &str,
+    kind: ErrorKind,
 ) -> Result<(), OutOfMemory>
-    ensures { OnOk result (out.new.items ≡ out.old.items ++ unbound_text word.now address reason.now) }
+    ensures { OnOk result (out.new.items ≡ out.old.items ++ unbound_text (word_text word) address (reason_of kind)) }
 {
     let address = peer_text(alloc, address)?;
     put_pieces(
         out,
-        &[word, " ", address.as_str(), ": no socket", reason, "\n"],
+        &[
+            word.text(),
+            " ",
+            address.as_str(),
+            ": no socket",
+            reason_of(kind),
+            "\n",
+        ],
     )
 }
