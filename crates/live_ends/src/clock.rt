@@ -26,16 +26,23 @@ pub fn time_of_day<R: Clock>(rt: &R) -> Option<u64> {
 impl<'a, R: Clock> LiveClock<'a, R> {
     /// The clock at moment 0.
     pub fn start(rt: &'a R) -> io::Result<LiveClock<'a, R>> {
+        let start = match Instant::now(rt) {
+            Ok(start) => start,
+            Err(fault) => return Err(fault),
+        };
         Ok(LiveClock {
             rt,
-            start: Instant::now(rt)?,
+            start,
             opened: time_of_day(rt).unwrap_or(0),
         })
     }
 
     /// The clock begins anew, at moment 0.
     pub fn begin_anew(&mut self) -> io::Result<()> {
-        self.start = Instant::now(self.rt)?;
+        self.start = match Instant::now(self.rt) {
+            Ok(start) => start,
+            Err(fault) => return Err(fault),
+        };
         self.opened = time_of_day(self.rt).unwrap_or(0);
         Ok(())
     }
