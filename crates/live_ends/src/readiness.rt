@@ -51,6 +51,18 @@ pub struct Readiness {
     pub visits: [Visit; MOST_VISITORS],
 }
 
+// Watches a socket for datagrams, which the system names by this number from now on. An error is of the system's kind.
+fn watch_socket(poll: &Poll, socket: &mut UdpSocket, number: usize) -> Result<(), ErrorKind> {
+    match poll
+        .registry()
+        .register(socket, Token(number), Interest::READABLE)
+    {
+        Ok(()) => {}
+        Err(fault) => return Err(fault.kind()),
+    }
+    Ok(())
+}
+
 // What an event tells of a visitor's socket.
 fn note_visit(visit: &mut Visit, event: &Event) {
     visit.is_readable = visit.is_readable || event.is_readable() || event.is_read_closed();
@@ -85,19 +97,13 @@ impl Readiness {
             Ok(poll) => poll,
             Err(fault) => return Err(fault.kind()),
         };
-        match poll
-            .registry()
-            .register(socket, Token(SOCKET), Interest::READABLE)
-        {
+        match watch_socket(&poll, socket, SOCKET) {
             Ok(()) => {}
-            Err(fault) => return Err(fault.kind()),
+            Err(kind) => return Err(kind),
         }
-        match poll
-            .registry()
-            .register(commands, Token(COMMANDS), Interest::READABLE)
-        {
+        match watch_socket(&poll, commands, COMMANDS) {
             Ok(()) => {}
-            Err(fault) => return Err(fault.kind()),
+            Err(kind) => return Err(kind),
         }
         let ready = Readiness {
             poll,
