@@ -21,7 +21,6 @@ pub struct Parting {
 }
 
 /// The files of a capture that is parted.
-#[derive(Drop)]
 pub struct CaptureFiles {
     alloc: Global,
     // What their names begin with.
@@ -30,6 +29,20 @@ pub struct CaptureFiles {
     // The number of the file that is written, and how many bytes were put into it.
     number: u64,
     written: u64,
+}
+
+// Written out: a derived drop, and those of all its parts, are proved anew by each crate that lets one go.
+impl Drop for CaptureFiles {
+    fn drop(self) {
+        let CaptureFiles {
+            alloc: _,
+            name,
+            parting: _,
+            number: _,
+            written: _,
+        } = self;
+        drop(name);
+    }
 }
 
 // The folder of a file, and its name there.
