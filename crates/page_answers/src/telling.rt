@@ -2,11 +2,10 @@
 ghost use Rattle.std.specs.Prelude.{◌≡◌, ◌==◌, ◌&&◌, not, nat_lt, length, [], map, IfOk, OnOk, string_bytes};
 ghost use Rattle.std.specs.Net.Text.{socket_v4_text};
 ghost use Rattle.hex.specs.Hex.{encode_lower};
-ghost use Rattle.serde_json.specs.Data.{Members, string};
+ghost use Rattle.serde_json.specs.Data.{string};
 ghost use Rattle.serde_json.specs.View.{view};
 ghost use Rattle.page_board.specs.Keeping.{event_of};
-ghost use Rattle.page_answers.specs.Objects.{Holds};
-ghost use Rattle.page_answers.specs.Telling.{kind_word as word_of_kind, put_circumstances as with_circumstances, event_data, told_after, next_after, first_number, events_data, events_text as text_of_events};
+ghost use Rattle.page_answers.specs.Telling.{kind_word as word_of_kind, event_data, told_after, next_after, first_number, events_data, events_text as text_of_events};
 
 use crate::label::put_said;
 use crate::members::Object;
@@ -45,22 +44,15 @@ fn hex_value(alloc: Global, text: &[u8]) -> Result<Value, AllocError>
     Ok(Value::from(hex))
 }
 
-// When something happened, what it was, and with whom.
-fn put_circumstances(alloc: Global, object: &mut Object, happening: &Happening)
-    ensures { (was : Members) → Holds object.old was → Holds object.new (with_circumstances (event_of happening.now) was) }
-{
-    object.put_number("n", happening.number);
-    object.put_number("at", happening.moment);
-    object.put_text("kind", kind_word(happening.kind));
-    object.put_made("peer", peer_value(alloc, happening.peer));
-}
-
-// One that happened. Nothing of its text but hexadecimal digits is told, and what its messages are.
+// One that happened: when, what it was, and with whom. Nothing of its text but hexadecimal digits is told, and what its messages are.
 fn happening_value(alloc: Global, happening: &Happening) -> Result<Value, AllocError>
     ensures { IfOk result (λ value. view value ≡ event_data (event_of happening.now)) }
 {
     let mut object = Object::new(alloc);
-    put_circumstances(alloc, &mut object, happening);
+    object.put_number("n", happening.number);
+    object.put_number("at", happening.moment);
+    object.put_text("kind", kind_word(happening.kind));
+    object.put_made("peer", peer_value(alloc, happening.peer));
     object.put_made("hex", hex_value(alloc, happening.text.as_slice()));
     put_said(alloc, &mut object, happening.said.as_slice());
     object.end()
