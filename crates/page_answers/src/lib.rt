@@ -10,6 +10,7 @@ pub mod examples;
 mod label;
 mod laws;
 mod members;
+mod object_examples;
 mod state;
 mod telling;
 
