@@ -372,9 +372,17 @@ impl Reception for Site {
         names: HostNames,
         ready: &Readiness,
     ) -> io::Result<Site> {
-        let places = free_places(alloc)?;
-        let mut listener = TcpListener::bind(rt, SocketAddr::V4(address))?;
-        ready.watch_listener(&mut listener)?;
+        let Ok(places) = free_places(alloc) else {
+            return Err(io::Error::from(AllocError));
+        };
+        let mut listener = match TcpListener::bind(rt, SocketAddr::V4(address)) {
+            Ok(listener) => listener,
+            Err(fault) => return Err(fault),
+        };
+        match ready.watch_listener(&mut listener) {
+            Ok(()) => {}
+            Err(fault) => return Err(fault),
+        }
         let address = match listener.local_addr() {
             Ok(SocketAddr::V4(address)) => Some(address),
             Ok(_) | Err(_) => None,
