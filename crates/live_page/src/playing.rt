@@ -8,7 +8,7 @@ use http_server::{Config, Connection};
 use live_outlets::boxed;
 use page_access::HostNames;
 use page_board::Board;
-use std::alloc::Global;
+use std::alloc::{AllocError, Global};
 use std::hash::RandomState;
 use std::io;
 use std::net::SocketAddrV4;
@@ -48,8 +48,13 @@ pub fn answer_to(
 ) -> io::Result<Vec<u8>>
     ensures { AnswersBy site (names_of names.now) board.old board.new }
 {
-    let mut connection = boxed(alloc, Connection::new(alloc, keys, Config::default()))?;
+    let Ok(mut connection) = boxed(alloc, Connection::new(alloc, keys, Config::default())) else {
+        return Err(io::Error::from(AllocError));
+    };
     let mut desk = Desk::new(alloc, site, names, board);
-    answer(&mut connection, &mut desk, request)?;
+    match answer(&mut connection, &mut desk, request) {
+        Ok(()) => {}
+        Err(fault) => return Err(fault),
+    }
     answered(alloc, &mut connection)
 }
