@@ -19,7 +19,10 @@ fn answer(connection: &mut Connection, desk: &mut Desk<'_>, request: &[u8]) -> i
     ensures answered { AnswersBy desk.old.site (names_of desk.old.names.now) desk.old.board.now desk.new.board.now }
 {
     let mut reader = request;
-    connection.read_from(&mut reader)?;
+    match connection.read_from(&mut reader) {
+        Ok(_) => {}
+        Err(fault) => return Err(fault),
+    }
     connection.advance(desk);
     Ok(())
 }
@@ -31,7 +34,10 @@ fn answered(alloc: Global, connection: &mut Connection) -> io::Result<Vec<u8>> {
         if !connection.wants_write() {
             break;
         }
-        connection.write_to(&mut out)?;
+        match connection.write_to(&mut out) {
+            Ok(_) => {}
+            Err(fault) => return Err(fault),
+        }
     }
     Ok(out)
 }
