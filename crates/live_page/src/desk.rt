@@ -103,11 +103,15 @@ fn read(
         Route::Style => put_static(response, Content::Style, style_text()),
         Route::Script => put_static(response, Content::Script, script_text()),
         Route::State => {
-            let text = state_of(alloc, board)?;
+            let Ok(text) = state_of(alloc, board) else {
+                return Err(AllocError);
+            };
             put_json(response, text)
         }
         Route::Metrics => {
-            let text = board.metrics()?;
+            let Ok(text) = board.metrics() else {
+                return Err(AllocError);
+            };
             put_metrics(response, text)
         }
         Route::Health => {
@@ -119,7 +123,9 @@ fn read(
             put_wellness(response, is_serving, ready_text(is_serving))
         }
         Route::Events { after } => {
-            let text = events_of(alloc, board, after)?;
+            let Ok(text) = events_of(alloc, board, after) else {
+                return Err(AllocError);
+            };
             put_json(response, text)
         }
         Route::Phone | Route::Nothing => {
