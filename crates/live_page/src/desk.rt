@@ -2,7 +2,7 @@
 ghost use Rattle.std.specs.Prelude.{◌≡◌, ◌++◌, OnOk, OnErr, string_bytes};
 ghost use Rattle.http_server.specs.Response.{IsBlank, fields_of};
 ghost use Rattle.page_answers.specs.declared.answers.ActOutcome.{ActOutcome as Outcome};
-ghost use Rattle.live_page.specs.Statuses.{outcome_status, method_for, refusal_status, refusal_fields};
+ghost use Rattle.live_page.specs.Statuses.{outcome_status, refusal_status, refusal_fields};
 ghost use Rattle.live_page.specs.Fields.{kind_fields};
 ghost use Rattle.live_page.specs.declared.fields.Content.TheVariants as contents;
 ghost use Rattle.live_page.specs.Health.{well_status};
@@ -162,18 +162,7 @@ fn refusal(asked: Asked) -> StatusCode
     }
 }
 
-// The method that suits a path, at which something is done, or read.
-fn allowed(acts: bool) -> HeaderValue
-    ensures { result.bytes ≡ method_for acts }
-{
-    if acts {
-        HeaderValue::from_static("POST")
-    } else {
-        HeaderValue::from_static("GET")
-    }
-}
-
-// Says that a request gets nothing.
+// Says that a request gets nothing, and which method suits a path at which something is done, or read.
 fn put_refusal(response: &mut Response, asked: Asked) -> Result<(), AllocError>
     ensures status { response.new.status ≡ refusal_status asked }
     ensures body { response.new.body ≡ response.old.body }
@@ -181,7 +170,12 @@ fn put_refusal(response: &mut Response, asked: Asked) -> Result<(), AllocError>
 {
     response.status = refusal(asked);
     match asked {
-        Asked::Unsuited { acts } => response.add_header(header::ALLOW, allowed(acts)),
+        Asked::Unsuited { acts: true } => {
+            response.add_header(header::ALLOW, HeaderValue::from_static("POST"))
+        }
+        Asked::Unsuited { acts: false } => {
+            response.add_header(header::ALLOW, HeaderValue::from_static("GET"))
+        }
         Asked::Strange
         | Asked::Forbidden
         | Asked::Missing
