@@ -1,5 +1,5 @@
 //! Objects that are put together of their members.
-ghost use Rattle.std.specs.Prelude.{◌≡◌, codes, map, IfOk, OnOk, [], ◌∷◌, ◌++◌};
+ghost use Rattle.std.specs.Prelude.{◌≡◌, ℕ, List, codes, map, string_bytes, IfOk, OnOk, [], ◌∷◌, ◌++◌};
 ghost use Rattle.serde_json.specs.Data.{Data, Members, boolean, no_members, object as object_data, string, put as with_member};
 ghost use Rattle.serde_json.specs.View.{view};
 ghost use Rattle.page_answers.specs.Objects.{Holds};
@@ -59,24 +59,31 @@ impl Object {
         }
     }
 
+    /// Puts a member that is a text that was made, unless memory was refused for it.
+    pub(crate) fn put_string(&mut self, name: &str, made: Result<String, AllocError>)
+        ensures { (was : Members) (what : List ℕ) → Holds self.old was → IfOk made (λ text. string_bytes text ≡ what)
+            → Holds self.new (with_member name.now (string what) was) }
+    {
+        match made {
+            Ok(text) => self.put(name, Value::from(text)),
+            Err(_) => self.is_refused = true,
+        }
+    }
+
     /// Puts a member that is a text.
     pub(crate) fn put_text(&mut self, name: &str, text: &str)
         ensures { (was : Members) → Holds self.old was → Holds self.new (with_member name.now (string text.now) was) }
     {
-        match String::from_str(self.alloc, text) {
-            Ok(text) => self.put(name, Value::from(text)),
-            Err(_) => self.is_refused = true,
-        }
+        let made = String::from_str(self.alloc, text);
+        self.put_string(name, made);
     }
 
     /// Puts a member that is a name, which is text where it is ASCII.
     pub(crate) fn put_name(&mut self, key: &str, name: &[u8])
         ensures { (was : Members) → Holds self.old was → Holds self.new (with_member key.now (name_data name.now) was) }
     {
-        match String::from_utf8_lossy(self.alloc, name) {
-            Ok(text) => self.put(key, Value::from(text)),
-            Err(_) => self.is_refused = true,
-        }
+        let made = String::from_utf8_lossy(self.alloc, name);
+        self.put_string(key, made);
     }
 
     /// Puts a member that is a number.
