@@ -5,7 +5,6 @@ ghost use Rattle.gateway_checks.specs.Sending.{sign_at, stands_for, bytes_behind
 use mg_bytes::{Draft, OutOfMemory};
 
 // A sign.
-#[derive(Clone, Copy)]
 enum Sign {
     // ` / `
     LineEnd,
