@@ -9,7 +9,6 @@ use http_server::Response;
 use std::alloc::AllocError;
 
 /// What an answer has.
-#[derive(Clone, Copy)]
 pub(crate) enum Content {
     Page,
     Style,
