@@ -13,9 +13,7 @@ use std::alloc::{AllocError, Global};
 /// Puts what it says, and with which status it ends: it runs.
 pub fn put_said(said: Said, story: &Story, given: &mut Transcript) -> Result<bool, OutOfMemory> {
     let Said { ending, text } = said;
-    let Ok(text) = text else {
-        return Err(AllocError);
-    };
+    let text = text?;
     // Played again by who refused memory.
     match &ending {
         Ending::Common(CommonEnding::OutOfMemory) | Ending::OfCheck(CommonEnding::OutOfMemory) => {
