@@ -209,10 +209,10 @@ impl CommonEnding {
             CommonEnding::BadAddress { word } => put_bad_address(out, word),
             CommonEnding::BadNetwork { fault } => put_bad_network(out, fault),
             CommonEnding::Unreadable { kind } => {
-                put_refused(out, files.read_from, ": read fault", kind)
+                put_refused(out, files.read_from, ": read fault", reason_of(kind))
             }
             CommonEnding::Unwritable { kind } => {
-                put_refused(out, files.written_to, ": write fault", kind)
+                put_refused(out, files.written_to, ": write fault", reason_of(kind))
             }
             CommonEnding::Unbound {
                 word,
@@ -266,16 +266,16 @@ fn put_bad_network(out: &mut Vec<u8>, fault: SpoilingFault) -> Result<(), OutOfM
     put_pieces(out, &["--network: ", wanted_by(fault), "\n"])
 }
 
-// The system refuses what this names, by an error of this kind.
+// The system refuses what this names, for a reason.
 fn put_refused<'t>(
     out: &mut Vec<u8>,
     name: &'t str,
     fault: &'t str,
-    kind: ErrorKind,
+    reason: &'t str,
 ) -> Result<(), OutOfMemory>
-    ensures { OnOk result (out.new.items ≡ out.old.items ++ refused_text name.now fault.now (reason_of kind)) }
+    ensures { OnOk result (out.new.items ≡ out.old.items ++ refused_text name.now fault.now reason.now) }
 {
-    put_pieces(out, &[name, fault, reason_of(kind), "\n"])
+    put_pieces(out, &[name, fault, reason, "\n"])
 }
 
 // No socket can be had at the address that this word asks for, by an error of this kind.
