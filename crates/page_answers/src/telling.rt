@@ -1,8 +1,5 @@
 //! What happened, as JSON. What came from outside goes in hexadecimal digits alone.
 ghost use Rattle.std.specs.Prelude.{◌≡◌, ◌==◌, ◌&&◌, not, nat_lt, length, [], map, IfOk, OnOk, string_bytes};
-ghost use Rattle.std.specs.Net.Text.{socket_v4_text};
-ghost use Rattle.hex.specs.Hex.{encode_lower};
-ghost use Rattle.serde_json.specs.Data.{string};
 ghost use Rattle.serde_json.specs.View.{view};
 ghost use Rattle.page_board.specs.Keeping.{event_of};
 ghost use Rattle.page_answers.specs.Telling.{kind_word as word_of_kind, event_data, told_after, next_after, first_number, events_data, events_text as text_of_events};
@@ -12,7 +9,6 @@ use crate::members::Object;
 use page_board::{Happening, Kind, Ring};
 use serde_json::Value;
 use std::alloc::{AllocError, Global};
-use std::net::SocketAddrV4;
 
 // So many are told at once.
 const MOST_TOLD: usize = 128;
@@ -29,21 +25,6 @@ fn kind_word(kind: Kind) -> &'static str
     }
 }
 
-fn peer_value(alloc: Global, peer: SocketAddrV4) -> Result<Value, AllocError>
-    ensures { IfOk result (λ value. view value ≡ string (socket_v4_text peer)) }
-{
-    let text = peer.to_string(alloc)?;
-    Ok(Value::from(text))
-}
-
-// The text in hexadecimal digits.
-fn hex_value(alloc: Global, text: &[u8]) -> Result<Value, AllocError>
-    ensures { IfOk result (λ value. view value ≡ string (encode_lower text.now)) }
-{
-    let hex = hex::encode(alloc, text)?;
-    Ok(Value::from(hex))
-}
-
 // One that happened: when, what it was, and with whom. Nothing of its text but hexadecimal digits is told, and what its messages are.
 fn happening_value(alloc: Global, happening: &Happening) -> Result<Value, AllocError>
     ensures { IfOk result (λ value. view value ≡ event_data (event_of happening.now)) }
@@ -52,8 +33,8 @@ fn happening_value(alloc: Global, happening: &Happening) -> Result<Value, AllocE
     object.put_number("n", happening.number);
     object.put_number("at", happening.moment);
     object.put_text("kind", kind_word(happening.kind));
-    object.put_made("peer", peer_value(alloc, happening.peer));
-    object.put_made("hex", hex_value(alloc, happening.text.as_slice()));
+    object.put_string("peer", happening.peer.to_string(alloc));
+    object.put_string("hex", hex::encode(alloc, happening.text.as_slice()));
     put_said(alloc, &mut object, happening.said.as_slice());
     object.end()
 }
