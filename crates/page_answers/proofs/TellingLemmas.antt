@@ -1,5 +1,5 @@
 -- What is told of what happened, as it is gone through from the oldest.
-use Rattle.std.proofs.Common.{◌≡◌, ℕ, suc, ◌+◌, ◌-◌, ◌<◌, ◌≤◌, refl, codes, List, [], ◌∷◌, ◌++◌, length, map, nat_lt, Bool, true, false, Option, Some, None, append_assoc, length-append, arith, rules}
+use Rattle.std.proofs.Common.{◌≡◌, ℕ, suc, ◌+◌, ◌-◌, ◌<◌, ◌≤◌, refl, codes, List, [], ◌∷◌, ◌++◌, length, map, nat_lt, subst, Bool, true, false, Option, Some, None, append_assoc, length-append, arith, rules}
 use Rattle.std.specs.Prelude.{◌==◌, not}
 use Rattle.std.proofs.lemmas.List.{map-append}
 use Rattle.std.proofs.lemmas.Bool.Decides.{nat_tests}
@@ -7,7 +7,7 @@ use Rattle.serde_json.specs.declared.value.Value.{Value}
 use Rattle.hex.specs.Hex.{encode_lower}
 use Rattle.serde_json.specs.Data.{Data, array, boolean, string, object, no_members, put}
 use Rattle.serde_json.specs.View.{view, items_of}
-use Rattle.serde_json.specs.Written.{has_float, items_have_float, compact_text}
+use Rattle.serde_json.specs.Written.{has_float, items_have_float, compact_text, IsInOrder}
 use Rattle.page_board.specs.declared.label.MessageLabel.{MessageLabel}
 use Rattle.page_board.specs.Keeping.{Event, RingState}
 use Rattle.page_answers.specs.Labelling.{label_data, with_said}
@@ -106,3 +106,7 @@ events_whole ring after version clock = rw (items_whole _) refl
 pub told_whole : (value told : Data) (text : List ℕ) → value ≡ told → has_float told ≡ false
     → (has_float value ≡ false → text ≡ compact_text value) → text ≡ compact_text told
 told_whole value told text e whole says = rw (← e) (says (rw e whole))
+
+-- whatever the order of its members, a text tells what was to be told
+pub told_in_order : (text : List ℕ) (value told : Data) → IsInOrder text value → value ≡ told → IsInOrder text told
+told_in_order text value told says e = subst (IsInOrder text) e says

@@ -3,8 +3,7 @@ ghost use Rattle.std.specs.Prelude.{◌≡◌, map, fold, IfOk, OnOk, string_byt
 ghost use Rattle.serde_json.specs.Data.{Members, array, no_members, object as object_data};
 ghost use Rattle.serde_json.specs.View.{view, members_view, items_of};
 ghost use Rattle.page_answers.specs.Objects.{Holds};
-ghost use Rattle.page_answers.specs.Texts.{state_data, TellsState, signal_data, connection_data, hook_word, line_data, lines_data, with_verb, with_code, given_up_in, put_counted, counts_data};
-ghost use Rattle.gateway_metrics.specs.Totals.{totals_of};
+ghost use Rattle.page_answers.specs.Texts.{TellsState, signal_data, connection_data, hook_word, line_data, lines_data, with_verb, with_code, given_up_in, put_counted, counts_data};
 
 use crate::members::{Object, put_item};
 use gateway_metrics::{
@@ -163,10 +162,10 @@ fn counts_value(alloc: Global, counts: &Counts) -> Result<Value, AllocError>
     object.end()
 }
 
-fn state_value(alloc: Global, picture: &Picture, version: u64) -> Result<Value, AllocError>
-    ensures { IfOk result (λ value. view value ≡ state_data version picture.now.clock picture.now.first
-        picture.now.is_serving picture.now.unanswered_since (totals_of picture.now.lines.items).lost
-        (lines_data picture.now.lines.items) (counts_data picture.now.counts)) }
+/// What the gateway is: its clock in ms, the number with which its ids began, whether it serves (RFC 3435, 4.4.6), whether its agent
+/// answers, its lines from the first, and what was counted. `version` says which state is shown.
+pub fn state_text(alloc: Global, picture: &Picture, version: u64) -> Result<String, AllocError>
+    ensures { IfOk result (λ text. TellsState picture.now version (string_bytes text)) }
 {
     let mut object = Object::new(alloc);
     object.put_shown(version, picture.clock, u64::from(picture.first));
@@ -176,14 +175,6 @@ fn state_value(alloc: Global, picture: &Picture, version: u64) -> Result<Value, 
     object.put_number("lost", picture.totals().lost);
     object.put_made("lines", lines_value(alloc, picture.lines.as_slice()));
     object.put_made("counts", counts_value(alloc, &picture.counts));
-    object.end()
-}
-
-/// What the gateway is: its clock in ms, the number with which its ids began, whether it serves (RFC 3435, 4.4.6), whether its agent
-/// answers, its lines from the first, and what was counted. `version` says which state is shown.
-pub fn state_text(alloc: Global, picture: &Picture, version: u64) -> Result<String, AllocError>
-    ensures { IfOk result (λ text. TellsState picture.now version (string_bytes text)) }
-{
-    let value = state_value(alloc, picture, version)?;
+    let value = object.end()?;
     value.to_string(alloc)
 }
