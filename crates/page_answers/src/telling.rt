@@ -2,7 +2,7 @@
 ghost use Rattle.std.specs.Prelude.{◌≡◌, ◌==◌, ◌&&◌, not, nat_lt, length, [], map, IfOk, OnOk, string_bytes};
 ghost use Rattle.serde_json.specs.View.{view};
 ghost use Rattle.page_board.specs.Keeping.{event_of};
-ghost use Rattle.page_answers.specs.Telling.{kind_word as word_of_kind, event_data, told_after, next_after, first_number, events_data, events_text as text_of_events};
+ghost use Rattle.page_answers.specs.Telling.{kind_word as word_of_kind, event_data, told_after, next_after, first_number, events_text as text_of_events};
 
 use crate::label::put_said;
 use crate::members::Object;
@@ -77,26 +77,6 @@ fn has_more(ring: &Ring, told: &[Value], last: u64) -> bool
     last < ring.last() && !told.is_empty()
 }
 
-fn events_value(
-    alloc: Global,
-    ring: &Ring,
-    after: u64,
-    version: u64,
-    clock: u64,
-) -> Result<Value, AllocError>
-    ensures { IfOk result (λ value. view value ≡ events_data ring.now after version clock) }
-{
-    let mut list = Vec::new(alloc);
-    let next = put_told(alloc, &mut list, ring, after)?;
-    let more = has_more(ring, list.as_slice(), next);
-    let mut object = Object::new(alloc);
-    object.put_shown(version, clock, first_of(ring));
-    object.put("events", Value::from(list));
-    object.put_number("next", next);
-    object.put_truth("more", more);
-    object.end()
-}
-
 /// What happened after a number, oldest first: at most 128, and where to go on. `version` says which state is shown, `clock` is
 /// the gateway's, in ms.
 pub fn events_text(
@@ -108,6 +88,14 @@ pub fn events_text(
 ) -> Result<String, AllocError>
     ensures { IfOk result (λ text. string_bytes text ≡ text_of_events ring.now after version clock) }
 {
-    let value = events_value(alloc, ring, after, version, clock)?;
+    let mut list = Vec::new(alloc);
+    let next = put_told(alloc, &mut list, ring, after)?;
+    let more = has_more(ring, list.as_slice(), next);
+    let mut object = Object::new(alloc);
+    object.put_shown(version, clock, first_of(ring));
+    object.put("events", Value::from(list));
+    object.put_number("next", next);
+    object.put_truth("more", more);
+    let value = object.end()?;
     value.to_string(alloc)
 }
