@@ -3,7 +3,7 @@ ghost use Rattle.std.specs.Prelude.{◌≡◌, ◌<◌, ◌∷◌, [], length, m
 ghost use Rattle.gateway_checks.specs.declared.checks.TheConstants.{CHECKS};
 ghost use Rattle.gateway_checks.specs.declared.notices.TheConstants.{NOTICES, TELEPHONES};
 ghost use Rattle.gateway_checks.specs.Parting.{holds, parted};
-ghost use Rattle.gateway_checks.specs.Checks.{written, undo_meant, check_by, check_in, checks_in, check_texts, named_among, check_named};
+ghost use Rattle.gateway_checks.specs.Checks.{written, undo_meant, check_in, checks_in, check_texts, named_among, check_named};
 ghost use Rattle.gateway_checks.specs.Checks.{is_open, is_slow, needs_other_line, hears, announces, needs_telephone, needs_restart};
 
 use crate::checks::{CHECKS, UNDO_BOTH, UNDO_CALL, UNDO_REQUEST, UNDO_TELEPHONE};
@@ -49,10 +49,12 @@ fn undo_of(written: &str) -> &str
     }
 }
 
-// The check with this head, whose steps, and what undoes them, are these lines.
-fn check_by<'a>(head: &'a str, lines: &'a str) -> Check<'a>
-    ensures { written result ≡ check_by head.now lines.now }
+/// The check that a block of text is: its head, and its lines, which are its steps, and what undoes them.
+#[tactic(auto, unfolding(crate::specs::Checks::check_in))]
+pub fn check_of(block: &str) -> Check<'_>
+    ensures { written result ≡ check_in block.now }
 {
+    let (head, lines) = parted(block.trim_end(), "\n");
     let (name, ruled) = parted(head, " | ");
     let (sections, rule) = parted(ruled, " | ");
     let (steps, undo) = parted(lines, "\nundo");
@@ -63,15 +65,6 @@ fn check_by<'a>(head: &'a str, lines: &'a str) -> Check<'a>
         steps,
         undo: undo_of(undo.trim()),
     }
-}
-
-/// The check that a block of text is: its head, and its lines.
-#[tactic(auto, unfolding(crate::specs::Checks::check_in))]
-pub fn check_of(block: &str) -> Check<'_>
-    ensures { written result ≡ check_in block.now }
-{
-    let (head, lines) = parted(block.trim_end(), "\n");
-    check_by(head, lines)
 }
 
 /// The first check of a text, where there is one, and what stands behind the sign that begins it: what has the others.
