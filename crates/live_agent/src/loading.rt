@@ -247,6 +247,23 @@ fn end_and_report<S: Surroundings>(
     }
 }
 
+// So it is over a load.
+fn end_in<S: Surroundings>(
+    alloc: Global,
+    around: &mut S,
+    load: &mut Load,
+    now: u64,
+    out: &mut Vec<u8>,
+    file: &str,
+    agent: &str,
+) -> LoadEnding
+    ensures ending { result ≡ load_ending load.new.bench.value }
+    ensures says { SaysAndReports S.answers now around.old around.new load.old.bench.value load.new.bench.value }
+    ensures room { KeepsRoom load.old load.new }
+{
+    end_and_report(alloc, around, &mut *load.bench, now, out, file, agent)
+}
+
 impl<S: Surroundings + Drop> Wire<S> {
     /// The moment at which something is to be done though nothing comes, in ms, where it is now this one.
     pub(crate) fn due(&self, moment: u64) -> Option<u64>
@@ -300,9 +317,7 @@ impl<S: Surroundings + Drop> Wire<S> {
         };
         let now = milliseconds(self.now.time);
         let out = &mut self.journal.told.out;
-        let made = &mut **load;
-        let bench = &mut *made.bench;
-        end_and_report(alloc, &mut self.around, bench, now, out, file, agent)
+        end_in(alloc, &mut self.around, &mut **load, now, out, file, agent)
     }
 }
 
