@@ -159,6 +159,21 @@ fn pass<S: Surroundings>(
     bench.is_over(moment)
 }
 
+// So it is over a load.
+fn pass_in<S: Surroundings>(
+    alloc: Global,
+    around: &mut S,
+    load: &mut Load,
+    out: &mut Vec<u8>,
+    moment: u64,
+) -> bool
+    ensures over { result ≡ bench_over moment load.new.bench.value }
+    ensures says { SaysPassed S.answers moment around.old around.new load.old.bench.value load.new.bench.value }
+    ensures room { KeepsRoom load.old load.new }
+{
+    pass(alloc, around, &mut *load.bench, out, moment)
+}
+
 // What came of a look at what telephones say: whether they said anything, and whether the load is over then.
 #[derive(Clone, Copy)]
 struct Look {
@@ -284,9 +299,7 @@ impl<S: Surroundings + Drop> Wire<S> {
             return;
         };
         let out = &mut self.journal.log.out;
-        let made = &mut **load;
-        let bench = &mut *made.bench;
-        let is_over = pass(alloc, &mut self.around, bench, out, moment);
+        let is_over = pass_in(alloc, &mut self.around, &mut **load, out, moment);
         self.end = end_of(is_over, self.end);
     }
 
