@@ -59,6 +59,22 @@ fn milliseconds(time: u64) -> u64
     time / MICROSECONDS
 }
 
+// That a datagram is sent, for the first time or again, at this moment, in ms, counts for a load.
+fn count_sent_in(load: &mut Load, to: SocketAddrV4, bytes: &[u8], is_repeat: bool, now: u64)
+    ensures counts { CountsSent to bytes.now is_repeat now load.old.bench.value load.new.bench.value }
+    ensures room { KeepsRoom load.old load.new }
+{
+    load.bench.sent(to, bytes, is_repeat, now);
+}
+
+// So does that one came.
+fn count_came_in(load: &mut Load, source: SocketAddrV4, bytes: &[u8], now: u64)
+    ensures counts { CountsCame source bytes.now now load.old.bench.value load.new.bench.value }
+    ensures room { KeepsRoom load.old load.new }
+{
+    load.bench.came(source, bytes, now);
+}
+
 /// A datagram is sent at this time, in microseconds, for the first time or again: that is counted, where a load is made.
 pub(crate) fn count_sent(
     load: &mut Option<Box<Load>>,
@@ -74,9 +90,7 @@ pub(crate) fn count_sent(
         return;
     };
     let now = milliseconds(time);
-    let made = &mut **load;
-    let bench = &mut *made.bench;
-    bench.sent(to, bytes, is_repeat, now);
+    count_sent_in(&mut **load, to, bytes, is_repeat, now);
 }
 
 /// A datagram came at this time, in microseconds: that is counted, where a load is made.
@@ -93,9 +107,7 @@ pub(crate) fn count_came(
         return;
     };
     let now = milliseconds(time);
-    let made = &mut **load;
-    let bench = &mut *made.bench;
-    bench.came(source, bytes, now);
+    count_came_in(&mut **load, source, bytes, now);
 }
 
 // This is said to the telephones for which it is: whether memory was there for its text.
