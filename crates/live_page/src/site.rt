@@ -5,7 +5,7 @@ ghost use Rattle.page_access.specs.Naming.{names_of};
 ghost use Rattle.page_access.specs.Places.{place_for};
 ghost use Rattle.live_page.specs.Receiving.{host_of, seat_in, visitor_in, noted_in, noted_each, with_place};
 ghost use Rattle.live_page.specs.Receiving.{SeatsAt, LetsIn, ServesPlace, ServesNext};
-ghost use Rattle.live_page.specs.Waiting.{deadline_of, sooner, soonest_from, is_late, stays_at, has_more, is_behind, turn_from, next_turn};
+ghost use Rattle.live_page.specs.Waiting.{sooner, soonest_from, is_late, stays_at, has_more, is_behind, turn_from, next_turn};
 
 use crate::desk::Desk;
 use crate::reception::Reception;
@@ -74,15 +74,6 @@ fn host_of(source: SocketAddr) -> Ipv4Addr
     }
 }
 
-fn deadline_of(place: &Option<Box<Visitor>>) -> Option<u64>
-    ensures { result ≡ deadline_of place.now }
-{
-    match place {
-        Some(visitor) => Some(visitor.deadline),
-        None => None,
-    }
-}
-
 // Of two moments the earlier one, where there are two.
 fn sooner(next: Option<u64>, deadline: Option<u64>) -> Option<u64>
     ensures { result ≡ sooner next deadline }
@@ -101,7 +92,9 @@ fn soonest(places: &[Option<Box<Visitor>>]) -> Option<u64>
 {
     let mut next = None;
     for place in places {
-        next = sooner(next, deadline_of(place));
+        if let Some(visitor) = place {
+            next = sooner(next, Some(visitor.deadline));
+        }
     }
     next
 }
