@@ -5,7 +5,7 @@ ghost use Rattle.page_access.specs.Naming.{names_of};
 ghost use Rattle.page_access.specs.Places.{place_for};
 ghost use Rattle.live_page.specs.Receiving.{host_of, seat_in, visitor_in, noted_in, noted_each, with_place};
 ghost use Rattle.live_page.specs.Receiving.{SeatsAt, LetsIn, ServesPlace, ServesNext};
-ghost use Rattle.live_page.specs.Waiting.{sooner, soonest_from, is_late, stays_at, has_more, is_behind, turn_from, next_turn};
+ghost use Rattle.live_page.specs.Waiting.{sooner, soonest_from, is_late, stays_at, is_behind, turn_from, next_turn};
 
 use crate::desk::Desk;
 use crate::reception::Reception;
@@ -109,16 +109,6 @@ fn is_late(place: &Option<Box<Visitor>>, now: u64) -> bool
     }
 }
 
-// Whether whoever has the place has more to do at once.
-fn has_more(place: &Option<Box<Visitor>>) -> bool
-    ensures { result ≡ has_more place.now }
-{
-    match place {
-        Some(visitor) => visitor.has_turn,
-        None => false,
-    }
-}
-
 fn is_behind(last: Option<usize>, place: usize) -> bool
     ensures { result ≡ is_behind last place }
 {
@@ -134,7 +124,10 @@ fn turn_behind(places: &[Option<Box<Visitor>>], last: Option<usize>) -> Option<u
     ensures { result ≡ turn_from last 0 places.now }
 {
     for (place, held) in places.iter().enumerate() {
-        if is_behind(last, place) && has_more(held) {
+        if is_behind(last, place)
+            && let Some(visitor) = held
+            && visitor.has_turn
+        {
             return Some(place);
         }
     }
