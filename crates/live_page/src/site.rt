@@ -5,7 +5,7 @@ ghost use Rattle.page_access.specs.Naming.{names_of};
 ghost use Rattle.page_access.specs.Places.{place_for};
 ghost use Rattle.live_page.specs.Receiving.{host_of, seat_in, visitor_in, noted_in, noted_each, with_place};
 ghost use Rattle.live_page.specs.Receiving.{SeatsAt, LetsIn, ServesPlace, ServesNext};
-ghost use Rattle.live_page.specs.Waiting.{sooner, soonest_from, is_late, stays_at, is_behind, turn_from, next_turn};
+ghost use Rattle.live_page.specs.Waiting.{sooner, is_late, stays_at, is_behind, turn_from, next_turn};
 
 use crate::desk::Desk;
 use crate::reception::Reception;
@@ -83,20 +83,6 @@ fn sooner(next: Option<u64>, deadline: Option<u64>) -> Option<u64>
         (None, Some(deadline)) => Some(deadline),
         (Some(next), Some(deadline)) => Some(next.min(deadline)),
     }
-}
-
-// The first moment at which somebody's time is over.
-#[tactic(auto, unfolding(crate::specs::Waiting::soonest_from))]
-fn soonest(places: &[Option<Box<Visitor>>]) -> Option<u64>
-    ensures { result ≡ soonest_from None places.now }
-{
-    let mut next = None;
-    for place in places {
-        if let Some(visitor) = place {
-            next = sooner(next, Some(visitor.deadline));
-        }
-    }
-    next
 }
 
 // Whether the time is over of whoever has the place.
@@ -392,8 +378,15 @@ impl Reception for Site {
         self.may_accept || self.next_place().is_some()
     }
 
+    #[tactic(auto, unfolding(crate::specs::Waiting::soonest_from))]
     fn next_deadline(&self) -> Option<u64> {
-        soonest(self.places.as_slice())
+        let mut next = None;
+        for held in self.places.as_slice() {
+            if let Some(visitor) = held {
+                next = sooner(next, Some(visitor.deadline));
+            }
+        }
+        next
     }
 
     fn serve<R: RandomSource>(
