@@ -1,7 +1,7 @@
 //! The fields that answers go with.
 ghost use Rattle.std.specs.Prelude.{◌≡◌, ◌++◌, OnOk};
 ghost use Rattle.http_server.specs.Response.{fields_of};
-ghost use Rattle.live_page.specs.Fields.{kind_of, policy, kept_fields, guard_fields, kind_fields};
+ghost use Rattle.live_page.specs.Fields.{kind_of, policy, kept_fields, kind_fields};
 
 use bytes::Bytes;
 use http::{HeaderValue, header};
@@ -56,28 +56,19 @@ fn put_kept(response: &mut Response, content: Content) -> Result<(), AllocError>
     )
 }
 
-// Puts what a browser may make of it: it shows it in no other's frame, and tells nobody of it.
-fn put_guards(response: &mut Response) -> Result<(), AllocError>
-    ensures status { response.new.status ≡ response.old.status }
-    ensures body { response.new.body ≡ response.old.body }
-    ensures fields { OnOk result (fields_of response.new ≡ fields_of response.old ++ guard_fields) }
-{
-    response.add_header(header::X_FRAME_OPTIONS, HeaderValue::from_static("DENY"))?;
-    response.add_header(
-        header::REFERRER_POLICY,
-        HeaderValue::from_static("no-referrer"),
-    )?;
-    response.add_header(header::CONTENT_SECURITY_POLICY, policy())
-}
-
-/// Puts what this kind of content goes with: no browser keeps it, guesses another kind, or shows it in another's frame.
+/// Puts what this kind of content goes with: no browser keeps it, guesses another kind, shows it in another's frame, or tells of it.
 pub(crate) fn put_kind(response: &mut Response, content: Content) -> Result<(), AllocError>
     ensures status { response.new.status ≡ response.old.status }
     ensures body { response.new.body ≡ response.old.body }
     ensures fields { OnOk result (fields_of response.new ≡ fields_of response.old ++ kind_fields content) }
 {
     put_kept(response, content)?;
-    put_guards(response)
+    response.add_header(header::X_FRAME_OPTIONS, HeaderValue::from_static("DENY"))?;
+    response.add_header(
+        header::REFERRER_POLICY,
+        HeaderValue::from_static("no-referrer"),
+    )?;
+    response.add_header(header::CONTENT_SECURITY_POLICY, policy())
 }
 
 /// Puts a body behind what there is.
