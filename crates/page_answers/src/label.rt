@@ -1,11 +1,11 @@
 //! What a gateway tells of a message, as JSON.
-ghost use Rattle.std.specs.Prelude.{◌≡◌, map, IfOk};
-ghost use Rattle.serde_json.specs.Data.{Members, array};
-ghost use Rattle.serde_json.specs.View.{view, items_of};
-ghost use Rattle.page_answers.specs.Labelling.{message_word as word_of_message, label_data, with_said};
+ghost use Rattle.std.specs.Prelude.{◌≡◌};
+ghost use Rattle.serde_json.specs.Data.{Members};
+ghost use Rattle.page_answers.specs.Labelling.{message_word as word_of_message, with_said};
 ghost use Rattle.page_answers.specs.Objects.{Holds};
 
-use crate::members::{Object, put_item};
+use crate::members::Object;
+use crate::told::{Told, list_value};
 use page_board::{MessageKind, MessageLabel};
 use serde_json::Value;
 use std::alloc::{AllocError, Global};
@@ -30,26 +30,20 @@ fn message_word(kind: MessageKind) -> &'static str
     }
 }
 
-fn label_value(alloc: Global, label: MessageLabel) -> Result<Value, AllocError>
-    ensures { IfOk result (λ value. view value ≡ label_data label) }
-{
-    let mut object = Object::new(alloc);
-    object.put_text("what", message_word(label.kind));
-    object.put_maybe("line", label.line);
-    object.put_maybe("id", label.id);
-    object.put_maybe("code", label.code);
-    object.put_maybe("send", label.send);
-    object.end()
-}
+impl Told for MessageLabel {
+    ghost use Rattle.page_answers.specs.Labelling.{label_data};
 
-fn labels_value(alloc: Global, labels: &[MessageLabel]) -> Result<Value, AllocError>
-    ensures { IfOk result (λ value. view value ≡ array (items_of (map label_data labels.now))) }
-{
-    let mut list = Vec::new(alloc);
-    for label in labels {
-        put_item(&mut list, label_value(alloc, *label))?;
+    ghost told = { label_data };
+
+    fn value(&self, alloc: Global) -> Result<Value, AllocError> {
+        let mut object = Object::new(alloc);
+        object.put_text("what", message_word(self.kind));
+        object.put_maybe("line", self.line);
+        object.put_maybe("id", self.id);
+        object.put_maybe("code", self.code);
+        object.put_maybe("send", self.send);
+        object.end()
     }
-    Ok(Value::from(list))
 }
 
 /// Puts what is told of messages, where something is.
@@ -58,6 +52,6 @@ pub(crate) fn put_said(alloc: Global, object: &mut Object, said: &[MessageLabel]
 {
     match said {
         [] => {}
-        [_, ..] => object.put_made("said", labels_value(alloc, said)),
+        [_, ..] => object.put_made("said", list_value(alloc, said)),
     }
 }

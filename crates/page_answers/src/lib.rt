@@ -13,6 +13,7 @@ mod members;
 mod object_examples;
 mod state;
 mod telling;
+mod told;
 
 pub use crate::acting::read_act;
 pub use crate::answers::{ActOutcome, act_on, events_of, state_of};

@@ -1,5 +1,5 @@
 //! Objects that are put together of their members.
-ghost use Rattle.std.specs.Prelude.{◌≡◌, ℕ, List, codes, map, string_bytes, IfOk, OnOk, [], ◌∷◌, ◌++◌};
+ghost use Rattle.std.specs.Prelude.{◌≡◌, ℕ, List, codes, string_bytes, IfOk};
 ghost use Rattle.serde_json.specs.Data.{Data, Members, boolean, no_members, object as object_data, string, put as with_member};
 ghost use Rattle.serde_json.specs.View.{view};
 ghost use Rattle.page_answers.specs.Objects.{Holds};
@@ -131,16 +131,4 @@ impl Object {
         }
         Ok(Value::from(map))
     }
-}
-
-/// Puts a value that was made behind the others of a list, unless memory was refused for it.
-pub(crate) fn put_item(
-    list: &mut Vec<Value>,
-    made: Result<Value, AllocError>,
-) -> Result<(), AllocError>
-    ensures { (what : Data) → IfOk made (λ value. view value ≡ what)
-        → OnOk result (map view list.new.items ≡ map view list.old.items ++ what ∷ []) }
-{
-    list.push(made?)?;
-    Ok(())
 }

@@ -1,11 +1,12 @@
 //! What the gateway is, as JSON.
-ghost use Rattle.std.specs.Prelude.{◌≡◌, map, fold, IfOk, OnOk, string_bytes};
-ghost use Rattle.serde_json.specs.Data.{Members, array, no_members, object as object_data};
-ghost use Rattle.serde_json.specs.View.{view, members_view, items_of};
+ghost use Rattle.std.specs.Prelude.{◌≡◌, fold, IfOk, OnOk, string_bytes};
+ghost use Rattle.serde_json.specs.Data.{Members, no_members, object as object_data};
+ghost use Rattle.serde_json.specs.View.{view, members_view};
 ghost use Rattle.page_answers.specs.Objects.{Holds};
-ghost use Rattle.page_answers.specs.Texts.{TellsState, signal_data, connection_data, hook_word, line_data, lines_data, with_verb, with_code, given_up_in, put_counted, counts_data};
+ghost use Rattle.page_answers.specs.Texts.{TellsState, hook_word, with_verb, with_code, given_up_in, put_counted, counts_data};
 
-use crate::members::{Object, put_item};
+use crate::members::Object;
+use crate::told::{Told, list_value};
 use gateway_metrics::{
     CodeCount, ConnectionView, Counts, LineView, Picture, SignalView, VerbCount, code_digits,
     verb_word,
@@ -13,47 +14,35 @@ use gateway_metrics::{
 use serde_json::{Map, Value, put};
 use std::alloc::{AllocError, Global};
 
-fn signal_value(alloc: Global, signal: SignalView) -> Result<Value, AllocError>
-    ensures { IfOk result (λ value. view value ≡ signal_data signal) }
-{
-    let mut object = Object::new(alloc);
-    object.put_name("name", signal.name);
-    object.put_maybe("end", signal.end);
-    object.end()
-}
+impl Told for SignalView {
+    ghost use Rattle.page_answers.specs.Texts.{signal_data};
 
-fn connection_value(alloc: Global, connection: &ConnectionView) -> Result<Value, AllocError>
-    ensures { IfOk result (λ value. view value ≡ connection_data connection.now) }
-{
-    let mut object = Object::new(alloc);
-    object.put_name("call", connection.call.as_slice());
-    object.put_name("mode", connection.mode);
-    object.put_name("codec", connection.codec);
-    object.put_name("local", connection.local.as_slice());
-    object.put_name("remote", connection.remote.as_slice());
-    object.put_number("ptime", u64::from(connection.packet_time));
-    object.put_number("number", u64::from(connection.number));
-    object.end()
-}
+    ghost told = { signal_data };
 
-fn signals_value(alloc: Global, signals: &[SignalView]) -> Result<Value, AllocError>
-    ensures { IfOk result (λ value. view value ≡ array (items_of (map signal_data signals.now))) }
-{
-    let mut list = Vec::new(alloc);
-    for signal in signals {
-        put_item(&mut list, signal_value(alloc, *signal))?;
+    fn value(&self, alloc: Global) -> Result<Value, AllocError> {
+        let mut object = Object::new(alloc);
+        object.put_name("name", self.name);
+        object.put_maybe("end", self.end);
+        object.end()
     }
-    Ok(Value::from(list))
 }
 
-fn connections_value(alloc: Global, connections: &[ConnectionView]) -> Result<Value, AllocError>
-    ensures { IfOk result (λ value. view value ≡ array (items_of (map connection_data connections.now))) }
-{
-    let mut list = Vec::new(alloc);
-    for connection in connections {
-        put_item(&mut list, connection_value(alloc, connection))?;
+impl Told for ConnectionView {
+    ghost use Rattle.page_answers.specs.Texts.{connection_data};
+
+    ghost told = { connection_data };
+
+    fn value(&self, alloc: Global) -> Result<Value, AllocError> {
+        let mut object = Object::new(alloc);
+        object.put_name("call", self.call.as_slice());
+        object.put_name("mode", self.mode);
+        object.put_name("codec", self.codec);
+        object.put_name("local", self.local.as_slice());
+        object.put_name("remote", self.remote.as_slice());
+        object.put_number("ptime", u64::from(self.packet_time));
+        object.put_number("number", u64::from(self.number));
+        object.end()
     }
-    Ok(Value::from(list))
 }
 
 fn hook_word(is_off_hook: bool) -> &'static str
@@ -62,26 +51,20 @@ fn hook_word(is_off_hook: bool) -> &'static str
     if is_off_hook { "off" } else { "on" }
 }
 
-fn line_value(alloc: Global, line: &LineView) -> Result<Value, AllocError>
-    ensures { IfOk result (λ value. view value ≡ line_data line.now) }
-{
-    let mut object = Object::new(alloc);
-    object.put_text("hook", hook_word(line.is_off_hook));
-    object.put_number("lost", line.lost);
-    object.put_made("signals", signals_value(alloc, line.signals.as_slice()));
-    let connections = connections_value(alloc, line.connections.as_slice());
-    object.put_made("connections", connections);
-    object.end()
-}
+impl Told for LineView {
+    ghost use Rattle.page_answers.specs.Texts.{line_data};
 
-fn lines_value(alloc: Global, lines: &[LineView]) -> Result<Value, AllocError>
-    ensures { IfOk result (λ value. view value ≡ lines_data lines.now) }
-{
-    let mut list = Vec::new(alloc);
-    for line in lines {
-        put_item(&mut list, line_value(alloc, line))?;
+    ghost told = { line_data };
+
+    fn value(&self, alloc: Global) -> Result<Value, AllocError> {
+        let mut object = Object::new(alloc);
+        object.put_text("hook", hook_word(self.is_off_hook));
+        object.put_number("lost", self.lost);
+        object.put_made("signals", list_value(alloc, self.signals.as_slice()));
+        let connections = list_value(alloc, self.connections.as_slice());
+        object.put_made("connections", connections);
+        object.end()
     }
-    Ok(Value::from(list))
 }
 
 // How many commands of each verb came.
@@ -173,7 +156,7 @@ pub fn state_text(alloc: Global, picture: &Picture, version: u64) -> Result<Stri
     object.put_truth("agent_answers", picture.agent_answers());
     object.put_maybe("unanswered_since", picture.unanswered_since);
     object.put_number("lost", picture.totals().lost);
-    object.put_made("lines", lines_value(alloc, picture.lines.as_slice()));
+    object.put_made("lines", list_value(alloc, picture.lines.as_slice()));
     object.put_made("counts", counts_value(alloc, &picture.counts));
     let value = object.end()?;
     value.to_string(alloc)

@@ -15,5 +15,5 @@ returns c =
     (rw (← c.agent_answers.ensures, ← c.totals.ensures, ← c.as_slice.ensures.value, ← c.from.ensures)
     (c.in_ok-value.ensures _ (c.put_made-2.ensures _ _ (c.put_made.ensures _ _ (c.put_number.ensures _ (c.put_maybe.ensures _
     (c.put_truth-2.ensures _ (c.put_truth.ensures _ (c.put_shown.ensures _ c.new-object.ensures)))))
-    c.lines_value.ensures) c.counts_value.ensures))))
+    c.list_value.ensures) c.counts_value.ensures))))
     c.to_string.ensures.order

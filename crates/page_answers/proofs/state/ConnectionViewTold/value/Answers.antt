@@ -1,4 +1,4 @@
-use Rattle.page_answers.proofs.state.connection_value.Goals as goal
+use Rattle.page_answers.proofs.state.ConnectionViewTold.value.Goals as goal
 
 pub returns : goal.returns
 returns c =

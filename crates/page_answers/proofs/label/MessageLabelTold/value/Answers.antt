@@ -1,4 +1,4 @@
-use Rattle.page_answers.proofs.label.label_value.Goals as goal
+use Rattle.page_answers.proofs.label.MessageLabelTold.value.Goals as goal
 
 pub returns : goal.returns
 returns c =
