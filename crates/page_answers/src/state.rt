@@ -3,7 +3,7 @@ ghost use Rattle.std.specs.Prelude.{◌≡◌, fold, IfOk, OnOk, string_bytes};
 ghost use Rattle.serde_json.specs.Data.{Members, no_members, object as object_data};
 ghost use Rattle.serde_json.specs.View.{view, members_view};
 ghost use Rattle.page_answers.specs.Objects.{Holds};
-ghost use Rattle.page_answers.specs.Texts.{TellsState, hook_word, with_verb, with_code, given_up_in, put_counted, counts_data};
+ghost use Rattle.page_answers.specs.Texts.{TellsState, hook_word, with_verb, with_code, put_counted, counts_data};
 
 use crate::members::Object;
 use crate::told::{Told, list_value};
@@ -103,15 +103,6 @@ fn answers_value(alloc: Global, answers: &[CodeCount]) -> Result<Value, AllocErr
     Ok(Value::from(map))
 }
 
-// How many commands of its own nobody answered.
-fn given_up_in(counts: &Counts) -> u64
-    ensures { result ≡ given_up_in counts.now }
-{
-    counts
-        .given_up_by_gateway
-        .saturating_add(counts.given_up_by_lines)
-}
-
 // What was counted as one number each.
 fn put_counted(object: &mut Object, counts: &Counts)
     ensures { (was : Members) → Holds object.old was → Holds object.new (put_counted counts.now was) }
@@ -125,7 +116,11 @@ fn put_counted(object: &mut Object, counts: &Counts)
     object.put_number("notifications_again", counts.notifications_again);
     object.put_number("announcements", counts.announcements);
     object.put_number("announcements_again", counts.announcements_again);
-    object.put_number("given_up", given_up_in(counts));
+    // How many commands of its own nobody answered.
+    let given_up = counts
+        .given_up_by_gateway
+        .saturating_add(counts.given_up_by_lines);
+    object.put_number("given_up", given_up);
     object.put_number("refused", counts.refused);
     object.put_number("receive_faults", counts.receive_faults);
     object.put_number("send_faults", counts.send_faults);

@@ -1,6 +1,6 @@
 //! Lists, of each item of which a value is told.
-ghost use Rattle.std.specs.Prelude.{◌≡◌, ◌∷◌, ◌++◌, [], map, IfOk, OnOk};
-ghost use Rattle.serde_json.specs.Data.{Data, array};
+ghost use Rattle.std.specs.Prelude.{◌≡◌, map, IfOk};
+ghost use Rattle.serde_json.specs.Data.{array};
 ghost use Rattle.serde_json.specs.View.{view, items_of};
 
 use serde_json::Value;
@@ -18,22 +18,13 @@ pub(crate) trait Told {
         ensures { IfOk result (λ value. view value ≡ told self.now) };
 }
 
-// Puts a value that was made behind the others of a list, unless memory was refused for it.
-fn put_item(list: &mut Vec<Value>, made: Result<Value, AllocError>) -> Result<(), AllocError>
-    ensures { (what : Data) → IfOk made (λ value. view value ≡ what)
-        → OnOk result (map view list.new.items ≡ map view list.old.items ++ what ∷ []) }
-{
-    list.push(made?)?;
-    Ok(())
-}
-
 /// The values of all items. Its only error is want of memory.
 pub(crate) fn list_value<T: Told>(alloc: Global, items: &[T]) -> Result<Value, AllocError>
     ensures { IfOk result (λ value. view value ≡ array (items_of (map T.told items.now))) }
 {
     let mut list = Vec::new(alloc);
     for item in items {
-        put_item(&mut list, item.value(alloc))?;
+        list.push(item.value(alloc)?)?;
     }
     Ok(Value::from(list))
 }
