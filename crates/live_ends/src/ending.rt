@@ -5,7 +5,7 @@ ghost use Rattle.bad_network.specs.Parts.{spoiling_of};
 ghost use Rattle.live_outlets.specs.Reasons.{reason_of};
 ghost use Rattle.live_outlets.specs.Written.{faults_in};
 ghost use Rattle.live_ends.specs.AddressWords.{word_text};
-ghost use Rattle.live_ends.specs.Ending.{status_of, is_asked, served_ending, bad_address_text, bad_network_text, refused_text};
+ghost use Rattle.live_ends.specs.Ending.{status_of, is_asked, served_ending, refused_text};
 ghost use Rattle.live_ends.specs.Ending.{unbound_text, ending_text};
 
 use crate::address_words::AddressWord;
@@ -206,8 +206,12 @@ impl CommonEnding {
             CommonEnding::Help => put_pieces(out, about.help),
             CommonEnding::Version => put_pieces(out, about.version),
             CommonEnding::Usage => put_pieces(out, &["usage: ", about.usage, "\n"]),
-            CommonEnding::BadAddress { word } => put_bad_address(out, word),
-            CommonEnding::BadNetwork { fault } => put_bad_network(out, fault),
+            CommonEnding::BadAddress { word } => {
+                put_pieces(out, &[word.text(), ": no address a.b.c.d:port\n"])
+            }
+            CommonEnding::BadNetwork { fault } => {
+                put_pieces(out, &["--network: ", wanted_by(fault), "\n"])
+            }
             CommonEnding::Unreadable { kind } => {
                 put_refused(out, files.read_from, ": read fault", reason_of(kind))
             }
@@ -250,20 +254,6 @@ pub fn network_in(text: Option<&str>) -> Result<Option<Spoiling>, CommonEnding>
         Ok(spoiling) => Ok(Some(spoiling)),
         Err(fault) => Err(CommonEnding::BadNetwork { fault }),
     }
-}
-
-// What stands behind this word isn't an address.
-fn put_bad_address(out: &mut Vec<u8>, word: AddressWord) -> Result<(), OutOfMemory>
-    ensures { OnOk result (out.new.items ≡ out.old.items ++ bad_address_text word) }
-{
-    put_pieces(out, &[word.text(), ": no address a.b.c.d:port\n"])
-}
-
-// What stands behind `--network` has this fault.
-fn put_bad_network(out: &mut Vec<u8>, fault: SpoilingFault) -> Result<(), OutOfMemory>
-    ensures { OnOk result (out.new.items ≡ out.old.items ++ bad_network_text fault) }
-{
-    put_pieces(out, &["--network: ", wanted_by(fault), "\n"])
 }
 
 // The system refuses what this names, for a reason.

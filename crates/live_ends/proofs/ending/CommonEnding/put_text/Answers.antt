@@ -1,4 +1,7 @@
+use Rattle.std.proofs.Common.{◌≡◌, ℕ, codes, List, [], ◌∷◌, ◌++◌, subst}
+use Rattle.std.specs.Prelude.{OnOk}
 use Rattle.live_ends.specs.Ending.{ending_text}
+use Rattle.live_ends.specs.Wording.{joined}
 use Rattle.live_ends.proofs.ending.CommonEnding.put_text.Goals as goal
 
 pub returns-in-Unreadable : goal.returns-in-Unreadable
@@ -27,11 +30,21 @@ returns-in-Usage c = rw (c.in-Usage.is) c.put_pieces-in-Usage.ensures
 
 pub returns-in-BadAddress : goal.returns-in-BadAddress
 unfolding ending_text
-returns-in-BadAddress c = rw (c.in-BadAddress.is) c.put_bad_address.ensures
+returns-in-BadAddress c =
+    rw (c.in-BadAddress.is)
+    (subst
+    (λ (word : List ℕ). OnOk c.put_pieces-in-BadAddress.result (c.put_pieces-in-BadAddress.new.out.items ≡ c.args.out.now.items
+    ++ joined (word ∷ codes ": no address a.b.c.d:port\n" ∷ [])))
+    c.text.ensures c.put_pieces-in-BadAddress.ensures)
 
 pub returns-in-BadNetwork : goal.returns-in-BadNetwork
 unfolding ending_text
-returns-in-BadNetwork c = rw (c.in-BadNetwork.is) c.put_bad_network.ensures
+returns-in-BadNetwork c =
+    rw (c.in-BadNetwork.is)
+    (subst
+    (λ (wanted : List ℕ). OnOk c.put_pieces-in-BadNetwork.result (c.put_pieces-in-BadNetwork.new.out.items ≡ c.args.out.now.items
+    ++ joined (codes "--network: " ∷ wanted ∷ codes "\n" ∷ [])))
+    c.wanted_by.ensures c.put_pieces-in-BadNetwork.ensures)
 
 pub returns-in-Clock : goal.returns-in-Clock
 unfolding ending_text
