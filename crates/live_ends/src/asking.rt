@@ -104,13 +104,12 @@ pub fn ask<R: Net + Clock>(
         Err(fault) => return Err(unsent(fault)),
     };
     // So it takes datagrams from there alone, and it is told where nobody is there.
-    match socket.connect(address) {
-        Ok(()) => {}
-        Err(fault) => return Err(unsent(fault)),
+    let sent = match socket.connect(address) {
+        Ok(()) => socket.send(line),
+        Err(fault) => Err(fault),
+    };
+    match sent {
+        Ok(_) => hear(rt, &socket, room),
+        Err(fault) => Err(unsent(fault)),
     }
-    match socket.send(line) {
-        Ok(_) => {}
-        Err(fault) => return Err(unsent(fault)),
-    }
-    hear(rt, &socket, room)
 }
