@@ -51,16 +51,13 @@ pub struct Readiness {
     pub visits: [Visit; MOST_VISITORS],
 }
 
-// Watches a socket for datagrams, which the system names by this number from now on. An error is of the system's kind.
-fn watch_socket(poll: &Poll, socket: &mut UdpSocket, number: usize) -> Result<(), ErrorKind> {
-    match poll
-        .registry()
-        .register(socket, Token(number), Interest::READABLE)
-    {
-        Ok(()) => {}
-        Err(fault) => return Err(fault.kind()),
+// Watches the sockets for datagrams and for commands.
+fn watch_both(poll: &Poll, socket: &mut UdpSocket, commands: &mut UdpSocket) -> io::Result<()> {
+    let registry = poll.registry();
+    match registry.register(socket, Token(SOCKET), Interest::READABLE) {
+        Ok(()) => registry.register(commands, Token(COMMANDS), Interest::READABLE),
+        Err(fault) => Err(fault),
     }
-    Ok(())
 }
 
 // What an event tells of a visitor's socket.
@@ -97,13 +94,9 @@ impl Readiness {
             Ok(poll) => poll,
             Err(fault) => return Err(fault.kind()),
         };
-        match watch_socket(&poll, socket, SOCKET) {
+        match watch_both(&poll, socket, commands) {
             Ok(()) => {}
-            Err(kind) => return Err(kind),
-        }
-        match watch_socket(&poll, commands, COMMANDS) {
-            Ok(()) => {}
-            Err(kind) => return Err(kind),
+            Err(fault) => return Err(fault.kind()),
         }
         let ready = Readiness {
             poll,
