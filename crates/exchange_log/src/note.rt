@@ -1,9 +1,6 @@
 //! What is noted beside messages.
 ghost use Rattle.std.specs.Prelude.{◌≡◌, ◌++◌, codes, decimal};
-ghost use Rattle.std.specs.Net.Addr.{ipv4_octets};
-ghost use Rattle.std.specs.Net.Text.{ipv4_text};
 ghost use Rattle.mg_bytes.specs.ReturnCode.{code_with};
-ghost use Rattle.exchange_log.specs.Grouping.{number_shown};
 ghost use Rattle.exchange_log.specs.Notes.{words_from, untold_text, note_text, notice_text};
 
 use crate::grouping::write_number;
@@ -88,15 +85,6 @@ fn put_refusal(out: &mut Draft, id: TransactionId, code: u16)
     put_words(out, code);
 }
 
-// Pieces around two numbers.
-fn put_both(out: &mut Draft, before: &[u8], first: u64, between: &[u8], second: u64, after: &[u8])
-    ensures { out.new ≡ out.old ++ (before.now ++ decimal first ++ between.now ++ decimal second ++ after.now) }
-{
-    put_around(out, before, first, between);
-    out.put_decimal(second);
-    out.put(after);
-}
-
 // How many strangers aren't told of, where there are any.
 fn put_untold(out: &mut Draft, untold: u64)
     ensures { out.new ≡ out.old ++ untold_text untold }
@@ -104,31 +92,6 @@ fn put_untold(out: &mut Draft, untold: u64)
     if untold != 0 {
         put_around(out, b", as ", untold, b" before it");
     }
-}
-
-// A piece, and how many strangers aren't told of.
-fn put_before_untold(out: &mut Draft, before: &[u8], untold: u64)
-    ensures { out.new ≡ out.old ++ (before.now ++ untold_text untold) }
-{
-    out.put(before);
-    put_untold(out, untold);
-}
-
-// A piece, and an address.
-fn put_before_host(out: &mut Draft, before: &[u8], host: Ipv4Addr)
-    ensures { out.new ≡ out.old ++ (before.now ++ ipv4_text (ipv4_octets host)) }
-{
-    out.put(before);
-    put_host(out, host);
-}
-
-// A command is lost, since so many are remembered.
-fn put_no_room(out: &mut Draft, young: u64)
-    ensures { out.new ≡ out.old ++ (codes "lost: " ++ number_shown young ++ codes " commands are young") }
-{
-    out.put(b"lost: ");
-    write_number(out, young);
-    out.put(b" commands are young");
 }
 
 // The number that an id is.
@@ -156,18 +119,24 @@ pub(crate) fn put_note_text(out: &mut Draft, note: Note)
         Note::Lost => out.put(b"lost on its way"),
         Note::Late { ms } => put_around(out, b"late by ", ms, b" ms"),
         Note::Copied { first, second } => {
-            put_both(out, b"copied, late by ", first, b" and ", second, b" ms")
+            put_around(out, b"copied, late by ", first, b" and ");
+            out.put_decimal(second);
+            out.put(b" ms");
         }
         Note::OutOfMemory => out.put(b"out of memory, nothing was done"),
-        Note::Stranger { untold } => { put_before_untold(out, b"a stranger's, not heard", untold) }
-        Note::Unheard { host } => {
-            put_before_host(
-                out,
-                b"no answer is heard from there, but with --agents ",
-                host,
-            )
+        Note::Stranger { untold } => {
+            out.put(b"a stranger's, not heard");
+            put_untold(out, untold);
         }
-        Note::NoRoom { young } => put_no_room(out, young),
+        Note::Unheard { host } => {
+            out.put(b"no answer is heard from there, but with --agents ");
+            put_host(out, host);
+        }
+        Note::NoRoom { young } => {
+            out.put(b"lost: ");
+            write_number(out, young);
+            out.put(b" commands are young");
+        }
     }
 }
 

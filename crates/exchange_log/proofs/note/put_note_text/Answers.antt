@@ -1,4 +1,5 @@
 use Rattle.exchange_log.specs.Notes.{note_text}
+use Rattle.exchange_log.proofs.DraftLemmas.{put_two, put_three}
 use Rattle.exchange_log.proofs.note.put_note_text.Goals as goal
 
 pub returns-in-AnsweredAgain : goal.returns-in-AnsweredAgain
@@ -39,7 +40,8 @@ returns-in-Late c = rw (c.in-Late.is) c.put_around-in-Late.ensures
 
 pub returns-in-Copied : goal.returns-in-Copied
 unfolding note_text
-returns-in-Copied c = rw (c.in-Copied.is) c.put_both.ensures
+returns-in-Copied c =
+    rw (c.in-Copied.is) (put_three _ _ _ _ _ _ _ c.put_around-in-Copied.ensures c.put_decimal.ensures c.put-in-Copied.ensures)
 
 pub returns-in-OutOfMemory : goal.returns-in-OutOfMemory
 unfolding note_text
@@ -47,12 +49,13 @@ returns-in-OutOfMemory c = rw (c.in-OutOfMemory.is) c.put-in-OutOfMemory.ensures
 
 pub returns-in-Stranger : goal.returns-in-Stranger
 unfolding note_text
-returns-in-Stranger c = rw (c.in-Stranger.is) c.put_before_untold.ensures
+returns-in-Stranger c = rw (c.in-Stranger.is) (put_two _ _ _ _ _ c.put-in-Stranger.ensures c.put_untold.ensures)
 
 pub returns-in-Unheard : goal.returns-in-Unheard
 unfolding note_text
-returns-in-Unheard c = rw (c.in-Unheard.is) c.put_before_host.ensures
+returns-in-Unheard c = rw (c.in-Unheard.is) (put_two _ _ _ _ _ c.put-in-Unheard.ensures c.put_host.ensures)
 
 pub returns-in-NoRoom : goal.returns-in-NoRoom
 unfolding note_text
-returns-in-NoRoom c = rw (c.in-NoRoom.is) c.put_no_room.ensures
+returns-in-NoRoom c =
+    rw (c.in-NoRoom.is) (put_three _ _ _ _ _ _ _ c.put-in-NoRoom.ensures c.write_number.ensures c.put-in-NoRoom-2.ensures)
