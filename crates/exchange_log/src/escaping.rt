@@ -1,5 +1,5 @@
 //! How bytes of a datagram are shown.
-ghost use Rattle.std.specs.Prelude.{◌≡◌, ◌<◌, ◌++◌, length, take, OnOk};
+ghost use Rattle.std.specs.Prelude.{◌≡◌, ◌<◌, ◌++◌, OnOk};
 ghost use Rattle.exchange_log.specs.Escaping.{is_plain, hex_digit, shown_byte, escaped, shown};
 
 use mg_bytes::{Draft, OutOfMemory};
@@ -39,14 +39,6 @@ pub(crate) fn put_escaped(out: &mut Draft, bytes: &[u8])
     }
 }
 
-// What is shown of a longer value.
-fn front_of(value: &[u8]) -> &[u8]
-    requires { 64 < length value.now }
-    ensures { result.now ≡ take 64 value.now }
-{
-    &value[..LONGEST_VALUE]
-}
-
 /// Puts a value as printable ASCII: each byte that is none, and the backslash, as `\x` and two hexadecimal digits; of a longer
 /// value the first 64 bytes, and `..`.
 #[tactic(auto, unfolding(crate::specs::Escaping::shown))]
@@ -56,7 +48,8 @@ pub fn write_shown(out: &mut Draft, value: &[u8])
     if value.len() <= LONGEST_VALUE {
         put_escaped(out, value);
     } else {
-        put_escaped(out, front_of(value));
+        let front = &value[..LONGEST_VALUE];
+        put_escaped(out, front);
         out.put(b"..");
     }
 }
