@@ -3,7 +3,7 @@ ghost use Rattle.std.specs.Prelude.{◌≡◌, ◌++◌, ◌∷◌, [], Some, If
 ghost use Rattle.std.specs.List.{slice_split};
 ghost use Rattle.std.specs.Str.{str_to_ascii_uppercase};
 ghost use Rattle.std.specs.Str.Lossy.{utf8_lossy};
-ghost use Rattle.gateway_checks.specs.Naming.{meaning_in, meaning_of, value_kept, endpoint_name, upper_endpoint_name};
+ghost use Rattle.gateway_checks.specs.Naming.{meaning_in, meaning_of, value_kept, endpoint_name};
 ghost use Rattle.gateway_checks.specs.Naming.{value_meant, is_brace, piece_filled, filled_by, value_under, filled};
 ghost use Rattle.gateway_checks.specs.Naming.{id_by, id_in, is_own, differ, names_kept, kept_with};
 ghost use Rattle.gateway_checks.specs.Sending.{datagram};
@@ -83,15 +83,6 @@ fn put_upper(out: &mut Draft, text: &[u8])
     for byte in text {
         out.put_byte(byte.to_ascii_uppercase());
     }
-}
-
-// Puts an endpoint's name in upper case.
-fn put_upper_endpoint(out: &mut Draft, local: &str, domain: &str)
-    ensures { out.new ≡ out.old ++ upper_endpoint_name local.now domain.now }
-{
-    put_upper(out, local.as_bytes());
-    out.put(b"@");
-    put_upper(out, domain.as_bytes());
 }
 
 // The id that a number is; 0 where it is none, or is too large for one.
@@ -217,7 +208,11 @@ impl<'a> Names<'a> {
         let places = &self.places;
         match meaning {
             Meaning::Line => put_endpoint(out, places.local, places.domain),
-            Meaning::UpperLine => put_upper_endpoint(out, places.local, places.domain),
+            Meaning::UpperLine => {
+                put_upper(out, places.local.as_bytes());
+                out.put(b"@");
+                put_upper(out, places.domain.as_bytes());
+            }
             Meaning::Other => put_endpoint(out, places.other, places.domain),
             Meaning::Local => put_plain(out, places.local),
             Meaning::Domain => put_plain(out, places.domain),
