@@ -8,7 +8,7 @@ ghost use Rattle.live_page.specs.declared.fields.Content.TheVariants as contents
 ghost use Rattle.live_page.specs.Health.{well_status};
 ghost use Rattle.live_page.specs.Serving.{Reads, Acts};
 
-use crate::fields::{Content, put_body, put_kind};
+use crate::fields::{Content, put_kind};
 use crate::files::{page_text, script_text, style_text};
 use crate::health::{alive_text, ready_text, well_status};
 use bytes::Bytes;
@@ -39,7 +39,7 @@ fn put_static(
     ensures body { OnOk result (response.new.body.items ≡ response.old.body.items ++ text.now) }
 {
     put_kind(response, content)?;
-    put_body(response, Bytes::from_static(text.as_bytes()))
+    response.body.push(Bytes::from_static(text.as_bytes()))
 }
 
 fn put_json(response: &mut Response, text: String) -> Result<(), AllocError>
@@ -48,7 +48,7 @@ fn put_json(response: &mut Response, text: String) -> Result<(), AllocError>
     ensures body { OnOk result (response.new.body.items ≡ response.old.body.items ++ string_bytes text) }
 {
     put_kind(response, Content::Json)?;
-    put_body(response, Bytes::from_string(text)?)
+    response.body.push(Bytes::from_string(text)?)
 }
 
 fn put_metrics(response: &mut Response, text: Vec<u8>) -> Result<(), AllocError>
@@ -58,7 +58,7 @@ fn put_metrics(response: &mut Response, text: Vec<u8>) -> Result<(), AllocError>
 {
     put_kind(response, Content::Metrics)?;
     match Bytes::from_vec(text) {
-        Ok(body) => put_body(response, body),
+        Ok(body) => response.body.push(body),
         Err(_) => Err(AllocError),
     }
 }

@@ -3,7 +3,6 @@ ghost use Rattle.std.specs.Prelude.{◌≡◌, ◌++◌, OnOk};
 ghost use Rattle.http_server.specs.Response.{fields_of};
 ghost use Rattle.live_page.specs.Fields.{kind_of, policy, kept_fields, kind_fields};
 
-use bytes::Bytes;
 use http::{HeaderValue, header};
 use http_server::Response;
 use std::alloc::AllocError;
@@ -69,13 +68,4 @@ pub(crate) fn put_kind(response: &mut Response, content: Content) -> Result<(), 
         HeaderValue::from_static("no-referrer"),
     )?;
     response.add_header(header::CONTENT_SECURITY_POLICY, policy())
-}
-
-/// Puts a body behind what there is.
-pub(crate) fn put_body(response: &mut Response, body: Bytes) -> Result<(), AllocError>
-    ensures status { response.new.status ≡ response.old.status }
-    ensures fields { fields_of response.new ≡ fields_of response.old }
-    ensures body { OnOk result (response.new.body.items ≡ response.old.body.items ++ body) }
-{
-    response.body.push(body)
 }
