@@ -293,22 +293,8 @@ impl Site {
         }
     }
 
-    // Whoever has this place has a turn.
-    fn serve_at(&mut self, address: SocketAddrV4, place: usize, board: &mut Board, now: u64)
-        ensures served { IfSome (slice_get self.old.places.items place) (λ held.
-            IsSomeAnd (slice_get self.new.places.items place) (λ left.
-            ServesPlace address (names_of self.old.names) now held board.old left board.new)) }
-        ensures others { self.new.places.items ≡ with_place place (slice_get self.new.places.items place) self.old.places.items }
-        ensures rest { self.new ≡ record self.old { places = self.new.places; last = place } }
-    {
-        self.last = place;
-        let mut desk = Desk::new(self.alloc, address, &self.names, board);
-        if let Some(held) = self.places.get_mut(place) {
-            serve_place(held, &mut desk, now);
-        }
-    }
-
     /// A turn of one visitor who has more to do, each in their turn: it is answered by this board.
+    #[tactic(auto, using(crate::proofs::ReceivingLemmas::serves_here))]
     pub fn turn(&mut self, board: &mut Board, now: u64)
         ensures { ServesNext self.old.address (next_turn self.old.last self.old.places.items) now self.old board.old self.new board.new }
     {
@@ -318,7 +304,11 @@ impl Site {
         let Some(place) = self.next_place() else {
             return;
         };
-        self.serve_at(address, place, board, now);
+        self.last = place;
+        let mut desk = Desk::new(self.alloc, address, &self.names, board);
+        if let Some(held) = self.places.get_mut(place) {
+            serve_place(held, &mut desk, now);
+        }
     }
 }
 
