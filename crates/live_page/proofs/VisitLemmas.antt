@@ -1,5 +1,6 @@
 -- What is answered to visitors, from what a connection says of its calls.
-use Rattle.std.proofs.Common.{◌≡◌, ℕ, Bool, true, false, not, List, [], ◌∷◌, ◌++◌, Bor, refl, sym, ◌∙◌, ap, subst, append_assoc, append-nil}
+use Rattle.std.proofs.Common.{◌≡◌, ℕ, Bool, true, false, not, List, [], ◌∷◌, ◌++◌, Bor, refl, sym, ◌∙◌, ap, subst, append_assoc, append-nil, inl, inr, ⊎_elim, ◌↔◌, ◌⊎◌, true≢false}
+use Rattle.std.specs.Prelude.{IsTrue}
 use Rattle.std.specs.declared.net.socket_addr.SocketAddrV4.{SocketAddrV4}
 use Rattle.http.specs.declared.request.Request.{Request}
 use Rattle.http_server.specs.declared.response.Response.{Response}
@@ -86,3 +87,15 @@ answers_there site there names others was is board shown same called answers =
 pub so_behind : (is : Bool) → not is ≡ false → is ≡ true
 so_behind true none = refl
 so_behind false none = absurd cc
+
+-- who can be read has more to do
+pub more_to_read : {Reads Writes : Type 0} (any can : Bool) → any ≡ true → can ≡ true → (IsTrue can ↔ Reads) → (IsTrue any ↔ (Reads ⊎ Writes))
+more_to_read any can so reads same = ((λ _. inl (same.0 reads)), (λ _. so))
+
+-- who can't has where they can be written to
+pub more_to_write : {Reads Writes : Type 0} (any reads writes : Bool) → any ≡ writes → reads ≡ false → (IsTrue reads ↔ Reads)
+    → (IsTrue writes ↔ Writes) → (IsTrue any ↔ (Reads ⊎ Writes))
+more_to_write any reads writes so none read written = (
+  (λ more. inr (written.0 (sym so ∙ more))),
+  ⊎_elim (λ r. absurd (true≢false (sym (read.1 r) ∙ none))) (λ w. so ∙ written.1 w),
+)

@@ -153,13 +153,6 @@ impl Visitor {
         }
     }
 
-    // Whether it can be read or written once more.
-    fn has_more(&self) -> bool
-        ensures { IsTrue result ↔ (CanRead self.now ⊎ CanWrite self.now) }
-    {
-        self.can_read() || self.can_write()
-    }
-
     // Answers what came.
     fn answer(&mut self, desk: &mut Desk<'_>)
         ensures site { desk.new.site ≡ desk.old.site }
@@ -190,7 +183,7 @@ impl Visitor {
             return false;
         }
         self.answer(desk);
-        self.has_turn = self.has_more();
+        self.has_turn = self.can_read() || self.can_write();
         !self.connection.is_done()
     }
 }

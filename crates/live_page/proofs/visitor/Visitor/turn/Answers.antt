@@ -1,8 +1,9 @@
-use Rattle.std.proofs.Common.{true, false, refl, ap, subst, not, Bool}
+use Rattle.std.proofs.Common.{true, false, refl, ap, subst, not, Bool, ◌∙◌}
 use Rattle.page_access.specs.Naming.{names_of}
 use Rattle.live_page.specs.Visiting.{ReadsOnce, WritesOnce}
-use Rattle.live_page.proofs.VisitLemmas.{so_behind, none_answered, answered_before, answered_behind, answered_both, answers_there}
+use Rattle.live_page.proofs.VisitLemmas.{so_behind, none_answered, answered_before, answered_behind, answered_both, answers_there, more_to_read, more_to_write}
 use Rattle.live_page.proofs.visitor.Visitor.turn.Goals as goal
+use Rattle.live_page.proofs.visitor.Visitor.turn.Goals.{then-can_read, else-can_read}
 
 pub returns-then-not-read-clause-answered : goal.returns-then-not-read-clause-answered
 returns-then-not-read-clause-answered c =
@@ -73,7 +74,11 @@ returns-clause-turns c = (
             c.write.new.self c.answer-2.new.self c.answer.new.desk.board.now c.answer-2.new.desk.board.now c.answer.ensures.site c.answer.ensures.names
             c.answer-2.ensures.answered,
         refl,
-        c.has_more-self.ensures,
+        elim c.if-can_read.branch [
+          | then-can_read w ↦ more_to_read c.if-can_read.self c.can_read.result (w.self-is ∙ w.if-can_read.true) w.if-can_read.true c.can_read.ensures
+          | else-can_read w ↦ more_to_write c.if-can_read.self c.can_read.result w.can_write-self.result w.self-is w.if-can_read.false
+              c.can_read.ensures w.can_write-self.ensures
+        ],
         (λ over. c.is_done.ensures.0 (so_behind c.is_done.result over)),
         (λ done. ap not (c.is_done.ensures.1 done)),
       ),
