@@ -5,7 +5,7 @@ ghost use Rattle.page_access.specs.Naming.{names_of};
 ghost use Rattle.page_access.specs.Places.{place_for};
 ghost use Rattle.live_page.specs.Receiving.{host_of, seat_in, visitor_in, noted_in, noted_each, with_place};
 ghost use Rattle.live_page.specs.Receiving.{SeatsAt, LetsIn, ServesPlace, ServesNext};
-ghost use Rattle.live_page.specs.Waiting.{sooner, is_late, stays_at, is_behind, turn_from, next_turn};
+ghost use Rattle.live_page.specs.Waiting.{sooner, stays_at, is_behind, turn_from, next_turn};
 
 use crate::desk::Desk;
 use crate::reception::Reception;
@@ -82,16 +82,6 @@ fn sooner(next: Option<u64>, deadline: Option<u64>) -> Option<u64>
         (next, None) => next,
         (None, Some(deadline)) => Some(deadline),
         (Some(next), Some(deadline)) => Some(next.min(deadline)),
-    }
-}
-
-// Whether the time is over of whoever has the place.
-fn is_late(place: &Option<Box<Visitor>>, now: u64) -> bool
-    ensures { result ≡ is_late now place.now }
-{
-    match place {
-        Some(visitor) => visitor.deadline <= now,
-        None => false,
     }
 }
 
@@ -198,7 +188,9 @@ impl Site {
         ensures names { self.new.names ≡ self.old.names }
     {
         for place in self.places.iter_mut() {
-            if is_late(place, now) {
+            if let Some(visitor) = place
+                && visitor.deadline <= now
+            {
                 *place = None;
             }
         }
