@@ -3,7 +3,7 @@ ghost use Rattle.std.specs.Prelude.{◌≡◌, ◌||◌, None, IfNone, IfOk, IfS
 ghost use Rattle.live_ends.specs.Looking.{no_visit};
 ghost use Rattle.page_access.specs.Naming.{names_of};
 ghost use Rattle.page_access.specs.Places.{place_for};
-ghost use Rattle.live_page.specs.Receiving.{host_of, seat_in, visitor_in, noted_in, noted_each, with_place};
+ghost use Rattle.live_page.specs.Receiving.{host_of, seat_in, visitor_in, noted_each, with_place};
 ghost use Rattle.live_page.specs.Receiving.{SeatsAt, LetsIn, ServesPlace, ServesNext};
 ghost use Rattle.live_page.specs.Waiting.{sooner, stays_at, is_behind, turn_from, next_turn};
 
@@ -110,15 +110,6 @@ fn turn_behind(places: &[Option<Box<Visitor>>], last: Option<usize>) -> Option<u
     None
 }
 
-// What was told of the socket of whoever has the place.
-fn note_visit(place: &mut Option<Box<Visitor>>, visit: Visit)
-    ensures { visitor_in place.new ≡ noted_in visit (visitor_in place.old) }
-{
-    if let Some(visitor) = place {
-        visitor.note(visit);
-    }
-}
-
 // What was told of each visitor's socket, from the first place on.
 #[tactic(auto, unfolding(crate::specs::Receiving::noted_each))]
 fn note_visits(places: &mut [Option<Box<Visitor>>], visits: &[Visit])
@@ -127,7 +118,9 @@ fn note_visits(places: &mut [Option<Box<Visitor>>], visits: &[Visit])
     let mut left = visits;
     for place in places.iter_mut() {
         if let Some((visit, more)) = left.split_first() {
-            note_visit(place, *visit);
+            if let Some(visitor) = place {
+                visitor.note(*visit);
+            }
             left = more;
         }
     }
@@ -143,15 +136,6 @@ fn serve_place(held: &mut Option<Box<Visitor>>, desk: &mut Desk<'_>, now: u64)
     };
     if !visitor.turn(desk, now) {
         *held = None;
-    }
-}
-
-fn seat_in(place: &Option<Box<Visitor>>) -> Option<Seat>
-    ensures { result ≡ seat_in place.now }
-{
-    match place {
-        Some(visitor) => Some(visitor.seat),
-        None => None,
     }
 }
 
@@ -217,7 +201,11 @@ impl Site {
     {
         let mut seats = Vec::with_capacity(self.alloc, self.places.len())?;
         for place in self.places.as_slice() {
-            seats.push(seat_in(place))?;
+            let seat = match place {
+                Some(visitor) => Some(visitor.seat),
+                None => None,
+            };
+            seats.push(seat)?;
         }
         Ok(place_for(seats.as_slice(), host))
     }
