@@ -5,7 +5,7 @@ ghost use Rattle.page_access.specs.Naming.{names_of};
 ghost use Rattle.page_access.specs.Places.{place_for};
 ghost use Rattle.live_page.specs.Receiving.{host_of, seat_in, visitor_in, noted_each, with_place};
 ghost use Rattle.live_page.specs.Receiving.{SeatsAt, LetsIn, ServesPlace, ServesNext};
-ghost use Rattle.live_page.specs.Waiting.{sooner, stays_at, is_behind, turn_from, next_turn};
+ghost use Rattle.live_page.specs.Waiting.{stays_at, is_behind, turn_from, next_turn};
 
 use crate::desk::Desk;
 use crate::reception::Reception;
@@ -71,17 +71,6 @@ fn host_of(source: SocketAddr) -> Ipv4Addr
     match source {
         SocketAddr::V4(source) => *source.ip(),
         SocketAddr::V6(_) => Ipv4Addr::UNSPECIFIED,
-    }
-}
-
-// Of two moments the earlier one, where there are two.
-fn sooner(next: Option<u64>, deadline: Option<u64>) -> Option<u64>
-    ensures { result ≡ sooner next deadline }
-{
-    match (next, deadline) {
-        (next, None) => next,
-        (None, Some(deadline)) => Some(deadline),
-        (Some(next), Some(deadline)) => Some(next.min(deadline)),
     }
 }
 
@@ -350,10 +339,13 @@ impl Reception for Site {
 
     #[tactic(auto, unfolding(crate::specs::Waiting::soonest_from))]
     fn next_deadline(&self) -> Option<u64> {
-        let mut next = None;
+        let mut next: Option<u64> = None;
         for held in self.places.as_slice() {
             if let Some(visitor) = held {
-                next = sooner(next, Some(visitor.deadline));
+                next = match next {
+                    Some(next) => Some(next.min(visitor.deadline)),
+                    None => Some(visitor.deadline),
+                };
             }
         }
         next
