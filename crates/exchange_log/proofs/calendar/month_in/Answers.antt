@@ -1,4 +1,4 @@
-use Rattle.std.proofs.Common.{◌≡◌, List, ℕ, sym, ap, ◌∙◌, arith}
+use Rattle.std.proofs.Common.{sym, ap, ◌∙◌, arith}
 use Rattle.exchange_log.specs.Calendar.{is_leap, month_lengths}
 use Rattle.exchange_log.proofs.CalendarLemmas.{falls_here, falls_on, falls_last}
 use Rattle.exchange_log.proofs.calendar.month_in.Goals as goal
