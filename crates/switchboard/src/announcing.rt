@@ -25,32 +25,6 @@ fn announce_if(office: &mut Office, is_named: bool, line: usize, is_restart: boo
     }
 }
 
-// This line of a gateway is there again, or lost its agent, if the gateway has it. The others aren't looked at.
-fn announce_one(office: &mut Office, line: u16, first: usize, lines: u16, is_restart: bool)
-    ensures announces { Announces is_restart (One line) first lines office.old.exchange office.old.cares.items
-        office.new.exchange office.new.cares.items }
-    ensures touches { TouchesMeant is_restart (One line) first lines office.old office.new }
-{
-    let place = line_behind(first, line.saturating_sub(1));
-    announce_if(office, has_line(line, lines), place, is_restart);
-}
-
-// The same of each line that a name means.
-fn announce_each(office: &mut Office, pattern: Pattern, first: usize, lines: u16, is_restart: bool)
-    ensures announces { Announces is_restart pattern first lines office.old.exchange office.old.cares.items
-        office.new.exchange office.new.cares.items }
-    ensures touches { TouchesMeant is_restart pattern first lines office.old office.new }
-{
-    for before in 0..lines {
-        announce_if(
-            office,
-            is_meant(pattern, before),
-            line_behind(first, before),
-            is_restart,
-        );
-    }
-}
-
 /// The lines of a gateway that a name means are there again, or lost their agent. The first of them has this place, and there are so many.
 /// Where the name means one line, nothing is done for the others.
 pub(crate) fn announce_all(
@@ -64,8 +38,16 @@ pub(crate) fn announce_all(
         office.new.exchange office.new.cares.items }
     ensures touches { TouchesMeant is_restart pattern first lines office.old office.new }
 {
-    match pattern {
-        Pattern::One(line) => announce_one(office, line, first, lines, is_restart),
-        Pattern::All | Pattern::Any => announce_each(office, pattern, first, lines, is_restart),
+    if let Pattern::One(line) = pattern {
+        let place = line_behind(first, line.saturating_sub(1));
+        return announce_if(office, has_line(line, lines), place, is_restart);
+    }
+    for before in 0..lines {
+        announce_if(
+            office,
+            is_meant(pattern, before),
+            line_behind(first, before),
+            is_restart,
+        );
     }
 }

@@ -1,6 +1,6 @@
 use Rattle.std.proofs.Common.{◌≡◌}
 use Rattle.switchboard.specs.Steps.{cares_announced, exchange_announced, TouchesMeant}
-use Rattle.switchboard.proofs.announcing.announce_each.Given as goal
+use Rattle.switchboard.proofs.announcing.announce_all.Given as goal
 
 -- the lines before this one are announced
 abbrev pub invariant-loop-before : goal.invariant-loop-before
