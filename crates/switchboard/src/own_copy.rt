@@ -1,9 +1,8 @@
 //! The desk's own copy of a command that its agent has in flight, and room for one.
-ghost use Rattle.std.specs.Prelude.{◌≡◌, ◌<◌, ◌≤◌, ◌^◌, if◌then◌else◌, [], IfOk, length, take};
+ghost use Rattle.std.specs.Prelude.{◌≡◌, ◌<◌, ◌≤◌, ◌^◌, [], IfOk, length, take};
 ghost use Rattle.std.specs.Vec.{vec_capacity};
 ghost use Rattle.endpoint_names.specs.declared.route.Route.TheVariants.{One};
-ghost use Rattle.outbound.specs.declared.reply.Reply.TheVariants.{Stranger};
-ghost use Rattle.outbound.specs.Flight.{sent_to, sent_first, repeat_of, repeated, reply_by, reply_of, heard_as, heard};
+ghost use Rattle.outbound.specs.Flight.{sent_to, sent_first, repeat_of, repeated, reply_of, heard};
 ghost use Rattle.transmission.specs.Texts.{largest_datagram};
 
 use call_agent::Issued;
@@ -84,19 +83,6 @@ fn put_into(mut room: Vec<u8>, text: &[u8]) -> Text
     Text::of(room)
 }
 
-// A response comes at a moment (in ms) with this return code: what it is to a command whose own id it has, or hasn't.
-fn answered(timing: &mut Pending, is_own: bool, code: u16, moment: u64) -> Reply
-    requires { moment < 2 ^ 62 }
-    ensures reply { result ≡ (if is_own then reply_by code else Stranger) }
-    ensures kept { timing.new ≡ heard_as (if is_own then reply_by code else Stranger) timing.old moment }
-{
-    if !is_own {
-        return Reply::Stranger;
-    }
-    let own = timing.id();
-    timing.answer(own, code, moment)
-}
-
 impl Room {
     /// Room for a command that is first sent to this address at this moment, in ms. An error is for want of memory only.
     pub(crate) fn new(alloc: Global, to: SocketAddrV4, moment: u64) -> Result<Room, OutOfMemory>
@@ -161,7 +147,10 @@ impl OwnCopy {
         ensures reply { result ≡ reply_of self.old id code }
         ensures kept { self.new ≡ heard self.old id code moment }
     {
-        let other = id.number();
-        answered(&mut self.timing, self.id == other, code, moment)
+        if self.id != id.number() {
+            return Reply::Stranger;
+        }
+        let own = self.timing.id();
+        self.timing.answer(own, code, moment)
     }
 }
