@@ -1,7 +1,7 @@
 //! A command that is in flight.
 ghost use Rattle.std.specs.Prelude.{◌≡◌, take};
 ghost use Rattle.transmission.specs.Texts.{largest_datagram};
-ghost use Rattle.switchboard.specs.Flights.{most_steps, fallen, behind, falls, answered_by, over_by};
+ghost use Rattle.switchboard.specs.Flights.{most_steps, fallen, behind, falls, over_by};
 
 use crate::own_copy::{END_OF_TIME, OwnCopy, Room};
 use call_agent::Issued;
@@ -47,19 +47,6 @@ fn is_given_up(pending: &mut OwnCopy, moment: u64) -> bool
     false
 }
 
-// A response with this id and return code comes at a moment (in ms): whether it answers a command.
-fn is_answered(pending: &mut OwnCopy, id: TransactionId, code: u16, moment: u64) -> bool
-    ensures { (result, pending.new) ≡ answered_by id code pending.old moment }
-{
-    if moment >= END_OF_TIME {
-        return false;
-    }
-    match pending.answer(id, code, moment) {
-        Reply::Answered => true,
-        Reply::Provisional | Reply::Stranger => false,
-    }
-}
-
 impl Flight {
     /// A command that was issued just now, in the room that there is for it. This takes no memory.
     pub(crate) fn begin(room: Room, issued: &Issued, line: Option<usize>) -> Flight
@@ -80,7 +67,15 @@ impl Flight {
     {
         match response {
             None => is_given_up(&mut self.pending, moment),
-            Some((id, code)) => is_answered(&mut self.pending, *id, *code, moment),
+            Some((id, code)) => {
+                if moment >= END_OF_TIME {
+                    return false;
+                }
+                match self.pending.answer(*id, *code, moment) {
+                    Reply::Answered => true,
+                    Reply::Provisional | Reply::Stranger => false,
+                }
+            }
         }
     }
 }
