@@ -28,16 +28,6 @@ use mg_bytes::{OutOfMemory, split_once};
 use mgcp_text::TransactionId;
 use turns::earlier;
 
-// The line of the exchange, if there is one, that is settled so many behind the first.
-fn settled_at(office: &Option<Box<Office>>, index: usize) -> Option<usize>
-    ensures { result ≡ settled_in index office.now }
-{
-    match office {
-        Some(office) => office.settled_at(index),
-        None => None,
-    }
-}
-
 // The exchange, if there is one, is told that its command in flight to a line was given up, or couldn't be issued.
 fn forget(office: &mut Option<Box<Office>>, line: usize)
     ensures office { OfOffice (Forgets line) office.old office.new }
@@ -204,7 +194,10 @@ impl Switchboard {
         ensures alone { SendsAtMost (settled_in index self.old.office) self.old self.new }
         ensures rest { self.new ≡ record self.old { gateways = self.new.gateways; office = self.new.office } }
     {
-        match settled_at(&self.office, index) {
+        let Some(office) = &self.office else {
+            return Ok(None);
+        };
+        match office.settled_at(index) {
             Some(line) => self.issue_to(line),
             None => Ok(None),
         }
