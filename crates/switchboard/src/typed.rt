@@ -1,7 +1,7 @@
 //! Commands that are typed.
-ghost use Rattle.std.specs.Prelude.{◌≡◌, ◌++◌, false, IfOk, OnOk, option_map};
+ghost use Rattle.std.specs.Prelude.{◌≡◌, ◌++◌, false, IfOk, option_map};
 ghost use Rattle.mg_bytes.specs.Lines.{crlf};
-ghost use Rattle.switchboard.specs.Typed.{held, plain_byte, typed_byte, typed_from, ended, typed_text, typed_in};
+ghost use Rattle.switchboard.specs.Typed.{held, typed_byte, typed_from, typed_text, typed_in};
 
 use mg_bytes::{Draft, OutOfMemory, lines, words};
 use std::alloc::Global;
@@ -45,20 +45,8 @@ fn put_held(out: &mut Draft, is_escaped: bool)
     }
 }
 
-// Puts a byte that stands for itself, or ends a line; a backslash isn't put before it is known what is behind it.
-fn put_plain(out: &mut Draft, byte: u8)
-    ensures { out.new ≡ out.old ++ plain_byte byte }
-{
-    if byte == b'\n' {
-        return put_line_end(out);
-    }
-    if byte == b'\r' || byte == b'\\' {
-        return;
-    }
-    out.put_byte(byte);
-}
-
-// Puts a byte that was typed, behind a backslash or not.
+// Puts a byte that was typed, behind a backslash or not. It stands for itself, or ends a line; a backslash isn't put before it is known what
+// is behind it.
 fn put_byte(out: &mut Draft, is_escaped: bool, byte: u8)
     ensures { out.new ≡ out.old ++ typed_byte is_escaped byte }
 {
@@ -66,7 +54,13 @@ fn put_byte(out: &mut Draft, is_escaped: bool, byte: u8)
         return put_line_end(out);
     }
     put_held(out, is_escaped);
-    put_plain(out, byte);
+    if byte == b'\n' {
+        return put_line_end(out);
+    }
+    if byte == b'\r' || byte == b'\\' {
+        return;
+    }
+    out.put_byte(byte);
 }
 
 // Puts what was typed, with the line ends of a message: a backslash with an n is one too, and any other one stands for itself.
@@ -82,16 +76,6 @@ fn put_typed(out: &mut Draft, text: &[u8])
     put_held(out, is_escaped);
 }
 
-// The last line ends, where it doesn't yet.
-fn end_line(out: &mut Vec<u8>) -> Result<(), OutOfMemory>
-    ensures { OnOk result (out.new.items ≡ ended out.old.items) }
-{
-    if out.as_slice().ends_with(b"\r\n") {
-        return Ok(());
-    }
-    out.extend_from_slice(b"\r\n")
-}
-
 /// A command that was typed, and what stands behind its line, with the line ends of a message. An error is for want of memory only.
 pub fn typed_text(alloc: Global, line: &[u8], rest: &[u8]) -> Result<Vec<u8>, OutOfMemory>
     ensures { IfOk result (λ text. text.items ≡ typed_text line.now rest.now) }
@@ -101,7 +85,11 @@ pub fn typed_text(alloc: Global, line: &[u8], rest: &[u8]) -> Result<Vec<u8>, Ou
     put_line_end(&mut draft);
     put_typed(&mut draft, rest);
     let mut text = draft.end()?;
-    end_line(&mut text)?;
+    if text.as_slice().ends_with(b"\r\n") {
+        return Ok(text);
+    }
+    // The last line ends, where it doesn't yet.
+    text.extend_from_slice(b"\r\n")?;
     Ok(text)
 }
 
