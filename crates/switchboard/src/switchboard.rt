@@ -1,5 +1,5 @@
 //! A board: the gateways that a call agent works with, and their lines; how it is made, and what its agents hear.
-ghost use Rattle.std.specs.Prelude.{◌≡◌, ◌&&◌, ◌+◌, [], ◌∷◌, ◌++◌, None, Ok, All, length, map, position, slice_get};
+ghost use Rattle.std.specs.Prelude.{◌≡◌, ◌&&◌, [], ◌∷◌, ◌++◌, None, Ok, All, length, map, position, slice_get};
 ghost use Rattle.std.specs.Prelude.{IfNone, IfOk, OnErr, OnOk, is_ok, is_some};
 ghost use Rattle.std.specs.Result.{result_err};
 ghost use Rattle.plain_machine.specs.Event.{datagram, tick};
@@ -7,7 +7,7 @@ ghost use Rattle.call_agent.specs.Hearing.{hears};
 ghost use Rattle.call_agent.specs.AgentStands.{AgentStays, AgentTook};
 ghost use Rattle.switchboard.specs.AgentClock.{tick_to};
 ghost use Rattle.switchboard.specs.Boards.{is_at};
-ghost use Rattle.switchboard.specs.Opening.{begins_as, gateways_from, known_as, lines_of, new_station, stations_behind, stations_from};
+ghost use Rattle.switchboard.specs.Opening.{gateways_from, known_as, lines_of, new_station, stations_behind, stations_from};
 ghost use Rattle.switchboard.specs.Opening.{BoardOf, StandsNew};
 ghost use Rattle.switchboard.specs.Steps.{AtPlace, OthersStay, Refuses, Ticks};
 
@@ -118,59 +118,8 @@ fn is_at(gateway: &Gateway, address: SocketAddrV4) -> bool
 }
 
 impl Switchboard {
-    // No gateways, and no exchange.
-    fn new(alloc: Global) -> Result<Switchboard, OutOfMemory>
-        ensures gateways { IfOk result (λ board. board.gateways.items ≡ []) }
-        ensures office { IfOk result (λ board. board.office ≡ None) }
-        ensures stations { IfOk result (λ board. board.stations.items ≡ []) }
-    {
-        let plan = NumberPlan::of(Vec::new(alloc));
-        let dialling = Dialling::of(alloc, plan, Text::of(Vec::new(alloc)))?;
-        Ok(Switchboard {
-            alloc,
-            gateways: Vec::new(alloc),
-            stations: Vec::new(alloc),
-            office: None,
-            dialling,
-            notifying: Worklist::new(alloc, false),
-        })
-    }
-
-    // Adds a gateway behind the others, with a line for each number. The agent has this address of its own; it is this time of day, in
-    // ms.
-    fn add(
-        &mut self,
-        own: SocketAddrV4,
-        address: SocketAddrV4,
-        domain: &[u8],
-        numbers: &[Text],
-        time: u64,
-    ) -> Result<(), OutOfMemory>
-        ensures gateway { OnOk result (map known_as self.new.gateways.items ≡ map known_as self.old.gateways.items
-            ++ begins_as time own (length self.old.stations.items) address domain.now (lines_of numbers.now) ∷ []) }
-        ensures stands { OnOk result (All StandsNew self.old.gateways.items → All StandsNew self.new.gateways.items) }
-        ensures count { OnOk result (length self.new.gateways.items ≡ length self.old.gateways.items + 1) }
-        ensures stations { OnOk result (self.new.stations.items
-            ≡ self.old.stations.items ++ stations_behind (length self.old.gateways.items) domain.now 0 numbers.now) }
-        ensures office { self.new.office ≡ self.old.office }
-    {
-        let place = self.gateways.len();
-        let first = self.stations.len();
-        let lines = lines_of(numbers);
-        // By hand, as below: a gateway is held here.
-        let Ok(gateway) = Gateway::new(self.alloc, own, address, domain, first, lines, time) else {
-            return Err(AllocError);
-        };
-        let Ok(()) = self.gateways.push(gateway) else {
-            return Err(AllocError);
-        };
-        let Ok(()) = put_stations(self.alloc, &mut self.stations, place, domain, numbers) else {
-            return Err(AllocError);
-        };
-        Ok(())
-    }
-
-    // Adds the gateways of a configuration.
+    // Adds the gateways of a configuration behind the others, each with a line for each number. The agents have the configuration's own
+    // address; it is this time of day, in ms.
     fn add_all(&mut self, config: &AgentConfig, time: u64) -> Result<(), OutOfMemory>
         ensures gateways { OnOk result (map known_as self.new.gateways.items ≡ map known_as self.old.gateways.items
             ++ gateways_from time config.now.own (length self.old.stations.items) config.now.gateways.items) }
@@ -180,9 +129,21 @@ impl Switchboard {
         ensures office { self.new.office ≡ self.old.office }
     {
         for gateway in config.gateways.iter() {
+            let place = self.gateways.len();
+            let first = self.stations.len();
             let domain = gateway.domain.as_bytes();
             let numbers = gateway.numbers.as_slice();
-            self.add(config.own, gateway.address, domain, numbers, time)?;
+            let (own, address, lines) = (config.own, gateway.address, lines_of(numbers));
+            // By hand, as below: a gateway is held here.
+            let Ok(made) = Gateway::new(self.alloc, own, address, domain, first, lines, time) else {
+                return Err(AllocError);
+            };
+            let Ok(()) = self.gateways.push(made) else {
+                return Err(AllocError);
+            };
+            let Ok(()) = put_stations(self.alloc, &mut self.stations, place, domain, numbers) else {
+                return Err(AllocError);
+            };
         }
         Ok(())
     }
@@ -233,7 +194,18 @@ impl Switchboard {
     ) -> Result<Switchboard, OutOfMemory>
         ensures { IfOk result (λ board. BoardOf config.now is_routed time board) }
     {
-        let mut board = Switchboard::new(alloc)?;
+        let plan = NumberPlan::of(Vec::new(alloc));
+        let dialling = Dialling::of(alloc, plan, Text::of(Vec::new(alloc)))?;
+        let gateways = Vec::new(alloc);
+        let stations = Vec::new(alloc);
+        let mut board = Switchboard {
+            alloc,
+            gateways,
+            stations,
+            office: None,
+            dialling,
+            notifying: Worklist::new(alloc, false),
+        };
         match board.fill(config, is_routed, time) {
             Ok(()) => Ok(board),
             Err(refused) => Err(refused),
