@@ -3,13 +3,12 @@ ghost use Rattle.std.specs.Prelude.{◌≡◌, ◌⊎◌, [], None, true, is_som
 ghost use Rattle.agent_texts.specs.Counts.{nothing_counted};
 ghost use Rattle.live_ends.specs.declared.ending.CommonEnding.TheVariants.{OutOfMemory};
 ghost use Rattle.live_agent.specs.Clock.{milliseconds};
-ghost use Rattle.live_agent.specs.Ending.{is_record_refused, ending_of, WritesAndEnds};
+ghost use Rattle.live_agent.specs.Ending.{is_record_refused, WritesAndEnds};
 ghost use Rattle.live_agent.specs.Handing.{HandsTo};
 ghost use Rattle.live_agent.specs.Serving.{Serves, ServesOver, ServesToEnd, TurnsOnce};
 ghost use Rattle.live_agent.specs.Wiring.{SpoilsSo};
 ghost use Rattle.live_outlets.specs.Recording.{state_when};
 ghost use Rattle.live_outlets.specs.declared.record.RecordState.TheVariants as states;
-ghost use Rattle.live_outlets.specs.Written.{faults_in};
 ghost use Rattle.surroundings.specs.Typing.{left_of};
 ghost use Rattle.switchboard.specs.Opening.{BoardOf};
 
@@ -145,17 +144,6 @@ fn is_record_refused(journal: &Journal) -> bool
     journal.told.is_refused() || journal.log.is_refused() || journal.capture.is_refused()
 }
 
-// How the program ends, where the clock has failed or hasn't, and memory was refused for something that is recorded, or wasn't; this became
-// of what was recorded. Of a record that couldn't be written it was said at once.
-fn ending_of(has_failed: bool, is_refused: bool, written: Written) -> CommonEnding
-    ensures { result ≡ ending_of has_failed is_refused (faults_in written) }
-{
-    if has_failed {
-        return CommonEnding::Clock;
-    }
-    CommonEnding::of_records(is_refused, written)
-}
-
 // Writes what was recorded to its end, and behind it what was counted: how the program ends, where the clock has failed or hasn't.
 fn finish<R: Clock, W: Recorder + Finisher>(
     rt: &R,
@@ -172,7 +160,11 @@ fn finish<R: Clock, W: Recorder + Finisher>(
         return CommonEnding::OutOfMemory;
     };
     let written = recorder.end_with(rt, counts.as_slice(), time);
-    ending_of(has_failed, is_record_refused(journal), written)
+    if has_failed {
+        return CommonEnding::Clock;
+    }
+    // Of a record that couldn't be written it was said at once.
+    CommonEnding::of_records(is_record_refused(journal), written)
 }
 
 // Serves with this desk until the end, and writes what was recorded to its end, and behind it what was counted: how the program ends. The
