@@ -9,7 +9,7 @@ ghost use Rattle.mg_bytes.specs.Lists.{is_empty};
 ghost use Rattle.live_agent.specs.Wiring.{due_of, with_read, read_at, heard_at, ready_by};
 ghost use Rattle.live_agent.specs.Handing.{comes_in, HandsFirst, HandsOver, HandsTo, Leaves, Offers, OffersTo};
 ghost use Rattle.live_agent.specs.Sending.{SendsAll, SendsOne, SendsOver};
-ghost use Rattle.live_agent.specs.Tallying.{leaving_counted, looked_counted, waited_counted, with_fate, with_send_fault};
+ghost use Rattle.live_agent.specs.Tallying.{leaving_counted, looked_counted, waited_counted, with_fate};
 ghost use Rattle.live_agent.specs.Tallying.{CountsLeaving, CountsOffer, CountsSent, OnlyCounts, OnlyNotes};
 ghost use Rattle.surroundings.specs.Hearing.{Hears, AnswersTo};
 ghost use Rattle.surroundings.specs.Requests.{requests_from};
@@ -110,15 +110,6 @@ fn note_fate(journal: &mut Journal, stamp: Stamp, fate: Fate)
     if let Some(note) = count_fate(&mut journal.tally, fate) {
         journal.note(stamp, note);
     }
-}
-
-// A datagram didn't leave: that is counted, and noted in the log.
-fn note_unsent(journal: &mut Journal, stamp: Stamp)
-    ensures tally { journal.new.tally ≡ with_send_fault journal.old.tally }
-    ensures rest { OnlyNotes journal.old journal.new }
-{
-    count(&mut journal.tally.send_faults);
-    journal.note(stamp, Note::Unsent);
 }
 
 // A packet is offered to the network that spoils it, at this moment of its clock, in ms.
@@ -345,11 +336,12 @@ impl<S: Surroundings + Drop> Wire<S> {
         match sent {
             Ok(()) => {}
             Err(_) => {
+                count(&mut self.journal.tally.send_faults);
                 let stamp = Stamp {
                     moment: self.now.time,
                     peer: to,
                 };
-                note_unsent(&mut self.journal, stamp);
+                self.journal.note(stamp, Note::Unsent);
             }
         }
     }
