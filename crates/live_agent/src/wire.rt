@@ -102,17 +102,8 @@ fn count_fate(tally: &mut Tally, fate: Fate) -> Option<Note>
     }
 }
 
-// What becomes of a packet is counted, and noted in the log.
-fn note_fate(journal: &mut Journal, stamp: Stamp, fate: Fate)
-    ensures tally { journal.new.tally ≡ with_fate fate journal.old.tally }
-    ensures rest { OnlyNotes journal.old journal.new }
-{
-    if let Some(note) = count_fate(&mut journal.tally, fate) {
-        journal.note(stamp, note);
-    }
-}
-
-// A packet is offered to the network that spoils it, at this moment of its clock, in ms.
+// A packet is offered to the network that spoils it, at this moment of its clock, in ms. What becomes of it is counted, and noted in the
+// log.
 fn offer_to(
     network: &mut BadNetwork,
     journal: &mut Journal,
@@ -125,10 +116,14 @@ fn offer_to(
     ensures offers { Offers way stamp.peer bytes.now clock network.old network.new journal.old.tally journal.new.tally }
     ensures notes { OnlyNotes journal.old journal.new }
 {
-    match network.offer(way, stamp.peer, bytes, clock) {
-        Ok(fate) => note_fate(journal, stamp, fate),
-        Err(_) => count(&mut journal.tally.refused),
-    }
+    let fate = match network.offer(way, stamp.peer, bytes, clock) {
+        Ok(fate) => fate,
+        Err(_) => return count(&mut journal.tally.refused),
+    };
+    let Some(note) = count_fate(&mut journal.tally, fate) else {
+        return;
+    };
+    journal.note(stamp, note);
 }
 
 /// That the program was stopped, and goes on at this moment, in microseconds since 1970, is put into the log.

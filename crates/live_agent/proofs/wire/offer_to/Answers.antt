@@ -1,13 +1,26 @@
 use Rattle.std.proofs.Common.{inl, inr, ap, ◌∙◌}
+use Rattle.agent_texts.specs.declared.journal.Journal.{Journal}
 use Rattle.bad_network.specs.declared.fate.Fate.{Fate}
 use Rattle.live_agent.specs.Tallying.{with_fate}
 use Rattle.live_agent.proofs.wire.offer_to.Goals as goal
 
-pub returns-in-Ok-clause-offers : goal.returns-in-Ok-clause-offers
-returns-in-Ok-clause-offers c = record {
+pub returns-in_default-clause-offers : goal.returns-in_default-clause-offers
+returns-in_default-clause-offers c = record {
   takes = inl (
     c.in-Ok.ensures.ok,
-    c.note_fate.ensures.tally ∙ ap (λ (fate : Fate). with_fate fate c.args.journal.now.tally) c.in-Ok.ensures.fate,
+    c.count_fate.ensures ∙ ap (λ (fate : Fate). with_fate fate c.args.journal.now.tally) c.in-Ok.ensures.fate,
+  );
+  spoiling = c.in-Ok.ensures.spoiling;
+  draws = c.in-Ok.ensures.generator;
+}
+
+pub returns-clause-offers : goal.returns-clause-offers
+returns-clause-offers c = record {
+  takes = inl (
+    c.in-Ok.ensures.ok,
+    ap (λ (journal : Journal). journal.tally) c.note.ensures.rest
+        ∙ c.count_fate.ensures
+        ∙ ap (λ (fate : Fate). with_fate fate c.args.journal.now.tally) c.in-Ok.ensures.fate,
   );
   spoiling = c.in-Ok.ensures.spoiling;
   draws = c.in-Ok.ensures.generator;
