@@ -79,33 +79,6 @@ fn tick_to(ticked: u64, moment: u64) -> u64
     moment.min(ticked.saturating_add(LONGEST_TICK))
 }
 
-// The agent of a gateway at this address with this domain and so many lines, which issues its commands from this id on.
-fn agent_of(
-    alloc: Global,
-    own: SocketAddrV4,
-    address: SocketAddrV4,
-    domain: Text,
-    lines: u16,
-    first: u32,
-) -> Result<Box<Agent>, OutOfMemory>
-    requires some { 1 ≤ first }
-    requires short { first ≤ 999999999 }
-    ensures stands { IfOk result (λ agent. AgentStands agent.value []) }
-    ensures setup { IfOk result (λ agent. agent.value.setup ≡ record {
-      own = routes.One own;
-      gateway = address;
-      domain = domain;
-      lines = lines;
-      first = first;
-    }) }
-{
-    let agent = Agent::new(alloc, Route::One(own), address, domain, lines, first)?;
-    match Box::new(alloc, agent) {
-        Ok(agent) => Ok(agent),
-        Err(_) => Err(AllocError),
-    }
-}
-
 // Room for one more command among those in flight, which is first sent to this address at this moment, in ms.
 fn room_among(
     alloc: Global,
@@ -204,7 +177,11 @@ impl Gateway {
     {
         let kept = copied(alloc, domain)?;
         let named = copied(alloc, domain)?;
-        let agent = agent_of(alloc, own, address, named, lines, first_id(time))?;
+        let first_id = first_id(time);
+        let agent = Agent::new(alloc, Route::One(own), address, named, lines, first_id)?;
+        let Ok(agent) = Box::new(alloc, agent) else {
+            return Err(AllocError);
+        };
         Ok(Gateway {
             agent,
             address,
