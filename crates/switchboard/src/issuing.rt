@@ -16,7 +16,7 @@ ghost use Rattle.switchboard.specs.TypedCommands.{IssuesThere, IssuesTyped};
 ghost use Rattle.call_office.specs.Waiting.{Touches};
 
 use crate::flight::Flight;
-use crate::gateway::{Gateway, Wake};
+use crate::gateway::Gateway;
 use crate::naming::has_domain;
 use crate::orders::{issue_by, issue_named};
 use crate::switchboard::Switchboard;
@@ -36,17 +36,6 @@ fn forget(office: &mut Option<Box<Office>>, line: usize)
     if let Some(office) = office {
         office.given_up(line);
     }
-}
-
-// The next line of the gateway at this place to which a command is sent again by now. It isn't put off any more.
-fn woken(gateways: &mut Vec<Gateway>, place: usize) -> Option<Wake>
-    ensures wake { result ≡ woken_at (slice_get gateways.old.items place) }
-    ensures gateway { AtPlace place Wakens gateways.old.items gateways.new.items }
-    ensures own { AtPlace place (λ was is. is ≡ record was { wakes = is.wakes }) gateways.old.items gateways.new.items }
-    ensures others { OthersStay place gateways.old.items gateways.new.items }
-{
-    let gateway = gateways.get_mut(place)?;
-    gateway.woken()
 }
 
 // The place of the gateway with this domain.
@@ -271,7 +260,10 @@ impl Switchboard {
         ensures others { OthersStay place self.old.gateways.items self.new.gateways.items }
         ensures rest { self.new ≡ record self.old { gateways = self.new.gateways; office = self.new.office } }
     {
-        let Some(wake) = woken(&mut self.gateways, place) else {
+        let Some(found) = self.gateways.get_mut(place) else {
+            return false;
+        };
+        let Some(wake) = found.woken() else {
             return false;
         };
         if let Some(office) = &mut self.office {
