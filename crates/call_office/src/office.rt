@@ -1,7 +1,7 @@
 //! The exchange in the program's hands: which command each line is sent, and what its answer means for the line's calls.
 //!
 //! Nothing goes over all lines but the opening: those to which something has happened wait, and are settled.
-ghost use Rattle.std.specs.Prelude.{◌≡◌, ◌≢◌, ◌⊎◌, ◌↔◌, ℕ, true, false, length, replicate, Some, IfOk, IfSome, IsTrue, is_none, OnOk, OnErr, option_map, slice_get, slice_set};
+ghost use Rattle.std.specs.Prelude.{◌≡◌, ◌≢◌, ◌⊎◌, ◌↔◌, ℕ, true, false, length, replicate, Some, IfOk, IfSome, IsTrue, is_none, OnOk, OnErr, option_map, slice_get};
 ghost use Rattle.call_routing.specs.Phases.{named_by};
 ghost use Rattle.call_routing.specs.declared.told.Told.TheVariants.{Flash};
 ghost use Rattle.call_routing.specs.declared.command.Outcome.TheVariants.{GivenUp};
@@ -69,13 +69,6 @@ impl Drop for Order {
     }
 }
 
-// Lines of which nothing is known.
-fn new_cares(alloc: Global, count: usize) -> Result<Vec<Care>, OutOfMemory>
-    ensures { IfOk result (λ cares. cares.items ≡ replicate count new_care) }
-{
-    vec![in alloc; NEW_CARE; count]
-}
-
 // Something happens to a line: it waits, and so does the other end of its call. To be said before and behind it.
 fn touch(worklist: &mut Worklist, exchange: &Exchange, line: usize)
     ensures line { IsWaiting worklist.new line }
@@ -86,16 +79,6 @@ fn touch(worklist: &mut Worklist, exchange: &Exchange, line: usize)
     worklist.put(line);
     if let Some(other) = named_by(exchange.phase(line)) {
         worklist.put(other);
-    }
-}
-
-// This is kept of a line from now on, if there is that one.
-#[tactic(auto, using(std::proofs::lemmas::List::set_past))]
-fn set_care(cares: &mut Vec<Care>, line: usize, care: Care)
-    ensures { cares.new.items ≡ slice_set cares.old.items line care }
-{
-    if line < cares.len() {
-        cares[line] = care;
     }
 }
 
@@ -111,11 +94,14 @@ fn change_at(cares: &mut Vec<Care>, line: usize, change: Change) -> Option<Care>
     ensures was { result ≡ slice_get cares.old.items line }
     ensures cares { cares.new.items ≡ cared (changed_by change) cares.old.items line }
 {
-    let was = care_at(cares.as_slice(), line)?;
-    let mut care = was;
-    care.change(change);
-    set_care(cares, line, care);
-    Some(was)
+    match cares.get_mut(line) {
+        Some(care) => {
+            let was = *care;
+            care.change(change);
+            Some(was)
+        }
+        None => None,
+    }
 }
 
 // What begins at a line of which this is kept.
@@ -476,7 +462,7 @@ impl Office {
         ensures all_wait { IfOk result (λ office. office.value.worklist.is_all ≡ true) }
     {
         let exchange = Exchange::new(alloc, count, 0)?;
-        let cares = new_cares(alloc, count)?;
+        let cares = vec![in alloc; NEW_CARE; count]?;
         let office = Office {
             exchange,
             cares,
