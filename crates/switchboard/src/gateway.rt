@@ -79,21 +79,6 @@ fn tick_to(ticked: u64, moment: u64) -> u64
     moment.min(ticked.saturating_add(LONGEST_TICK))
 }
 
-// Room for one more command among those in flight, which is first sent to this address at this moment, in ms.
-fn room_among(
-    alloc: Global,
-    flights: &mut Vec<Flight>,
-    to: SocketAddrV4,
-    moment: u64,
-) -> Result<Room, OutOfMemory>
-    ensures room { IfOk result (λ room. room ≡ sent_first 1 (routes.One to) [] moment) }
-    ensures free { OnOk result (vec_len flights.new < vec_capacity flights.new) }
-    ensures flights { flights.new.items ≡ flights.old.items }
-{
-    flights.reserve(1)?;
-    Room::new(alloc, to, moment)
-}
-
 // Whether an announcement under this id is new at a moment, in ms, behind the last one that was.
 fn is_new(announced: Option<(u32, u64)>, id: u32, now: u64) -> bool
     ensures { result ≡ is_new announced id now }
@@ -214,9 +199,11 @@ impl Gateway {
         ensures none_flies { OnErr result (self.new.flights.items ≡ self.old.flights.items) }
         ensures others { self.new ≡ record self.old { agent = self.new.agent; flights = self.new.flights } }
     {
-        let room = match room_among(alloc, &mut self.flights, self.address, self.ticked) {
-            Ok(room) => room,
-            Err(_) => return Err(IssueFault::OutOfMemory),
+        if self.flights.reserve(1).is_err() {
+            return Err(IssueFault::OutOfMemory);
+        }
+        let Ok(room) = Room::new(alloc, self.address, self.ticked) else {
+            return Err(IssueFault::OutOfMemory);
         };
         let issued = match self.agent.issue(verb, name, rest) {
             Ok(issued) => issued,
