@@ -71,18 +71,6 @@ fn beginning(text: &[u8]) -> &[u8]
     }
 }
 
-// Puts a text into the room that there is for it, as much of it as a datagram may have.
-fn put_into(mut room: Vec<u8>, text: &[u8]) -> Text
-    requires none { room.items ≡ [] }
-    requires free { largest_datagram ≤ vec_capacity room }
-    ensures { result ≡ take largest_datagram text.now }
-{
-    // There is room for it.
-    let _ = room.extend_from_slice(beginning(text));
-    room.shrink_to_fit();
-    Text::of(room)
-}
-
 impl Room {
     /// Room for a command that is first sent to this address at this moment, in ms. An error is for want of memory only.
     pub(crate) fn new(alloc: Global, to: SocketAddrV4, moment: u64) -> Result<Room, OutOfMemory>
@@ -101,11 +89,14 @@ impl Room {
     pub(crate) fn filled(self, issued: &Issued) -> OwnCopy
         ensures { result ≡ record self { id = issued.now.id; text = take largest_datagram issued.now.datagram.bytes } }
     {
-        let Room { timing, text } = self;
+        let Room { timing, mut text } = self;
+        // There is room for it.
+        let _ = text.extend_from_slice(beginning(issued.datagram.bytes.as_bytes()));
+        text.shrink_to_fit();
         OwnCopy {
             timing,
             id: issued.id,
-            text: put_into(text, issued.datagram.bytes.as_bytes()),
+            text: Text::of(text),
         }
     }
 }
