@@ -2,7 +2,7 @@
 ghost use Rattle.std.specs.Prelude.{◌≡◌, true, false, IfSome, slice_get};
 ghost use Rattle.agent_texts.specs.Counts.{with_notification, with_strange_name};
 ghost use Rattle.switchboard.specs.Boards.{taking_in};
-ghost use Rattle.switchboard.specs.Hearing.{is_new_to, is_strange, AnnouncesWith, AnswersAt, NotesAt};
+ghost use Rattle.switchboard.specs.Hearing.{is_new_to, is_strange, AnswersAt, NotesAt};
 ghost use Rattle.switchboard.specs.Hearing.{announcement_counted, command_counted, message_counted, response_counted};
 ghost use Rattle.switchboard.specs.Hearing.{HearsAnnouncement, HearsCommand, HearsMessage, HearsNotification, HearsResponse, HearsText};
 ghost use Rattle.call_office.specs.Steps.{HearsSome};
@@ -125,18 +125,6 @@ impl Switchboard {
         }
     }
 
-    // The lines of a gateway that a name means are announced by this word.
-    fn announce_as(&mut self, place: usize, name: &[u8], method: &[u8])
-        ensures office { AnnouncesWith method.now name.now (slice_get self.old.gateways.items place) self.old.office self.new.office }
-        ensures rest { self.new ≡ record self.old { office = self.new.office } }
-    {
-        if same_no_case(method, b"restart") {
-            self.announce(place, name, true);
-        } else if same_no_case(method, b"disconnected") {
-            self.announce(place, name, false);
-        }
-    }
-
     // An announcement came (RFC 3435, 2.3.12).
     fn hear_announcement(
         &mut self,
@@ -155,7 +143,13 @@ impl Switchboard {
         }
         let method = method_of(params);
         journal.tell_announcement(name, method);
-        self.announce_as(place, name, method);
+        if same_no_case(method, b"restart") {
+            return self.announce(place, name, true);
+        }
+        if !same_no_case(method, b"disconnected") {
+            return;
+        }
+        self.announce(place, name, false);
     }
 
     // A notification came: what the agent took of it is to be taken of its line.
