@@ -10,7 +10,6 @@ use crate::reception::PageReception;
 use crate::recording::Recording;
 use crate::replaying::{REPLAY, replay_trace};
 use crate::telling::{TELL, tell_line};
-use crate::words::read_words;
 use exchange_log::put_peer;
 use gateway_core::Gateway;
 use live_ends::{CaptureFiles, CommonEnding, Live, begin, end, open_capture, read_file};
@@ -21,7 +20,7 @@ use mg_bytes::Draft;
 use plain_machine::Setup;
 use rgw_scenes::{flaw_of, read_config, told, told_setup};
 use rgw_scripts::LIMIT;
-use rgwd_words::{Begun, Ending, Said, Settings, Start};
+use rgwd_words::{Begun, Ending, Said, Settings, Start, read_words};
 use std::alloc::{AllocError, Global};
 use std::io::ErrorKind;
 use std::net::{Net, SocketAddrV4};
@@ -287,7 +286,7 @@ fn said_by<R: AllocGlobal + Files + Net + Clock + RandomSource + Clone + Drop, P
     if let Some(asked) = words_behind(REPLAY, words) {
         return replay_trace(rt, asked, recording);
     }
-    let settings = match read_words(alloc, words, recording) {
+    let settings = match read_words(alloc, words, &mut recording.outlets.error) {
         Ok(settings) => settings,
         Err(ending) => return ending.said_of_no_file(alloc),
     };

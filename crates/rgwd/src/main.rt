@@ -9,7 +9,6 @@ mod reception;
 mod recording;
 mod replaying;
 mod telling;
-mod words;
 
 use crate::app::run_on_site;
 use std::process::ExitCode;

@@ -11,16 +11,17 @@ ghost use Rattle.rgwd_words.specs.Parting.{parting_of};
 ghost use Rattle.rgwd_words.specs.Statuses.{fails};
 
 use crate::ending::Ending;
-use crate::help::{LISTEN, PHONES};
+use crate::help::{LISTEN, PHONES, USAGE};
 use crate::parted::parting_of;
 use bad_network::Spoiling;
-use clap::ArgMatches;
-use command_words::Kind;
-use live_ends::{AddressWord, CommonEnding, FileNames, Parting, address_in, network_in};
-use live_outlets::boxed;
+use clap::{ArgMatches, Command};
+use command_words::{Kind, matches_in};
+use live_ends::{AddressWord, CommonEnding, FileNames, Parting, VERSION, address_in, network_in};
+use live_outlets::{Outlet, boxed};
 use new_start::{FirstNumber, spread_in};
 use page_access::HostNames;
 use std::alloc::{AllocError, Global};
+use std::io::Write;
 use std::net::SocketAddrV4;
 use surroundings::Speakers;
 
@@ -424,4 +425,20 @@ pub fn settings_in<'a>(alloc: Global, matches: &ArgMatches<'a>) -> Result<Box<Se
         Ok(sockets) => settings_with(alloc, matches, config, first, sockets),
         Err(ending) => Err(ending),
     }
+}
+
+/// Reads the words of a command line, of which the first is the program's name; this outlet says which are wrong.
+pub fn read_words<'a, F: Write + Drop>(
+    alloc: Global,
+    words: &'a [String],
+    said: &mut Outlet<F>,
+) -> Result<Box<Settings<'a>>, Ending> {
+    let command = Command::new(alloc, "rgwd")
+        .version(VERSION)
+        .override_usage(USAGE);
+    let matches = match matches_in(alloc, command, &WORDS, words, said) {
+        Ok(matches) => matches,
+        Err(ending) => return Err(Ending::Common(ending)),
+    };
+    settings_in(alloc, &matches)
 }
