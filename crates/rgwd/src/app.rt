@@ -281,10 +281,10 @@ fn said_by<R: AllocGlobal + Files + Net + Clock + RandomSource + Clone + Drop, P
 ) -> Said {
     let alloc = rt.alloc();
     if let Some(asked) = words_behind(TELL, words) {
-        return tell_line(rt, asked, recording).said_of_no_file(alloc);
+        return tell_line(rt, asked, &mut recording.outlets.output).said_of_no_file(alloc);
     }
     if let Some(asked) = words_behind(REPLAY, words) {
-        return replay_trace(rt, asked, recording);
+        return replay_trace(rt, asked, &mut recording.outlets);
     }
     let settings = match read_words(alloc, words, &mut recording.outlets.error) {
         Ok(settings) => settings,

@@ -3,8 +3,8 @@ ghost use Rattle.std.specs.Prelude.{◌≡◌, [], ◌∷◌, ◌++◌, codes, I
 ghost use Rattle.rgwd_words.specs.Names.{Says};
 ghost use Rattle.rgwd.specs.Endings.{replayed_by};
 
-use crate::recording::Recording;
 use live_ends::{CommonEnding, FileNames};
+use live_outlets::Outlets;
 use mg_bytes::Draft;
 use rgwd_words::{Ending, Said, unless_help};
 use std::alloc::{AllocError, Global};
@@ -40,7 +40,7 @@ fn ending_by(verdict: &Verdict) -> Ending
 
 // Replays the trace in this file, and says on standard output what is found; of what is no trace on standard error: how the program ends by
 // that.
-fn replayed<R: AllocGlobal + Files>(rt: &R, file: &str, recording: &mut Recording<R>) -> Ending {
+fn replayed<R: AllocGlobal + Files>(rt: &R, file: &str, outlets: &mut Outlets<R::File>) -> Ending {
     let alloc = rt.alloc();
     let opened = match File::open(rt, file) {
         Ok(opened) => opened,
@@ -63,9 +63,9 @@ fn replayed<R: AllocGlobal + Files>(rt: &R, file: &str, recording: &mut Recordin
         let Ok(said) = broken_text(alloc, file, text.as_slice()) else {
             return Ending::Common(CommonEnding::OutOfMemory);
         };
-        recording.outlets.error.say(said.as_slice());
+        outlets.error.say(said.as_slice());
     } else {
-        recording.outlets.output.say(text.as_slice());
+        outlets.output.say(text.as_slice());
     }
     ending_by(&verdict)
 }
@@ -75,7 +75,7 @@ fn replayed<R: AllocGlobal + Files>(rt: &R, file: &str, recording: &mut Recordin
 pub fn replay_trace<R: AllocGlobal + Files>(
     rt: &R,
     words: &[String],
-    recording: &mut Recording<R>,
+    outlets: &mut Outlets<R::File>,
 ) -> Said
     ensures { (file : _) → words.now ≡ file ∷ []
         → IfOk result.text (λ text. Says (string_bytes file) [] result.ending text.items) }
@@ -84,7 +84,7 @@ pub fn replay_trace<R: AllocGlobal + Files>(
         [file] => {
             let word = file.as_str();
             let ending = match unless_help(word) {
-                Ok(file) => replayed(rt, file, recording),
+                Ok(file) => replayed(rt, file, outlets),
                 Err(ending) => ending,
             };
             let files = FileNames {

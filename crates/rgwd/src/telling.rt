@@ -1,11 +1,12 @@
 //! Sends a line to a gateway's telephones, and prints what they answer.
 ghost use Rattle.rgwd_words.specs.Opening.{Unanswered};
 
-use crate::recording::Recording;
 use live_ends::{AddressWord, AskFault, CommonEnding, address_in, ask};
+use live_outlets::Outlet;
 use rgwd_words::{Ending, unless_help};
+use std::io::Write;
 use std::net::{Net, SocketAddrV4};
-use std::rt::{Clock, Files};
+use std::rt::Clock;
 
 /// The word that asks for it, which is the first.
 pub const TELL: &str = "--tell";
@@ -25,11 +26,11 @@ fn unanswered(address: SocketAddrV4, fault: AskFault) -> Ending
 }
 
 /// Sends the line that the words behind `--tell` say to the telephones at the address that they name, where no socket has port 0, and
-/// prints the answer: how the program ends by that.
-pub fn tell_line<R: AllocGlobal + Files + Net + Clock>(
+/// prints the answer at this outlet: how the program ends by that.
+pub fn tell_line<R: AllocGlobal + Net + Clock, F: Write + Drop>(
     rt: &R,
     words: &[String],
-    recording: &mut Recording<R>,
+    output: &mut Outlet<F>,
 ) -> Ending {
     let (Some(word), Some(line)) = (words.first(), words.get(1..)) else {
         return Ending::Common(CommonEnding::Usage);
@@ -58,7 +59,7 @@ pub fn tell_line<R: AllocGlobal + Files + Net + Clock>(
     };
     match ask(rt, address, line.as_bytes(), &mut room) {
         Ok(()) => {
-            recording.outlets.output.say(room.as_slice());
+            output.say(room.as_slice());
             Ending::Answered
         }
         Err(fault) => unanswered(address, fault),
