@@ -5,13 +5,6 @@ ghost use Rattle.live_play.specs.Readable.{IsAddress};
 
 use std::net::{Ipv4Addr, SocketAddrV4};
 
-fn read_byte(byte: u8) -> u8
-    ensures value { result ≡ byte }
-    ensures small { result < 256 }
-{
-    byte
-}
-
 // The octets of an address: four, each of eight bits.
 fn octets_of(host: Ipv4Addr) -> [u8; 4]
     ensures value { result ≡ host.octets }
@@ -40,8 +33,4 @@ pub(crate) fn read_address(address: SocketAddrV4)
 /// Bytes are such.
 pub(crate) fn read_bytes(bytes: &[u8])
     ensures { AllByRecursion (λ byte. byte < 256) bytes.now }
-{
-    for byte in bytes {
-        let _byte = read_byte(*byte);
-    }
-}
+{}
