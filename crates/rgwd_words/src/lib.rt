@@ -13,5 +13,6 @@ pub use crate::ending::{Ending, Said};
 pub use crate::help::USAGE;
 pub use crate::starting::{Begun, Start};
 pub use crate::words::{
-    ListFault, Settings, Sockets, WORDS, hosts_in, read_words, settings_in, speakers_in, unless_help,
+    ListFault, Settings, Sockets, WORDS, hosts_in, read_words, settings_in, speakers_in,
+    unless_help,
 };
