@@ -1,4 +1,4 @@
-//! The program `rgwd`: what it opens and serves as its words ask, what it tells a gateway that runs, and how it replays a trace.
+//! The program `rgwd`: what it opens and serves as its words ask, and how it replays a trace.
 #![tactic(auto)]
 
 mod app;
@@ -8,7 +8,6 @@ mod opening;
 mod reception;
 mod recording;
 mod replaying;
-mod telling;
 
 use crate::app::run_on_site;
 use std::process::ExitCode;

@@ -1,9 +1,10 @@
 //! Sends a line to a gateway's telephones, and prints what they answer.
 ghost use Rattle.rgwd_words.specs.Opening.{Unanswered};
 
+use crate::ending::Ending;
+use crate::words::unless_help;
 use live_ends::{AddressWord, AskFault, CommonEnding, address_in, ask};
 use live_outlets::Outlet;
-use rgwd_words::{Ending, unless_help};
 use std::io::Write;
 use std::net::{Net, SocketAddrV4};
 use std::rt::Clock;
