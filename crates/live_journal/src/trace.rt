@@ -65,8 +65,8 @@ fn put_head(alloc: Global, out: &mut Vec<u8>, config: &[u8], first: u32) -> Resu
 }
 
 impl Trace {
-    /// A trace that has its head, where one is asked for: the text of the configuration, and the number with which ids begin. Nothing of it is
-    /// kept yet: so all the room is left that it doesn't take itself.
+    /// A trace that has its head, where one is asked for: the text of the configuration, and the number with which ids begin. Nothing of it
+    /// is kept yet: so all the room is left that it doesn't take itself.
     #[tactic(auto, using(told_messages::proofs::RecordLemmas::putting))]
     pub fn new(alloc: Global, is_on: bool, config: &[u8], first: u32) -> Trace
         ensures head { Begins is_on (trace_head config.now first) result.record }
