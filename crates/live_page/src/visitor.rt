@@ -33,7 +33,6 @@ const LIMITS: Config = Config {
 };
 
 /// A visitor.
-#[derive(Drop)]
 pub(crate) struct Visitor {
     stream: TcpStream,
     connection: Connection,
@@ -46,6 +45,26 @@ pub(crate) struct Visitor {
     pub(crate) deadline: u64,
     /// Whether it has more to do at once.
     pub(crate) has_turn: bool,
+}
+
+// Written out: of a derived drop all that a connection is made of is proved anew by each crate that lets one go. Its own crate takes it
+// apart, and gives its two buffers.
+impl Drop for Visitor {
+    fn drop(self) {
+        let Visitor {
+            stream,
+            connection,
+            may_read: _,
+            may_write: _,
+            seat: _,
+            deadline: _,
+            has_turn: _,
+        } = self;
+        drop(stream);
+        let (unread, pending) = connection.into_buffers();
+        drop(unread);
+        drop(pending);
+    }
 }
 
 // Whether a fault of a socket says only that it isn't ready.
