@@ -1,4 +1,4 @@
-use Rattle.std.proofs.Common.{◌≡◌, ℕ, List, ◌++◌, subst, string_bytes, rules}
+use Rattle.std.proofs.Common.{◌≡◌, ℕ, List, ◌++◌, subst, string_bytes, arith, rules}
 use Rattle.std.specs.Prelude.{OnOk}
 use Rattle.std.specs.Str.Lossy.{utf8_lossy}
 use Rattle.gateway_checks.proofs.PutLemmas.{put_four, suite_put}
@@ -10,5 +10,5 @@ returns c =
     subst
     (λ (put : List ℕ). OnOk c.append.result (string_bytes c.append.new.out ≡ string_bytes c.args.out.now ++ utf8_lossy put))
     (suite_put _ c.args.cases.now _ _ _ _ _ _ c.args.tally.now c.new-suite.ensures head c.put_plain.ensures
-    c.put-2.ensures c.all_in-all.ensures (search rules) c.skipped_in-skipped.ensures)
+    c.put-2.ensures (omega arith) (search rules) c.skipped_in-skipped.ensures)
     c.append.ensures
