@@ -27,17 +27,6 @@ fn unsent(fault: io::Error) -> AskFault {
     }
 }
 
-// How long an answer is still waited for, in ms; nothing where the clock can't be read.
-fn time_left<R: Clock>(rt: &R, start: Instant) -> Option<u64> {
-    match start.elapsed(rt) {
-        Ok(passed) => {
-            let passed = u64::try_from(passed.as_millis()).unwrap_or(u64::MAX);
-            Some(LONGEST_WAIT.saturating_sub(passed))
-        }
-        Err(_) => None,
-    }
-}
-
 // What came of waiting.
 enum Heard {
     // The answer, of so many bytes.
@@ -74,11 +63,15 @@ fn hear<R: Clock>(rt: &R, socket: &UdpSocket, room: &mut Vec<u8>) -> Result<(), 
         return Err(AskFault::Clock);
     };
     for _ in 0..u16::MAX {
-        let left = match time_left(rt, start) {
-            Some(0) => break,
-            Some(left) => left,
-            None => return Err(AskFault::Clock),
+        let passed = match start.elapsed(rt) {
+            Ok(passed) => u64::try_from(passed.as_millis()).unwrap_or(u64::MAX),
+            Err(_) => return Err(AskFault::Clock),
         };
+        // How long an answer is still waited for, in ms.
+        let left = LONGEST_WAIT.saturating_sub(passed);
+        if left == 0 {
+            break;
+        }
         match take_from_peer(socket, left, room.as_mut_slice()) {
             Ok(Heard::Answer { length }) => {
                 room.truncate(length);
