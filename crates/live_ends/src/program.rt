@@ -15,17 +15,6 @@ use std::rt::{Clock, Env, Files};
 /// What is said where memory is refused.
 pub const OUT_OF_MEMORY: &[u8] = b"out of memory\n";
 
-// The program's words, of which the first is its name, or how it ends without them.
-fn words_of<R: AllocGlobal + Env>(rt: &R) -> Result<Vec<String>, CommonEnding> {
-    match env::args(rt) {
-        Ok(args) => match args.collect::<Vec<String>>(rt.alloc()) {
-            Ok(words) => Ok(words),
-            Err(_) => Err(CommonEnding::OutOfMemory),
-        },
-        Err(fault) => Err(CommonEnding::wordless(fault.kind())),
-    }
-}
-
 /// What a program has where it begins.
 pub struct Begun<F> {
     /// Its words, of which the first is its name, or how it ends without them.
@@ -74,8 +63,15 @@ where
         let _ = Stream::error(rt).take(OUT_OF_MEMORY);
         return None;
     };
+    let words = match env::args(rt) {
+        Ok(args) => match args.collect::<Vec<String>>(rt.alloc()) {
+            Ok(words) => Ok(words),
+            Err(_) => Err(CommonEnding::OutOfMemory),
+        },
+        Err(fault) => Err(CommonEnding::wordless(fault.kind())),
+    };
     Some(Begun {
-        words: words_of(rt),
+        words,
         outlets,
         held,
     })
