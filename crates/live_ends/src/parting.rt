@@ -45,17 +45,6 @@ impl Drop for CaptureFiles {
     }
 }
 
-// The folder of a file, and its name there.
-fn sides_of(file: &str) -> (&str, &str) {
-    let Some((folder, name)) = file.rsplit_once('/') else {
-        return (".", file);
-    };
-    if folder.is_empty() {
-        return ("/", name);
-    }
-    (folder, name)
-}
-
 // The number that a file's name has behind this one, if it has one.
 fn number_behind(name: &[u8], found: &[u8]) -> Option<u64>
     ensures { result ≡ number_behind name.now found.now }
@@ -93,7 +82,12 @@ fn numbers_of<R: Files + Alloc + Clone + Drop>(
     alloc: Global,
     file: &str,
 ) -> Result<Vec<u64>, ErrorKind> {
-    let (folder, name) = sides_of(file);
+    let (before, name) = match file.rsplit_once('/') {
+        Some(sides) => sides,
+        None => (".", file),
+    };
+    // Nothing stands before the name of a file of the root.
+    let folder = if before.is_empty() { "/" } else { before };
     let entries = match read_dir(rt, folder) {
         Ok(entries) => entries,
         Err(fault) => return Err(fault.kind()),
