@@ -4,7 +4,6 @@ ghost use Rattle.std.specs.List.{list_any};
 ghost use Rattle.live_ends.specs.Looking.{no_visit, is_visit, has_visits};
 
 use live_outlets::boxed;
-use mio::event::Event;
 use mio::net::{TcpListener, TcpStream, UdpSocket};
 use mio::{Events, Interest, Poll, Token};
 use std::alloc::Global;
@@ -58,12 +57,6 @@ fn watch_both(poll: &Poll, socket: &mut UdpSocket, commands: &mut UdpSocket) -> 
         Ok(()) => registry.register(commands, Token(COMMANDS), Interest::READABLE),
         Err(fault) => Err(fault),
     }
-}
-
-// What an event tells of a visitor's socket.
-fn note_visit(visit: &mut Visit, event: &Event) {
-    visit.is_readable = visit.is_readable || event.is_readable() || event.is_read_closed();
-    visit.is_writable = visit.is_writable || event.is_writable();
 }
 
 // Whether something was told of a visitor's socket.
@@ -157,7 +150,10 @@ impl Readiness {
                 LISTENER => self.listener = true,
                 token => {
                     if let Some(visit) = self.visits.get_mut(token.saturating_sub(FIRST_VISITOR)) {
-                        note_visit(visit, event);
+                        visit.is_readable = visit.is_readable
+                            || event.is_readable()
+                            || event.is_read_closed();
+                        visit.is_writable = visit.is_writable || event.is_writable();
                     }
                 }
             }
