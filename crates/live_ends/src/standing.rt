@@ -1,20 +1,11 @@
 //! The standard streams of a program that was started without some of them.
 use std::alloc::Global;
 use std::fs::OpenOptions;
-use std::io;
 use std::os::fd::AsRawFd;
 use std::rt::Files;
 
 // The last number of a standard stream.
 const LAST: i32 = 2;
-
-// The null device, opened once more.
-fn null_device<R: Files>(rt: &R) -> io::Result<R::File> {
-    OpenOptions::new()
-        .read(true)
-        .write(true)
-        .open(rt, "/dev/null")
-}
 
 /// Holds the null device at those numbers of standard streams that aren't open, so that no file and no socket that is opened later
 /// comes to stand there; none where it can't be had. To be called first, and kept to the end.
@@ -24,7 +15,11 @@ where
 {
     let mut held = Vec::new(alloc);
     for _ in 0..=LAST {
-        let Ok(file) = null_device(rt) else {
+        let Ok(file) = OpenOptions::new()
+            .read(true)
+            .write(true)
+            .open(rt, "/dev/null")
+        else {
             return Vec::new(alloc);
         };
         if file.as_raw_fd() > LAST {
