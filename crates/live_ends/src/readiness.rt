@@ -1,7 +1,6 @@
 //! Which sockets may have something, as the system tells it.
 ghost use Rattle.std.specs.Prelude.{◌≡◌, replicate};
-ghost use Rattle.std.specs.List.{list_any};
-ghost use Rattle.live_ends.specs.Looking.{no_visit, is_visit, has_visits};
+ghost use Rattle.live_ends.specs.Looking.{no_visit, has_visits};
 
 use live_outlets::boxed;
 use mio::net::{TcpListener, TcpStream, UdpSocket};
@@ -57,18 +56,6 @@ fn watch_both(poll: &Poll, socket: &mut UdpSocket, commands: &mut UdpSocket) -> 
         Ok(()) => registry.register(commands, Token(COMMANDS), Interest::READABLE),
         Err(fault) => Err(fault),
     }
-}
-
-// Whether something was told of a visitor's socket.
-fn is_any_visit(visits: &[Visit]) -> bool
-    ensures { result ≡ list_any is_visit visits.now }
-{
-    for visit in visits {
-        if visit.is_readable || visit.is_writable {
-            return true;
-        }
-    }
-    false
 }
 
 impl Readiness {
@@ -131,7 +118,15 @@ impl Readiness {
     pub fn has_visits(&self) -> bool
         ensures { result ≡ has_visits self.now.listener self.now.visits }
     {
-        self.listener || is_any_visit(&self.visits)
+        if self.listener {
+            return true;
+        }
+        for visit in self.visits.as_slice() {
+            if visit.is_readable || visit.is_writable {
+                return true;
+            }
+        }
+        false
     }
 
     /// Waits until something comes, but no longer than this, in ms.
