@@ -1,10 +1,10 @@
 //! Reads what the page asks to be done.
 ghost use Rattle.std.specs.Prelude.{◌≡◌, IfOk, IfSome, IsUtf8, Some, None};
 ghost use Rattle.serde_json.specs.View.{view};
-ghost use Rattle.page_answers.specs.Acting.{line_in as line_of, act_in as act_of, queued_in as queued_of, asked_by};
+ghost use Rattle.page_answers.specs.Acting.{line_in as line_of, queued_in as queued_of, asked_by};
 
 use mg_bytes::OutOfMemory;
-use page_board::{PhoneAct, QueuedAct, act_named};
+use page_board::{QueuedAct, act_named};
 use serde_json::Value;
 use std::alloc::{AllocError, Global};
 
@@ -18,19 +18,13 @@ fn line_in(value: &Value) -> Option<u16>
     Some(number as u16)
 }
 
-fn act_in(value: &Value) -> Option<PhoneAct>
-    ensures { result ≡ act_of (view value.now) }
-{
-    let word = value.get("act")?.as_str()?;
-    act_named(word.as_bytes())
-}
-
 #[tactic(auto, unfolding(crate::specs::Acting::queued_in))]
 fn queued_in(value: &Value) -> Option<QueuedAct>
     ensures { result ≡ queued_of (view value.now) }
 {
     let line = line_in(value)?;
-    let act = act_in(value)?;
+    let word = value.get("act")?.as_str()?;
+    let act = act_named(word.as_bytes())?;
     Some(QueuedAct { line, act })
 }
 
