@@ -1,31 +1,27 @@
 //! Reads what the page asks to be done.
 ghost use Rattle.std.specs.Prelude.{◌≡◌, IfOk, IfSome, IsUtf8, Some, None};
 ghost use Rattle.serde_json.specs.View.{view};
-ghost use Rattle.page_answers.specs.Acting.{line_in as line_of, queued_in as queued_of, asked_by};
+ghost use Rattle.page_answers.specs.Acting.{queued_in as queued_of, asked_by};
 
 use mg_bytes::OutOfMemory;
 use page_board::{QueuedAct, act_named};
 use serde_json::Value;
 use std::alloc::{AllocError, Global};
 
-fn line_in(value: &Value) -> Option<u16>
-    ensures { result ≡ line_of (view value.now) }
+#[tactic(auto, unfolding(crate::specs::Acting::queued_in))]
+fn queued_in(value: &Value) -> Option<QueuedAct>
+    ensures { result ≡ queued_of (view value.now) }
 {
     let number = value.get("line")?.as_u64()?;
     if number < 1 || number > 65535 {
         return None;
     }
-    Some(number as u16)
-}
-
-#[tactic(auto, unfolding(crate::specs::Acting::queued_in))]
-fn queued_in(value: &Value) -> Option<QueuedAct>
-    ensures { result ≡ queued_of (view value.now) }
-{
-    let line = line_in(value)?;
     let word = value.get("act")?.as_str()?;
     let act = act_named(word.as_bytes())?;
-    Some(QueuedAct { line, act })
+    Some(QueuedAct {
+        line: number as u16,
+        act,
+    })
 }
 
 /// What a body asks to be done: an object of JSON with a number `line` and a text `act`; `None` for any other.
