@@ -150,37 +150,33 @@ fn act(
     Ok(())
 }
 
-// How a request that gets nothing is answered.
-fn refusal(asked: Asked) -> StatusCode
-    ensures { result ≡ refusal_status asked }
-{
-    match asked {
-        Asked::Strange => StatusCode::MISDIRECTED_REQUEST,
-        Asked::Forbidden => StatusCode::FORBIDDEN,
-        Asked::Unsuited { .. } => StatusCode::METHOD_NOT_ALLOWED,
-        Asked::Missing | Asked::Reading { .. } | Asked::Acting => StatusCode::NOT_FOUND,
-    }
-}
-
 // Says that a request gets nothing, and which method suits a path at which something is done, or read.
 fn put_refusal(response: &mut Response, asked: Asked) -> Result<(), AllocError>
     ensures status { response.new.status ≡ refusal_status asked }
     ensures body { response.new.body ≡ response.old.body }
     ensures fields { OnOk result (fields_of response.new ≡ fields_of response.old ++ refusal_fields asked) }
 {
-    response.status = refusal(asked);
     match asked {
+        Asked::Strange => {
+            response.status = StatusCode::MISDIRECTED_REQUEST;
+            Ok(())
+        }
+        Asked::Forbidden => {
+            response.status = StatusCode::FORBIDDEN;
+            Ok(())
+        }
         Asked::Unsuited { acts: true } => {
+            response.status = StatusCode::METHOD_NOT_ALLOWED;
             response.add_header(header::ALLOW, HeaderValue::from_static("POST"))
         }
         Asked::Unsuited { acts: false } => {
+            response.status = StatusCode::METHOD_NOT_ALLOWED;
             response.add_header(header::ALLOW, HeaderValue::from_static("GET"))
         }
-        Asked::Strange
-        | Asked::Forbidden
-        | Asked::Missing
-        | Asked::Reading { .. }
-        | Asked::Acting => Ok(()),
+        Asked::Missing | Asked::Reading { .. } | Asked::Acting => {
+            response.status = StatusCode::NOT_FOUND;
+            Ok(())
+        }
     }
 }
 
