@@ -1,7 +1,7 @@
 //! The fields that answers go with.
 ghost use Rattle.std.specs.Prelude.{◌≡◌, ◌++◌, OnOk};
 ghost use Rattle.http_server.specs.Response.{fields_of};
-ghost use Rattle.live_page.specs.Fields.{kind_of, policy, kept_fields, kind_fields};
+ghost use Rattle.live_page.specs.Fields.{kind_of, policy, kind_fields};
 
 use http::{HeaderValue, header};
 use http_server::Response;
@@ -41,27 +41,18 @@ fn policy() -> HeaderValue
     )
 }
 
-// Puts the kind, which no browser guesses, of what none keeps.
-fn put_kept(response: &mut Response, content: Content) -> Result<(), AllocError>
-    ensures status { response.new.status ≡ response.old.status }
-    ensures body { response.new.body ≡ response.old.body }
-    ensures fields { OnOk result (fields_of response.new ≡ fields_of response.old ++ kept_fields content) }
-{
-    response.add_header(header::CONTENT_TYPE, kind_of(content))?;
-    response.add_header(header::CACHE_CONTROL, HeaderValue::from_static("no-store"))?;
-    response.add_header(
-        header::X_CONTENT_TYPE_OPTIONS,
-        HeaderValue::from_static("nosniff"),
-    )
-}
-
 /// Puts what this kind of content goes with: no browser keeps it, guesses another kind, shows it in another's frame, or tells of it.
 pub(crate) fn put_kind(response: &mut Response, content: Content) -> Result<(), AllocError>
     ensures status { response.new.status ≡ response.old.status }
     ensures body { response.new.body ≡ response.old.body }
     ensures fields { OnOk result (fields_of response.new ≡ fields_of response.old ++ kind_fields content) }
 {
-    put_kept(response, content)?;
+    response.add_header(header::CONTENT_TYPE, kind_of(content))?;
+    response.add_header(header::CACHE_CONTROL, HeaderValue::from_static("no-store"))?;
+    response.add_header(
+        header::X_CONTENT_TYPE_OPTIONS,
+        HeaderValue::from_static("nosniff"),
+    )?;
     response.add_header(header::X_FRAME_OPTIONS, HeaderValue::from_static("DENY"))?;
     response.add_header(
         header::REFERRER_POLICY,
