@@ -5,7 +5,7 @@ ghost use Rattle.std.specs.Str.{str_to_ascii_uppercase};
 ghost use Rattle.std.specs.Str.Lossy.{utf8_lossy};
 ghost use Rattle.gateway_checks.specs.Naming.{meaning_in, meaning_of, value_kept, endpoint_name};
 ghost use Rattle.gateway_checks.specs.Naming.{value_meant, is_brace, piece_filled, filled_by, value_under, filled};
-ghost use Rattle.gateway_checks.specs.Naming.{id_by, id_in, is_own, differ, names_kept, kept_with};
+ghost use Rattle.gateway_checks.specs.Naming.{id_in, is_own, differ, names_kept, kept_with};
 ghost use Rattle.gateway_checks.specs.Sending.{datagram};
 
 use crate::signs::{ended, put_signs};
@@ -82,16 +82,6 @@ fn put_upper(out: &mut Draft, text: &[u8])
 {
     for byte in text {
         out.put_byte(byte.to_ascii_uppercase());
-    }
-}
-
-// The id that a number is; 0 where it is none, or is too large for one.
-fn id_by(number: Option<u64>) -> u32
-    ensures { result ≡ id_by number }
-{
-    match number {
-        Some(number) if number <= u64::from(u32::MAX) => number as u32,
-        Some(_) | None => 0,
     }
 }
 
@@ -294,7 +284,11 @@ impl<'a> Names<'a> {
         ensures { IfOk result (λ id. id ≡ id_in self.now text.now) }
     {
         let digits = self.filled(text)?;
-        Ok(id_by(decimal(digits.as_bytes())))
+        match decimal(digits.as_bytes()) {
+            Some(number) if number <= u64::from(u32::MAX) => Ok(number as u32),
+            // It is too large for an id, or the text says none.
+            Some(_) | None => Ok(0),
+        }
     }
 
     /// Whether two texts stand for different values.
