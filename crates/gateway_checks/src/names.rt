@@ -8,7 +8,7 @@ ghost use Rattle.gateway_checks.specs.Naming.{value_meant, is_brace, piece_fille
 ghost use Rattle.gateway_checks.specs.Naming.{id_in, is_own, differ, names_kept, kept_with};
 ghost use Rattle.gateway_checks.specs.Sending.{datagram};
 
-use crate::signs::{ended, put_signs};
+use crate::signs::put_signs;
 use crate::texts::{put_plain, text_of};
 use mg_bytes::{Draft, OutOfMemory, decimal, split_once};
 use std::alloc::Global;
@@ -307,6 +307,11 @@ impl<'a> Names<'a> {
         let text = self.filled(text)?;
         let mut written = Draft::new(self.alloc);
         put_signs(&mut written, text.as_bytes());
-        ended(written)
+        let mut bytes = written.end()?;
+        if bytes.as_slice().ends_with(b"\n") {
+            return Ok(bytes);
+        }
+        bytes.extend_from_slice(b"\r\n")?;
+        Ok(bytes)
     }
 }

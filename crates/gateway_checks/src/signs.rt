@@ -1,8 +1,8 @@
 //! Signs of a datagram's text, and what they stand for.
-ghost use Rattle.std.specs.Prelude.{◌≡◌, ◌++◌, IfOk};
-ghost use Rattle.gateway_checks.specs.Sending.{sign_at, stands_for, bytes_behind, put_at, left_behind, written_out, ended};
+ghost use Rattle.std.specs.Prelude.{◌≡◌, ◌++◌};
+ghost use Rattle.gateway_checks.specs.Sending.{sign_at, stands_for, bytes_behind, put_at, left_behind, written_out};
 
-use mg_bytes::{Draft, OutOfMemory};
+use mg_bytes::Draft;
 
 // A sign.
 enum Sign {
@@ -77,16 +77,4 @@ pub(crate) fn put_signs(out: &mut Draft, text: &[u8])
         left = put_front(out, left, *byte, rest);
         rest = more;
     }
-}
-
-/// All that was put, whose last line ends. Its only error is want of memory, also for what was put.
-pub(crate) fn ended(draft: Draft) -> Result<Vec<u8>, OutOfMemory>
-    ensures { IfOk result (λ bytes. bytes.items ≡ ended draft) }
-{
-    let mut bytes = draft.end()?;
-    if bytes.as_slice().ends_with(b"\n") {
-        return Ok(bytes);
-    }
-    bytes.extend_from_slice(b"\r\n")?;
-    Ok(bytes)
 }
