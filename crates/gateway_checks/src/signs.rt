@@ -1,6 +1,6 @@
 //! Signs of a datagram's text, and what they stand for.
 ghost use Rattle.std.specs.Prelude.{◌≡◌, ◌++◌};
-ghost use Rattle.gateway_checks.specs.Sending.{sign_at, stands_for, bytes_behind, put_at, left_behind, written_out};
+ghost use Rattle.gateway_checks.specs.Sending.{sign_at, put_at, left_behind, written_out};
 
 use mg_bytes::Draft;
 
@@ -29,12 +29,15 @@ fn sign_at(text: &[u8]) -> Option<Sign>
     }
 }
 
-// Puts what this sign stands for, or a byte that begins none: how many bytes behind that belong to it.
-fn put_sign(out: &mut Draft, byte: u8, sign: Option<Sign>) -> usize
-    ensures put { out.new ≡ out.old ++ stands_for byte sign }
-    ensures left { result ≡ bytes_behind sign }
+// Puts what the first byte of a text stands for, of which so many belong to a sign before: how many behind it do.
+fn put_front(out: &mut Draft, left: usize, byte: u8, text: &[u8]) -> usize
+    ensures put { out.new ≡ out.old ++ put_at left byte text.now }
+    ensures left { result ≡ left_behind left text.now }
 {
-    match sign {
+    if left != 0 {
+        return left - 1;
+    }
+    match sign_at(text) {
         Some(Sign::LineEnd) => {
             out.put(b"\r\n");
             2
@@ -51,18 +54,6 @@ fn put_sign(out: &mut Draft, byte: u8, sign: Option<Sign>) -> usize
             out.put_byte(byte);
             0
         }
-    }
-}
-
-// Puts what the first byte of a text stands for, of which so many belong to a sign before: how many behind it do.
-fn put_front(out: &mut Draft, left: usize, byte: u8, text: &[u8]) -> usize
-    ensures put { out.new ≡ out.old ++ put_at left byte text.now }
-    ensures left { result ≡ left_behind left text.now }
-{
-    if left == 0 {
-        put_sign(out, byte, sign_at(text))
-    } else {
-        left - 1
     }
 }
 
