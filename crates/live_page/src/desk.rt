@@ -1,5 +1,5 @@
 //! The desk: a request is answered by what the board has.
-ghost use Rattle.std.specs.Prelude.{◌≡◌, ◌++◌, OnOk, OnErr, string_bytes};
+ghost use Rattle.std.specs.Prelude.{◌≡◌, ◌++◌, OnOk, OnErr};
 ghost use Rattle.http_server.specs.Response.{IsBlank, fields_of};
 ghost use Rattle.page_answers.specs.declared.answers.ActOutcome.{ActOutcome as Outcome};
 ghost use Rattle.live_page.specs.Statuses.{outcome_status, refusal_status, refusal_fields};
@@ -42,21 +42,13 @@ fn put_static(
     response.body.push(Bytes::from_static(text.as_bytes()))
 }
 
-fn put_json(response: &mut Response, text: String) -> Result<(), AllocError>
+// Puts what the board tells.
+fn put_told(response: &mut Response, content: Content, text: Vec<u8>) -> Result<(), AllocError>
     ensures status { response.new.status ≡ response.old.status }
-    ensures fields { OnOk result (fields_of response.new ≡ fields_of response.old ++ kind_fields contents.Json) }
-    ensures body { OnOk result (response.new.body.items ≡ response.old.body.items ++ string_bytes text) }
-{
-    put_kind(response, Content::Json)?;
-    response.body.push(Bytes::from_string(text)?)
-}
-
-fn put_metrics(response: &mut Response, text: Vec<u8>) -> Result<(), AllocError>
-    ensures status { response.new.status ≡ response.old.status }
-    ensures fields { OnOk result (fields_of response.new ≡ fields_of response.old ++ kind_fields contents.Metrics) }
+    ensures fields { OnOk result (fields_of response.new ≡ fields_of response.old ++ kind_fields content) }
     ensures body { OnOk result (response.new.body.items ≡ response.old.body.items ++ text.items) }
 {
-    put_kind(response, Content::Metrics)?;
+    put_kind(response, content)?;
     match Bytes::from_vec(text) {
         Ok(body) => response.body.push(body),
         Err(_) => Err(AllocError),
@@ -106,13 +98,13 @@ fn read(
             let Ok(text) = state_of(alloc, board) else {
                 return Err(AllocError);
             };
-            put_json(response, text)
+            put_told(response, Content::Json, text.into_bytes())
         }
         Route::Metrics => {
             let Ok(text) = board.metrics() else {
                 return Err(AllocError);
             };
-            put_metrics(response, text)
+            put_told(response, Content::Metrics, text)
         }
         Route::Health => {
             let is_alive = board.is_alive();
@@ -126,7 +118,7 @@ fn read(
             let Ok(text) = events_of(alloc, board, after) else {
                 return Err(AllocError);
             };
-            put_json(response, text)
+            put_told(response, Content::Json, text.into_bytes())
         }
         Route::Phone | Route::Nothing => {
             response.status = StatusCode::NOT_FOUND;
