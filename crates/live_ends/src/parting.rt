@@ -6,8 +6,7 @@ ghost use Rattle.live_ends.specs.Parting.{number_behind, is_old, is_full};
 use live_outlets::{Outlet, make_for_owner};
 use mg_bytes::decimal;
 use std::alloc::{AllocError, Global};
-use std::fs::{DirEntry, read_dir, remove_file};
-use std::io;
+use std::fs::{read_dir, remove_file};
 use std::io::ErrorKind;
 use std::rt::Files;
 
@@ -60,19 +59,11 @@ fn is_old(files: u64, number: u64, next: u64) -> bool
     number.saturating_add(files) <= next
 }
 
-// Notes the number that an entry of a folder has behind this name, if it has one, and gives whether memory was there for it. A name that is
-// no text is no capture's.
-fn note_number<R: Files + Alloc + Clone + Drop>(
-    numbers: &mut Vec<u64>,
-    name: &str,
-    entry: io::Result<DirEntry<R, R::A>>,
-) -> bool {
-    match entry {
-        Ok(entry) => match number_behind(name.as_bytes(), entry.file_name().as_bytes()) {
-            Some(number) => numbers.push(number).is_ok(),
-            None => true,
-        },
-        Err(_) => true,
+// Notes the number that a file's name has behind this one, if it has one, and gives whether memory was there for it.
+fn note_number(numbers: &mut Vec<u64>, name: &str, found: &str) -> bool {
+    match number_behind(name.as_bytes(), found.as_bytes()) {
+        Some(number) => numbers.push(number).is_ok(),
+        None => true,
     }
 }
 
@@ -94,7 +85,12 @@ fn numbers_of<R: Files + Alloc + Clone + Drop>(
     };
     let mut numbers = Vec::new(alloc);
     for entry in entries {
-        if !note_number(&mut numbers, name, entry) {
+        let is_noted = match entry {
+            Ok(entry) => note_number(&mut numbers, name, entry.file_name()),
+            // A name that is no text is no capture's.
+            Err(_) => true,
+        };
+        if !is_noted {
             return Err(ErrorKind::OutOfMemory);
         }
     }
