@@ -1,5 +1,5 @@
 //! The desk: a request is answered by what the board has.
-ghost use Rattle.std.specs.Prelude.{◌≡◌, ◌++◌, OnOk, OnErr};
+ghost use Rattle.std.specs.Prelude.{◌≡◌, ◌++◌, if◌then◌else◌, OnOk, OnErr};
 ghost use Rattle.http_server.specs.Response.{IsBlank, fields_of};
 ghost use Rattle.page_answers.specs.declared.answers.ActOutcome.{ActOutcome as Outcome};
 ghost use Rattle.live_page.specs.Statuses.{outcome_status, refusal_status, refusal_fields};
@@ -10,7 +10,6 @@ ghost use Rattle.live_page.specs.Serving.{Reads, Acts};
 
 use crate::fields::{Content, put_kind};
 use crate::files::{page_text, script_text, style_text};
-use crate::health::{alive_text, ready_text, well_status};
 use bytes::Bytes;
 use http::{HeaderValue, Request, StatusCode, header};
 use http_server::{Response, Service};
@@ -55,18 +54,24 @@ fn put_told(response: &mut Response, content: Content, text: Vec<u8>) -> Result<
     }
 }
 
-// Puts a line of whether something is well.
+// Puts a line of whether something is well, which is the first of these where it is (RFC 9110, 15.3.1 and 15.6.4).
 fn put_wellness(
     response: &mut Response,
     is_well: bool,
-    line: &'static str,
+    well: &'static str,
+    unwell: &'static str,
 ) -> Result<(), AllocError>
     ensures status { response.new.status ≡ well_status is_well }
     ensures fields { OnOk result (fields_of response.new ≡ fields_of response.old ++ kind_fields contents.Plain) }
-    ensures body { OnOk result (response.new.body.items ≡ response.old.body.items ++ line.now) }
+    ensures body { OnOk result (response.new.body.items ≡ response.old.body.items ++ (if is_well then well.now else unwell.now)) }
 {
-    response.status = well_status(is_well);
-    put_static(response, Content::Plain, line)
+    if is_well {
+        response.status = StatusCode::OK;
+        put_static(response, Content::Plain, well)
+    } else {
+        response.status = StatusCode::SERVICE_UNAVAILABLE;
+        put_static(response, Content::Plain, unwell)
+    }
 }
 
 // How an act that a page of this site asks for is answered.
@@ -106,13 +111,20 @@ fn read(
             };
             put_told(response, Content::Metrics, text)
         }
+        // Whether its loop has turned within the last second.
         Route::Health => {
             let is_alive = board.is_alive();
-            put_wellness(response, is_alive, alive_text(is_alive))
+            put_wellness(response, is_alive, "ok\n", "the clock is behind\n")
         }
+        // Whether its announcement was answered.
         Route::Ready => {
             let is_serving = board.is_serving();
-            put_wellness(response, is_serving, ready_text(is_serving))
+            put_wellness(
+                response,
+                is_serving,
+                "ready\n",
+                "no agent has answered yet\n",
+            )
         }
         Route::Events { after } => {
             let Ok(text) = events_of(alloc, board, after) else {

@@ -9,7 +9,6 @@ mod desk;
 mod examples;
 mod fields;
 mod files;
-mod health;
 mod laws;
 mod playing;
 mod reception;
