@@ -2,7 +2,7 @@
 ghost use Rattle.std.specs.Prelude.{◌≡◌, ◌++◌, if◌then◌else◌, OnOk, OnErr};
 ghost use Rattle.http_server.specs.Response.{IsBlank, fields_of};
 ghost use Rattle.page_answers.specs.declared.answers.ActOutcome.{ActOutcome as Outcome};
-ghost use Rattle.live_page.specs.Statuses.{outcome_status, refusal_status, refusal_fields};
+ghost use Rattle.live_page.specs.Statuses.{refusal_status, refusal_fields};
 ghost use Rattle.live_page.specs.Fields.{kind_fields};
 ghost use Rattle.live_page.specs.declared.fields.Content.TheVariants as contents;
 ghost use Rattle.live_page.specs.Health.{well_status};
@@ -74,17 +74,6 @@ fn put_wellness(
     }
 }
 
-// How an act that a page of this site asks for is answered.
-fn act_status(outcome: ActOutcome) -> StatusCode
-    ensures { result ≡ outcome_status outcome }
-{
-    match outcome {
-        ActOutcome::Queued => StatusCode::ACCEPTED,
-        ActOutcome::NoRoom => StatusCode::SERVICE_UNAVAILABLE,
-        ActOutcome::Unreadable => StatusCode::BAD_REQUEST,
-    }
-}
-
 // Puts what stands there.
 fn read(
     alloc: Global,
@@ -150,7 +139,11 @@ fn act(
     ensures ok { OnOk result ((outcome : Outcome) × Acts board.old body.now response.new board.new outcome) }
     ensures err { OnErr result (board.new ≡ board.old) }
 {
-    response.status = act_status(act_on(alloc, board, body)?);
+    response.status = match act_on(alloc, board, body)? {
+        ActOutcome::Queued => StatusCode::ACCEPTED,
+        ActOutcome::NoRoom => StatusCode::SERVICE_UNAVAILABLE,
+        ActOutcome::Unreadable => StatusCode::BAD_REQUEST,
+    };
     Ok(())
 }
 
