@@ -22,10 +22,10 @@ use std::net::SocketAddrV4;
 /// The desk of the page at an address, and under further names, which answers by a board for a turn.
 #[derive(Drop)]
 pub(crate) struct Desk<'a> {
-    alloc: Global,
-    site: SocketAddrV4,
-    names: &'a HostNames,
-    board: &'a mut Board,
+    pub(crate) alloc: Global,
+    pub(crate) site: SocketAddrV4,
+    pub(crate) names: &'a HostNames,
+    pub(crate) board: &'a mut Board,
 }
 
 fn put_static(
@@ -173,28 +173,6 @@ fn put_refusal(response: &mut Response, asked: Asked) -> Result<(), AllocError>
         Asked::Missing | Asked::Reading { .. } | Asked::Acting => {
             response.status = StatusCode::NOT_FOUND;
             Ok(())
-        }
-    }
-}
-
-impl<'a> Desk<'a> {
-    /// The desk of the page at this address, and under these names, over this board.
-    pub(crate) fn new(
-        alloc: Global,
-        site: SocketAddrV4,
-        names: &'a HostNames,
-        board: &'a mut Board,
-    ) -> Desk<'a>
-        ensures site { result.site ≡ site }
-        ensures names { result.names.now ≡ names.now }
-        ensures board { result.board.now ≡ board.old }
-        ensures same_reference { result.board.ghost_name ≡ board.entry.ghost_name }
-    {
-        Desk {
-            alloc,
-            site,
-            names,
-            board,
         }
     }
 }

@@ -45,7 +45,12 @@ pub fn answer_to(
 ) -> io::Result<Vec<u8>>
     ensures { AnswersBy site (names_of names.now) board.old board.new }
 {
-    let mut desk = Desk::new(alloc, site, names, board);
+    let mut desk = Desk {
+        alloc,
+        site,
+        names,
+        board,
+    };
     let mut out = Vec::new(alloc);
     match answer(alloc, keys, &mut desk, request, &mut out) {
         Ok(()) => Ok(out),

@@ -269,7 +269,12 @@ impl Site {
             return;
         };
         self.last = place;
-        let mut desk = Desk::new(self.alloc, address, &self.names, board);
+        let mut desk = Desk {
+            alloc: self.alloc,
+            site: address,
+            names: &self.names,
+            board,
+        };
         if let Some(held) = self.places.get_mut(place) {
             serve_place(held, &mut desk, now);
         }
