@@ -9,7 +9,6 @@ use crate::address_words::AddressWord;
 use crate::network_faults::wanted_by;
 use crate::wording::put_pieces;
 use bad_network::{Spoiling, SpoilingFault};
-use exchange_log::peer_text;
 use live_outlets::{Written, reason_of};
 use mg_bytes::OutOfMemory;
 use std::alloc::Global;
@@ -220,7 +219,7 @@ impl CommonEnding {
                 address,
                 kind,
             } => {
-                let address = peer_text(alloc, address)?;
+                let address = address.to_string(alloc)?;
                 put_pieces(
                     out,
                     &[

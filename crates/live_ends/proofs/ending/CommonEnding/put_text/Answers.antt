@@ -19,7 +19,7 @@ returns-in-Unbound c =
     rw (c.in-Unbound.is)
     (put_so
     (λ (text : List ℕ). OnOk c.put_pieces-in-Unbound.result (c.put_pieces-in-Unbound.new.out.items ≡ c.args.out.now.items ++ text)) _ _ _ _ _ _
-    c.text-in-Unbound.ensures (c.as_str.ensures.value ∙ c.in_ok-address-in-Unbound.ensures) c.reason_of-in-Unbound.ensures
+    c.text-in-Unbound.ensures (c.as_str.ensures.value ∙ c.in_ok-address-in-Unbound.ensures.ok) c.reason_of-in-Unbound.ensures
     c.put_pieces-in-Unbound.ensures)
 
 pub returns-in-Help : goal.returns-in-Help
