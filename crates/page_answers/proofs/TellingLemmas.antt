@@ -29,12 +29,12 @@ told_next most n after e es newer room =
     rw (is_newer after e.number newer, more) refl
 
 -- one that the reader has is passed over
-pub told_older : (most after : ℕ) (e : Event) (es : List Event) → e.number ≤ after
+told_older : (most after : ℕ) (e : Event) (es : List Event) → e.number ≤ after
     → told_after most after (e ∷ es) ≡ told_after most after es
 told_older most after e es older = rw (is_older after e.number older) refl
 
 -- where as many are told as may be, no more is
-pub told_full : (most n after : ℕ) (es : List Event) → most ≤ n → told_after (most - n) after es ≡ []
+told_full : (most n after : ℕ) (es : List Event) → most ≤ n → told_after (most - n) after es ≡ []
 told_full most n after es full = let none : most - n ≡ 0 = omega arith in rw none refl
 
 -- one more is told
@@ -59,6 +59,30 @@ pub goes_on_from : (most after : ℕ) (list : List Value) (v : Value) (last next
     → last_number e.number (told_after (most - length (list ++ v ∷ [])) after es) ≡ next
 goes_on_from most after list v last next e es newer room told =
     rw (length-append list (v ∷ [])) (rw (told_next most (length list) after e es newer room) at told)
+
+-- one that the reader has leaves all as it was
+pub goes_past : (most after : ℕ) (list : List Value) (e : Event) (es : List Event) (whole : List Data) → e.number ≤ after
+    → map view list ++ map event_data (told_after (most - length list) after (e ∷ es)) ≡ whole
+    → map view list ++ map event_data (told_after (most - length list) after es) ≡ whole
+goes_past most after list e es whole older told = rw (told_older (most - length list) after e es older) at told
+
+pub goes_past_from : (most after : ℕ) (list : List Value) (last next : ℕ) (e : Event) (es : List Event) → e.number ≤ after
+    → last_number last (told_after (most - length list) after (e ∷ es)) ≡ next
+    → last_number last (told_after (most - length list) after es) ≡ next
+goes_past_from most after list last next e es older told = rw (told_older (most - length list) after e es older) at told
+
+-- and so does one for which there is no room
+pub goes_without : (most after : ℕ) (list : List Value) (e : Event) (es : List Event) (whole : List Data) → most ≤ length list
+    → map view list ++ map event_data (told_after (most - length list) after (e ∷ es)) ≡ whole
+    → map view list ++ map event_data (told_after (most - length list) after es) ≡ whole
+goes_without most after list e es whole full told =
+    rw (told_full most (length list) after es full) (rw (told_full most (length list) after (e ∷ es) full) at told)
+
+pub goes_without_from : (most after : ℕ) (list : List Value) (last next : ℕ) (e : Event) (es : List Event) → most ≤ length list
+    → last_number last (told_after (most - length list) after (e ∷ es)) ≡ next
+    → last_number last (told_after (most - length list) after es) ≡ next
+goes_without_from most after list last next e es full told =
+    rw (told_full most (length list) after es full) (rw (told_full most (length list) after (e ∷ es) full) at told)
 
 -- anything is told where its values are
 pub any_told : (values : List Value) (events : List Event) → map view values ≡ map event_data events
