@@ -21,20 +21,20 @@ both_both true told rest = refl
 both_both false told rest = refl
 
 -- the load that is made becomes so
-pub of_load : (Does : Bench → Bench → Type 0) (load : Option (Box Load)) (was is : Box Load) → load ≡ Some was → Does was.value.bench.value is.value.bench.value
+pub of_load : (Does : Bench → Bench → Type 0) (load : Option (Box Load)) (was is : Box Load) → load ≡ Some was → Does was.value.bench is.value.bench
     → KeepsRoom was.value is.value → OfLoad Does load (Some is)
 of_load Does load was is made does room = subst (λ (one : Option (Box Load)). OfLoad Does one (Some is)) (sym made) (does, room)
 
 -- something counts for it, where one is made
 pub counts_for : (Counts : Bench → Bench → Type 0) (load : Option (Box Load)) (was is : Box Load) → load ≡ Some was
-    → Counts was.value.bench.value is.value.bench.value → KeepsRoom was.value is.value → CountsFor Counts load (Some is)
+    → Counts was.value.bench is.value.bench → KeepsRoom was.value is.value → CountsFor Counts load (Some is)
 counts_for Counts load was is made counts room = subst (λ (one : Option (Box Load)). CountsFor Counts one (Some is)) (sym made) (counts, room)
 
 pub counts_none : (Counts : Bench → Bench → Type 0) (load : Option (Box Load)) → load ≡ None → CountsFor Counts load load
 counts_none Counts load none = subst (λ (one : Option (Box Load)). CountsFor Counts one one) (sym none) refl
 
 -- its end comes as its bench says
-pub ended_so : (moment : ℕ) (load : Box Load) (is_over : Bool) (was is : Option ℕ) → is_over ≡ bench_over moment load.value.bench.value
+pub ended_so : (moment : ℕ) (load : Box Load) (is_over : Bool) (was is : Option ℕ) → is_over ≡ bench_over moment load.value.bench
     → is ≡ end_of is_over was → is ≡ end_of (load_over moment (Some load)) was
 ended_so moment load is_over was is over ends = ends ∙ ap (λ (one : Bool). end_of one was) over
 
@@ -99,7 +99,7 @@ module _ {S : Type 0} (answers : S → SocketAddr → List ℕ → S → Type 0)
 module _ {S : Type 0} (hears : S → Option (SocketAddr × ℕ) → List ℕ → S → Type 0) (answers : S → SocketAddr → List ℕ → S → Type 0) where
   -- what its telephones say is heard in its room
   pub hears_in : (moment : ℕ) (taken : Bool) (before after : S) (load : Option (Box Load)) (was is : Box Load) → load ≡ Some was
-      → HearsOnce hears answers moment (vec_len was.value.room) taken before after was.value.bench.value is.value.bench.value
+      → HearsOnce hears answers moment (vec_len was.value.room) taken before after was.value.bench is.value.bench
       → KeepsRoom was.value is.value → HearsIn hears answers moment taken before after load (Some is)
   hears_in moment taken before after load was is made once room =
       subst (λ (one : Option (Box Load)). HearsIn hears answers moment taken before after one (Some is)) (sym made) (once, room)

@@ -40,7 +40,7 @@ KeepsRoom was is = vec_len is.room ≡ vec_len was.room
 abbrev pub CountsFor : (Bench → Bench → Type 0) → Option (Box Load) → Option (Box Load) → Type 0
 CountsFor Counts None is = is ≡ None
 CountsFor Counts (Some was) None = ⊥
-CountsFor Counts (Some was) (Some is) = Counts was.value.bench.value is.value.bench.value × KeepsRoom was.value is.value
+CountsFor Counts (Some was) (Some is) = Counts was.value.bench is.value.bench × KeepsRoom was.value is.value
 
 -- What is said
 
@@ -80,7 +80,7 @@ end_of is_over end = if is_over then Some 0 else end
 -- as its bench says; where none is made none is over
 abbrev pub load_over : ℕ → Option (Box Load) → Bool
 load_over moment None = false
-load_over moment (Some load) = bench_over moment load.value.bench.value
+load_over moment (Some load) = bench_over moment load.value.bench
 
 -- What time does
 
@@ -88,7 +88,7 @@ load_over moment (Some load) = bench_over moment load.value.bench.value
 abbrev pub OfLoad : (Bench → Bench → Type 0) → Option (Box Load) → Option (Box Load) → Type 0
 OfLoad Does None is = ⊥
 OfLoad Does (Some was) None = ⊥
-OfLoad Does (Some was) (Some is) = Does was.value.bench.value is.value.bench.value × KeepsRoom was.value is.value
+OfLoad Does (Some was) (Some is) = Does was.value.bench is.value.bench × KeepsRoom was.value is.value
 
 -- at this moment what is due of a bench is done, and how far it is is told; then what it has to say is said
 pub record SaysPassed {S : Type 0} (answers : S → SocketAddr → List ℕ → S → Type 0) (moment : ℕ) (before after : S)
@@ -142,7 +142,7 @@ abbrev pub HearsIn : {S : Type 0} → (S → Option (SocketAddr × ℕ) → List
 HearsIn hears answers moment taken before after None is = ⊥
 HearsIn hears answers moment taken before after (Some was) None = ⊥
 HearsIn hears answers moment taken before after (Some was) (Some is) =
-    HearsOnce hears answers moment (vec_len was.value.room) taken before after was.value.bench.value is.value.bench.value
+    HearsOnce hears answers moment (vec_len was.value.room) taken before after was.value.bench is.value.bench
     × KeepsRoom was.value is.value
 
 -- So it is at this moment, and a datagram that has come counts as read. Where the load is over then the end has come.
@@ -161,7 +161,7 @@ pub record HearsTelephones {S : Type 0} (hears : S → Option (SocketAddr × ℕ
 -- what a bench has to say is said, and it is that of a load from then on, which has room for any datagram
 abbrev pub SaysTo : {S : Type 0} → (S → SocketAddr → List ℕ → S → Type 0) → S → Bench → S → Option (Box Load) → Type 0
 SaysTo answers before asked after None = ⊥
-SaysTo answers before asked after (Some load) = SaysAll answers before asked after load.value.bench.value × (vec_len load.value.room ≡ ROOM)
+SaysTo answers before asked after (Some load) = SaysAll answers before asked after load.value.bench × (vec_len load.value.room ≡ ROOM)
 
 -- the lines of a gateway that have telephones: all where it is known where these are, and none else
 abbrev pub lines_at : Option SocketAddrV4 → List (List ℕ) → List BenchLine
@@ -211,7 +211,7 @@ load_ending bench = made_by bench.course.value.fault bench
 
 abbrev pub ending_in : Option (Box Load) → LoadEnding
 ending_in None = Unmade OutOfMemory
-ending_in (Some load) = load_ending load.value.bench.value
+ending_in (Some load) = load_ending load.value.bench
 
 pub record EndsLoad {S : Type 0} (answers : S → SocketAddr → List ℕ → S → Type 0) (was : Wire S) (ending : LoadEnding)
     (is : Wire S)

@@ -75,7 +75,7 @@ SpoilsSo (Some spoiling) (Some network) = (network.spoiling ≡ spoiling) × (ne
 -- over a wire, where it is now this moment: when the network hands something out, or something is to be done of a load, where one is made
 abbrev pub FallsDueOver : ℕ → Option (Box Load) → Option ℕ → Option ℕ → Type 0
 FallsDueOver moment None network due = due ≡ network
-FallsDueOver moment (Some load) network due = due ≡ earlier network (Some (bench_due moment load.value.bench.value))
+FallsDueOver moment (Some load) network due = due ≡ earlier network (Some (bench_due moment load.value.bench))
 
 -- so, or at the gateways, whichever is earlier
 abbrev pub FallsDueFirst : ℕ → List Gateway → Option (Box Load) → Option ℕ → Option ℕ → Type 0

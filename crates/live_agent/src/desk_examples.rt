@@ -83,10 +83,10 @@ pub fn what_is_waited_for_has_examples()
     ensures spoils_none { (spoiling : Spoiling) → SpoilsSo (Some spoiling) None → ⊥ }
     // What the network hands out, what is to be done of a load, what falls due at a gateway: the earliest.
     ensures network { FallsDueFirst 700 [] None (Some 300) (Some 300) }
-    ensures load { (load : Box Load) → bench_due 250 load.value.bench.value ≡ 280 → FallsDueFirst 250 [] (Some load) (Some 300) (Some 280) }
-    ensures network_first { (load : Box Load) → bench_due 250 load.value.bench.value ≡ 320 →
+    ensures load { (load : Box Load) → bench_due 250 load.value.bench ≡ 280 → FallsDueFirst 250 [] (Some load) (Some 300) (Some 280) }
+    ensures network_first { (load : Box Load) → bench_due 250 load.value.bench ≡ 320 →
         FallsDueFirst 250 [] (Some load) (Some 300) (Some 300) }
-    ensures load_alone { (load : Box Load) → bench_due 250 load.value.bench.value ≡ 320 → FallsDueOver 250 (Some load) None (Some 320) }
+    ensures load_alone { (load : Box Load) → bench_due 250 load.value.bench ≡ 320 → FallsDueOver 250 (Some load) None (Some 320) }
     ensures gateway { (gateway : Gateway) → FallsDueAt gateway (Some 100) →
         FallsDueFirst 700 (gateway ∷ []) None (Some 300) (Some 100) }
     ensures nothing { FallsDueFirst 700 [] None None None }
@@ -314,9 +314,9 @@ pub fn what_telephones_are_told_has_examples()
     ensures given_up { (course : Course) → course.fault ≡ None → (course_behind false course).fault ≡ Some faults.OutOfMemory }
     ensures goes_on { (course : Course) → course_behind true course ≡ course }
     // It is over as its bench says, and then the end has come. Time and telephones unmake no load.
-    ensures over { (load : Box Load) → bench_over 700 load.value.bench.value ≡ true → end_of (load_over 700 (Some load)) (Some 900)
+    ensures over { (load : Box Load) → bench_over 700 load.value.bench ≡ true → end_of (load_over 700 (Some load)) (Some 900)
         ≡ Some 0 }
-    ensures not_over { (load : Box Load) → bench_over 700 load.value.bench.value ≡ false → end_of (load_over 700 (Some load)) (Some 900)
+    ensures not_over { (load : Box Load) → bench_over 700 load.value.bench ≡ false → end_of (load_over 700 (Some load)) (Some 900)
         ≡ Some 900 }
     ensures none_made { load_over 700 None ≡ false }
     ensures passes_on { (was is : Wire ℕ) → Passes answers_any 700 was is → is.end ≡ end_of (load_over 700 is.load) was.end }

@@ -48,7 +48,7 @@ pub enum LoadEnding {
 /// A load that is made over a wire: its telephones and calls, and the room for what telephones say.
 #[derive(Drop)]
 pub(crate) struct Load {
-    bench: Box<Bench>,
+    bench: Bench,
     room: Vec<u8>,
 }
 
@@ -57,22 +57,6 @@ fn milliseconds(time: u64) -> u64
     ensures { result ≡ milliseconds time }
 {
     time / MICROSECONDS
-}
-
-// That a datagram is sent, for the first time or again, at this moment, in ms, counts for a load.
-fn count_sent_in(load: &mut Load, to: SocketAddrV4, bytes: &[u8], is_repeat: bool, now: u64)
-    ensures counts { CountsSent to bytes.now is_repeat now load.old.bench.value load.new.bench.value }
-    ensures room { KeepsRoom load.old load.new }
-{
-    load.bench.sent(to, bytes, is_repeat, now);
-}
-
-// So does that one came.
-fn count_came_in(load: &mut Load, source: SocketAddrV4, bytes: &[u8], now: u64)
-    ensures counts { CountsCame source bytes.now now load.old.bench.value load.new.bench.value }
-    ensures room { KeepsRoom load.old load.new }
-{
-    load.bench.came(source, bytes, now);
 }
 
 /// A datagram is sent at this time, in microseconds, for the first time or again: that is counted, where a load is made.
@@ -90,7 +74,7 @@ pub(crate) fn count_sent(
         return;
     };
     let now = milliseconds(time);
-    count_sent_in(&mut **load, to, bytes, is_repeat, now);
+    load.bench.sent(to, bytes, is_repeat, now);
 }
 
 /// A datagram came at this time, in microseconds: that is counted, where a load is made.
@@ -107,7 +91,7 @@ pub(crate) fn count_came(
         return;
     };
     let now = milliseconds(time);
-    count_came_in(&mut **load, source, bytes, now);
+    load.bench.came(source, bytes, now);
 }
 
 // This is said to the telephones for which it is: whether memory was there for its text.
@@ -171,21 +155,6 @@ fn pass<S: Surroundings>(
     bench.is_over(moment)
 }
 
-// So it is over a load.
-fn pass_in<S: Surroundings>(
-    alloc: Global,
-    around: &mut S,
-    load: &mut Load,
-    out: &mut Vec<u8>,
-    moment: u64,
-) -> bool
-    ensures over { result ≡ bench_over moment load.new.bench.value }
-    ensures says { SaysPassed S.answers moment around.old around.new load.old.bench.value load.new.bench.value }
-    ensures room { KeepsRoom load.old load.new }
-{
-    pass(alloc, around, &mut *load.bench, out, moment)
-}
-
 // What came of a look at what telephones say: whether they said anything, and whether the load is over then.
 #[derive(Clone, Copy)]
 struct Look {
@@ -221,15 +190,15 @@ fn hear<S: Surroundings>(
 
 // So it is over a load.
 fn hear_in<S: Surroundings>(alloc: Global, around: &mut S, load: &mut Load, moment: u64) -> Look
-    ensures over { result.is_over ≡ bench_over moment load.new.bench.value }
+    ensures over { result.is_over ≡ bench_over moment load.new.bench }
     ensures heard { HearsOnce S.hears S.answers moment (vec_len load.old.room) result.taken around.old around.new
-        load.old.bench.value load.new.bench.value }
+        load.old.bench load.new.bench }
     ensures room { KeepsRoom load.old load.new }
 {
     hear(
         alloc,
         around,
-        &mut *load.bench,
+        &mut load.bench,
         load.room.as_mut_slice(),
         moment,
     )
@@ -274,23 +243,6 @@ fn end_and_report<S: Surroundings>(
     }
 }
 
-// So it is over a load.
-fn end_in<S: Surroundings>(
-    alloc: Global,
-    around: &mut S,
-    load: &mut Load,
-    now: u64,
-    out: &mut Vec<u8>,
-    file: &str,
-    agent: &str,
-) -> LoadEnding
-    ensures ending { result ≡ load_ending load.new.bench.value }
-    ensures says { SaysAndReports S.answers now around.old around.new load.old.bench.value load.new.bench.value }
-    ensures room { KeepsRoom load.old load.new }
-{
-    end_and_report(alloc, around, &mut *load.bench, now, out, file, agent)
-}
-
 impl<S: Surroundings + Drop> Wire<S> {
     /// The moment at which something is to be done though nothing comes, in ms, where it is now this one.
     pub(crate) fn due(&self, moment: u64) -> Option<u64>
@@ -311,7 +263,7 @@ impl<S: Surroundings + Drop> Wire<S> {
             return;
         };
         let out = &mut self.journal.log.out;
-        let is_over = pass_in(alloc, &mut self.around, &mut **load, out, moment);
+        let is_over = pass(alloc, &mut self.around, &mut load.bench, out, moment);
         self.end = end_of(is_over, self.end);
     }
 
@@ -342,7 +294,15 @@ impl<S: Surroundings + Drop> Wire<S> {
         };
         let now = milliseconds(self.now.time);
         let out = &mut self.journal.told.out;
-        end_in(alloc, &mut self.around, &mut **load, now, out, file, agent)
+        end_and_report(
+            alloc,
+            &mut self.around,
+            &mut load.bench,
+            now,
+            out,
+            file,
+            agent,
+        )
     }
 }
 
@@ -403,6 +363,7 @@ fn begin<S: Surroundings + Drop>(
     let Ok(room) = room_of(alloc) else {
         return Some(CommonEnding::OutOfMemory);
     };
+    let bench = Box::into_inner(bench);
     let Ok(load) = boxed(alloc, Load { bench, room }) else {
         return Some(CommonEnding::OutOfMemory);
     };

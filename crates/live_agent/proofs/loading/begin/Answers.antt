@@ -1,5 +1,4 @@
 use Rattle.std.proofs.Common.{refl, sym, subst, ap, ◌∙◌}
-use Rattle.std.specs.Global.{Box}
 use Rattle.std.specs.Prelude.{vec_len}
 use Rattle.load_bench.specs.declared.bench.Bench.{Bench}
 use Rattle.live_agent.specs.declared.loading.Load.{Load}
@@ -18,8 +17,8 @@ returns g c = (
       (rw (c.deref_mut.ensures.value) at c.in-Ok-fill.ensures.tally),
   (
     subst
-        (λ (bench : Box Bench). SaysAll g.S.Surroundings.answers c.args.wire.now.around c.fill.new.bench c.say_all.new.around bench.value)
-        (sym (ap (λ (load : Load). load.bench) c.in-Ok-boxed.ensures)) (rw (c.deref_mut-2.ensures.value) at c.say_all.ensures),
+        (λ (bench : Bench). SaysAll g.S.Surroundings.answers c.args.wire.now.around c.fill.new.bench c.say_all.new.around bench)
+        (sym (ap (λ (load : Load). load.bench) c.in-Ok-boxed.ensures ∙ c.into_inner-bench.ensures)) (rw (c.deref_mut-2.ensures.value) at c.say_all.ensures),
     ap (λ (load : Load). vec_len load.room) c.in-Ok-boxed.ensures ∙ c.in-Ok-room_of.ensures,
   ),
   refl,
