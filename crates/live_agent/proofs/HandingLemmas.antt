@@ -51,23 +51,9 @@ one_longer [] packet count long = ap (λ (n : ℕ). n + 1) long
 one_longer (first ∷ more) packet count long =
     let so_far : length (more ++ packet ∷ []) ≡ length more + 1 = one_longer more packet (length more) refl in omega (arith, so_far, long)
 
-module _ {S : Type 0} where
-  -- what is around it was handed something, and then it was noted
-  pub left_so : (was is : Wire S) (around : S) → is ≡ record was { around = around; journal = is.journal }
-      → is ≡ record was { around = is.around; journal = is.journal }
-  left_so was is around next = next ∙ ap (λ (one : Wire S). record was { around = one.around; journal = is.journal }) (sym next)
-
-  pub around_so : (P : S → Type 0) (was is : Wire S) (around : S) → is ≡ record was { around = around; journal = is.journal } → P around → P is.around
-  around_so P was is around next so = subst P (sym (ap (λ (wire : Wire S). wire.around) next)) so
-
 module _ {S : Type 0} (sends : S → SocketAddrV4 → List ℕ → Result ⊤ Fault → S → Type 0) where
   pub sent_on : (packets : List Packet) (packet : Packet) (was between is : Wire S) → SendsEachOn sends packets was between
       → SendsOn sends packet between is → SendsEachOn sends (packets ++ packet ∷ []) was is
   sent_on [] packet was between is so_far next = (is, subst (λ (one : Wire S). SendsOn sends packet one is) so_far next, refl)
   sent_on (first ∷ more) packet was between is so_far next =
       (so_far.0, so_far.1, sent_on more packet so_far.0 between is so_far.2 next)
-
-  pub handed_behind : (to : SocketAddrV4) (bytes : List ℕ) (outcome : Result ⊤ Fault) (before : S) (was is : Wire S) (around : S)
-      → is ≡ record was { around = around; journal = is.journal } → sends before to bytes outcome around → sends before to bytes outcome is.around
-  handed_behind to bytes outcome before was is around next handed =
-      subst (λ (one : S). sends before to bytes outcome one) (sym (ap (λ (wire : Wire S). wire.around) next)) handed

@@ -9,7 +9,7 @@ ghost use Rattle.mg_bytes.specs.Lists.{is_empty};
 ghost use Rattle.live_agent.specs.Wiring.{due_of, with_read, read_at, heard_at, ready_by};
 ghost use Rattle.live_agent.specs.Handing.{comes_in, HandsFirst, HandsOver, HandsTo, Leaves, Offers, OffersTo};
 ghost use Rattle.live_agent.specs.Sending.{SendsAll, SendsOne, SendsOver};
-ghost use Rattle.live_agent.specs.Tallying.{leaving_counted, looked_counted, waited_counted, with_fate};
+ghost use Rattle.live_agent.specs.Tallying.{looked_counted, waited_counted, with_fate};
 ghost use Rattle.live_agent.specs.Tallying.{CountsLeaving, CountsOffer, CountsSent, OnlyCounts, OnlyNotes};
 ghost use Rattle.surroundings.specs.Hearing.{Hears, AnswersTo};
 ghost use Rattle.surroundings.specs.Requests.{requests_from};
@@ -27,7 +27,7 @@ use live_outlets::{Now, Record};
 use plain_machine::OutDatagram;
 use std::alloc::{AllocError, Global};
 use std::net::SocketAddrV4;
-use surroundings::{Fault, Lines, Surroundings};
+use surroundings::{Lines, Surroundings};
 use turns::{Pause, Ready};
 
 /// So many packets are handed out at most at a turn, or commands given up, or lines woken, where more are due: the others are at the next.
@@ -322,12 +322,16 @@ impl<S: Surroundings + Drop> Wire<S> {
         None
     }
 
-    // A datagram was put onto the machine's network. One that didn't leave is counted, and noted in the log.
-    fn note_leaving(&mut self, to: SocketAddrV4, sent: Result<(), Fault>)
-        ensures tally { self.new.journal.value.tally ≡ leaving_counted sent self.old.journal.value.tally }
-        ensures notes { OnlyNotes self.old.journal.value self.new.journal.value }
-        ensures rest { self.new ≡ record self.old { journal = self.new.journal } }
+    // Puts a datagram onto the machine's network. One that doesn't leave is counted, and noted in the log.
+    fn transmit(&mut self, to: SocketAddrV4, bytes: &[u8])
+        ensures sent { Grows (S.traffic self.old.around).sent (record { to = to; bytes = bytes.now } ∷ [])
+            (S.traffic self.new.around).sent }
+        ensures received { (S.traffic self.new.around).received ≡ (S.traffic self.old.around).received }
+        ensures tally { CountsLeaving self.old.journal.value.tally self.new.journal.value.tally }
+        ensures leaves { Leaves (HandsTo S.sends S.traffic) to bytes.now self.old self.new }
+        ensures rest { self.new ≡ record self.old { around = self.new.around; journal = self.new.journal } }
     {
+        let sent = self.around.send(to, bytes);
         match sent {
             Ok(()) => {}
             Err(_) => {
@@ -339,19 +343,6 @@ impl<S: Surroundings + Drop> Wire<S> {
                 self.journal.note(stamp, Note::Unsent);
             }
         }
-    }
-
-    // Puts a datagram onto the machine's network.
-    fn transmit(&mut self, to: SocketAddrV4, bytes: &[u8])
-        ensures sent { Grows (S.traffic self.old.around).sent (record { to = to; bytes = bytes.now } ∷ [])
-            (S.traffic self.new.around).sent }
-        ensures received { (S.traffic self.new.around).received ≡ (S.traffic self.old.around).received }
-        ensures tally { CountsLeaving self.old.journal.value.tally self.new.journal.value.tally }
-        ensures leaves { Leaves (HandsTo S.sends S.traffic) to bytes.now self.old self.new }
-        ensures rest { self.new ≡ record self.old { around = self.new.around; journal = self.new.journal } }
-    {
-        let sent = self.around.send(to, bytes);
-        self.note_leaving(to, sent);
     }
 
     /// Sends a datagram, for the first time or again.
