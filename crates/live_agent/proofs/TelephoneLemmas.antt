@@ -1,5 +1,5 @@
 -- What is said to telephones, and when a load is over.
-use Rattle.std.proofs.Common.{◌≡◌, ℕ, ◌+◌, ◌<◌, ◌≤◌, Bool, true, false, List, [], length, get_or, drop, Option, Some, None, refl, sym, ap, subst, ◌∙◌}
+use Rattle.std.proofs.Common.{◌≡◌, ℕ, ◌+◌, ◌<◌, ◌≤◌, Bool, true, false, List, [], length, get_or, drop, Option, Some, None, refl, sym, ap, subst, ◌∙◌, arith}
 use Rattle.std.proofs.lemmas.List.{drop_more, at_drop_all}
 use Rattle.std.specs.Prelude.{◌&&◌, vec_len}
 use Rattle.std.specs.Global.{Box}
@@ -12,9 +12,13 @@ use Rattle.live_agent.specs.declared.loading.Load.{Load}
 use Rattle.live_agent.specs.declared.wire.Wire.{Wire}
 use Rattle.live_agent.specs.Telephones.{course_behind, end_of, load_over, CountsFor, HearsIn, HearsOnce, KeepsRoom, OfLoad, Passes, PassesLoad, SaysAll, SaysEach, SaysOne}
 
-both_true : (all : Bool) → (all && true) ≡ all
+pub both_true : (all : Bool) → (all && true) ≡ all
 both_true true = refl
 both_true false = refl
+
+pub both_none : (all : Bool) → false ≡ (all && false)
+both_none true = refl
+both_none false = refl
 
 both_both : (all told rest : Bool) → ((all && told) && rest) ≡ (all && (told && rest))
 both_both true told rest = refl
@@ -46,6 +50,12 @@ module _ {S : Type 0} (answers : S → SocketAddr → List ℕ → S → Type 0)
   says_next orders place other told rest was between is within first more =
       subst (λ (left : List Said). SaysEach answers left (told && rest) was is) (sym (drop_more orders place other within))
       (told, rest, between, first, more, refl)
+
+  -- memory is refused for one more
+  pub says_not : (orders : List Said) (place : ℕ) (rest : Bool) (was is : S) → place < length orders
+      → SaysEach answers (drop (place + 1) orders) rest was is → SaysEach answers (drop place orders) false was is
+  says_not [] place rest was is within more = absurd (omega (arith, within))
+  says_not (said ∷ others) place rest was is within more = says_next (said ∷ others) place said false rest was was is within refl more
 
   pub says_more : (orders : List Said) (all told both rest : Bool) (was is : S) → both ≡ (all && told)
       → SaysEach answers orders (all && (told && rest)) was is → SaysEach answers orders (both && rest) was is

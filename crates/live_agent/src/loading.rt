@@ -1,5 +1,5 @@
 //! Makes a load: calls at a rate between the telephones of gateways, which another call agent serves, or this program's own exchange.
-ghost use Rattle.std.specs.Prelude.{◌≡◌, ◌&&◌, ◌++◌, true, false, is_some, length, vec_len, IfOk, OnOk};
+ghost use Rattle.std.specs.Prelude.{◌≡◌, ◌++◌, true, false, is_some, length, vec_len, IfOk, OnOk};
 ghost use Rattle.load_bench.specs.declared.settings.LoadFault.TheVariants.{OutOfMemory};
 ghost use Rattle.load_bench.specs.Opening.{unfailed};
 ghost use Rattle.load_bench.specs.Over.{bench_over};
@@ -11,7 +11,7 @@ ghost use Rattle.live_agent.specs.declared.loading.LoadEnding.TheVariants.{Unmad
 ghost use Rattle.live_agent.specs.declared.loading.TheConstants.{ROOM};
 ghost use Rattle.live_agent.specs.Telephones.{end_of, lines_at, lines_of, load_ending, BeginsLoad, CountsFor, EndsLoad};
 ghost use Rattle.live_agent.specs.Telephones.{HearsOnce, HearsTelephones, KeepsRoom, PassesLoad};
-ghost use Rattle.live_agent.specs.Telephones.{SaysAll, SaysAndReports, SaysEach, SaysOne, SaysPassed};
+ghost use Rattle.live_agent.specs.Telephones.{SaysAll, SaysAndReports, SaysEach, SaysPassed};
 ghost use Rattle.live_agent.specs.Wiring.{due_of, with_read, FallsDueOver};
 
 use crate::recorder::Recorder;
@@ -94,34 +94,17 @@ pub(crate) fn count_came(
     load.bench.came(source, bytes, now);
 }
 
-// This is said to the telephones for which it is: whether memory was there for its text.
-fn say_one<S: Surroundings>(alloc: Global, around: &mut S, said: &Said) -> bool
-    ensures { SaysOne S.answers said.now result around.old around.new }
-{
-    match said.order.text(alloc) {
-        Ok(text) => {
-            around.answer(SocketAddr::V4(said.to), text.as_slice());
-            true
-        }
-        Err(_) => false,
-    }
-}
-
-// All was said so far, and so is this, or not.
-fn are_both(all: bool, told: bool) -> bool
-    ensures { result ≡ (all && told) }
-{
-    all && told
-}
-
-// These are said, one behind another: whether memory was there for all their texts.
+// These are said, one behind another, to the telephones for which they are: whether memory was there for all their texts.
 fn say_each<S: Surroundings>(alloc: Global, around: &mut S, orders: &[Said]) -> bool
     ensures { SaysEach S.answers orders.now result around.old around.new }
 {
     let mut all = true;
     for said in orders {
-        let told = say_one(alloc, around, said);
-        all = are_both(all, told);
+        let Ok(text) = said.order.text(alloc) else {
+            all = false;
+            continue;
+        };
+        around.answer(SocketAddr::V4(said.to), text.as_slice());
     }
     all
 }
