@@ -1,5 +1,5 @@
 //! Serves gateways and whoever types commands, a turn at a time, as a schedule says what comes next.
-ghost use Rattle.std.specs.Prelude.{◌≡◌, ◌||◌, ℕ, [], true, false, List, Option, Err, IfOk, IfErr};
+ghost use Rattle.std.specs.Prelude.{◌≡◌, ◌||◌, [], true, false, Option, Err, IfOk, IfErr};
 ghost use Rattle.live_agent.specs.Clock.{is_behind};
 ghost use Rattle.live_agent.specs.Datagrams.{HearsDatagram, HearsTexts, TakesDatagram, TakesEach, TakesOver};
 ghost use Rattle.live_agent.specs.Handing.{HandsTo};
@@ -8,7 +8,7 @@ ghost use Rattle.live_agent.specs.Settling.{SendsEach, SendsIssued, SettlesAll, 
 ghost use Rattle.live_agent.specs.Ticking.{GivesUpAll, GivesUpEach, TicksEach, WakesAll, WakesEach};
 ghost use Rattle.live_agent.specs.Serving.{Serves, TurnsOnce};
 ghost use Rattle.transmission.specs.Texts.{texts_of};
-ghost use Rattle.live_agent.specs.Turning.{stop_request, line_request, AsksFirst, AnswersWith, TellsCounts, TakesTyped, DoesTurn, DoesNext};
+ghost use Rattle.live_agent.specs.Turning.{stop_request, line_request, AsksFirst, TakesTyped, DoesTurn, DoesNext};
 ghost use Rattle.live_agent.specs.TypedCommands.{fault_text, issued_text, DoesCommand, IsTypedNext};
 ghost use Rattle.surroundings.specs.Typing.{left_of};
 ghost use Rattle.live_agent.specs.Wiring.{due_of, ms_until, longest_until, IsSituation, IsWaitedFor, AsksNext};
@@ -236,16 +236,6 @@ fn issued_text(alloc: Global, mut room: Vec<u8>, id: u32) -> Result<Vec<u8>, Out
     Ok(room)
 }
 
-// Answers what was counted so far.
-fn answer_counts<S: Surroundings + Drop>(wire: &mut Wire<S>)
-    ensures { (text : List ℕ) × TellsCounts wire.old.journal.value text × AnswersWith S.answers text wire.old wire.new }
-{
-    match wire.journal.counts() {
-        Ok(text) => wire.answer(text.as_slice()),
-        Err(_) => wire.answer(NO_MEMORY),
-    }
-}
-
 // What is typed next.
 #[derive(Clone, Copy)]
 enum Request {
@@ -346,7 +336,11 @@ fn take_line<S: Surroundings + Drop>(
     let request = request_in(&wire.lines);
     match request {
         Request::Nothing => {}
-        Request::Counts => answer_counts(wire),
+        // What was counted so far.
+        Request::Counts => match wire.journal.counts() {
+            Ok(text) => wire.answer(text.as_slice()),
+            Err(_) => wire.answer(NO_MEMORY),
+        },
         Request::Stop => {
             wire.answer(DONE);
             wire.end = Some(0);

@@ -1,4 +1,6 @@
-use Rattle.std.proofs.Common.{Some, refl}
+use Rattle.std.proofs.Common.{Some, inl, inr, refl, ap, ◌∙◌}
+use Rattle.agent_texts.specs.declared.journal.Journal.{Journal}
+use Rattle.live_agent.specs.Ending.{counted_in}
 use Rattle.live_agent.specs.Handing.{HandsTo}
 use Rattle.live_agent.proofs.TypingLemmas.{line_answered, telephones_heard}
 use Rattle.live_agent.proofs.session.take_line.Goals as goal
@@ -20,28 +22,47 @@ returns-in-Nothing g c =
       does = rw (c.in-Nothing.is) (refl, refl);
     })
 
-pub returns-in-Counts : goal.returns-in-Counts
-returns-in-Counts g c =
+pub returns-in-Ok : goal.returns-in-Ok
+returns-in-Ok g c =
     line_answered g.S.Surroundings.sockets (HandsTo g.S.Surroundings.sends g.S.Surroundings.traffic) g.S.Surroundings.hears g.S.Surroundings.answers c.args.moment
     c.args.wire.now.load c.hear_telephones.result c.args.board.now c.args.board.now c.args.wire.now c.hear_telephones.new.self c.hear_lines.new.self
-    c.answer_counts.new.wire c.hear_telephones.ensures.made c.if-hear_telephones.false (c.hear_telephones.ensures.none c.if-hear_telephones.false)
+    c.answer.new.self c.hear_telephones.ensures.made c.if-hear_telephones.false (c.hear_telephones.ensures.none c.if-hear_telephones.false)
     (c.hear_lines.ensures.heard.0, c.hear_lines.ensures.heard.1, c.hear_lines.ensures.heard.2, c.hear_lines.ensures.rest)
     (record {
       request = c.request_in-request.result;
       asks = c.request_in-request.ensures;
-      does = rw (c.in-Counts.is) (refl, c.answer_counts.ensures);
+      does = rw (c.in-Counts.is) (
+        refl,
+        (
+          c.as_slice.result.now,
+          inl (c.as_slice.ensures.value ∙ c.in-Ok.ensures ∙ ap (λ (journal : Journal). counted_in journal) c.deref.ensures),
+          (c.answer.ensures.answered, c.answer.ensures.left, c.answer.ensures.rest),
+        ),
+      );
+    })
+
+pub returns-in-Err : goal.returns-in-Err
+returns-in-Err g c =
+    line_answered g.S.Surroundings.sockets (HandsTo g.S.Surroundings.sends g.S.Surroundings.traffic) g.S.Surroundings.hears g.S.Surroundings.answers c.args.moment
+    c.args.wire.now.load c.hear_telephones.result c.args.board.now c.args.board.now c.args.wire.now c.hear_telephones.new.self c.hear_lines.new.self
+    c.answer-in-Err.new.self c.hear_telephones.ensures.made c.if-hear_telephones.false (c.hear_telephones.ensures.none c.if-hear_telephones.false)
+    (c.hear_lines.ensures.heard.0, c.hear_lines.ensures.heard.1, c.hear_lines.ensures.heard.2, c.hear_lines.ensures.rest)
+    (record {
+      request = c.request_in-request.result;
+      asks = c.request_in-request.ensures;
+      does = rw (c.in-Counts.is) (refl, (_, inr refl, (c.answer-in-Err.ensures.answered, c.answer-in-Err.ensures.left, c.answer-in-Err.ensures.rest)));
     })
 
 pub returns-in-Stop : goal.returns-in-Stop
 returns-in-Stop g c =
     line_answered g.S.Surroundings.sockets (HandsTo g.S.Surroundings.sends g.S.Surroundings.traffic) g.S.Surroundings.hears g.S.Surroundings.answers c.args.moment
     c.args.wire.now.load c.hear_telephones.result c.args.board.now c.args.board.now c.args.wire.now c.hear_telephones.new.self c.hear_lines.new.self
-    (record c.answer.new.self { end = Some 0 }) c.hear_telephones.ensures.made c.if-hear_telephones.false (c.hear_telephones.ensures.none c.if-hear_telephones.false)
+    (record c.answer-in-Stop.new.self { end = Some 0 }) c.hear_telephones.ensures.made c.if-hear_telephones.false (c.hear_telephones.ensures.none c.if-hear_telephones.false)
     (c.hear_lines.ensures.heard.0, c.hear_lines.ensures.heard.1, c.hear_lines.ensures.heard.2, c.hear_lines.ensures.rest)
     (record {
       request = c.request_in-request.result;
       asks = c.request_in-request.ensures;
-      does = rw (c.in-Stop.is) (refl, (c.answer.new.self, (c.answer.ensures.answered, c.answer.ensures.left, c.answer.ensures.rest), refl));
+      does = rw (c.in-Stop.is) (refl, (c.answer-in-Stop.new.self, (c.answer-in-Stop.ensures.answered, c.answer-in-Stop.ensures.left, c.answer-in-Stop.ensures.rest), refl));
     })
 
 pub returns-in-StopFromAfar : goal.returns-in-StopFromAfar
