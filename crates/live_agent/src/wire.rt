@@ -7,7 +7,7 @@ ghost use Rattle.exchange_log.specs.Pausing.{pause_line};
 ghost use Rattle.live_ends.specs.Waiting.{longest_wait};
 ghost use Rattle.mg_bytes.specs.Lists.{is_empty};
 ghost use Rattle.live_agent.specs.Wiring.{due_of, with_read, read_at, heard_at, ready_by};
-ghost use Rattle.live_agent.specs.Handing.{comes_in, HandsFirst, HandsOver, HandsTo, Leaves, Offers, OffersTo};
+ghost use Rattle.live_agent.specs.Handing.{comes_in, HandsOver, HandsTo, Leaves, Offers, OffersTo};
 ghost use Rattle.live_agent.specs.Sending.{SendsAll, SendsOne, SendsOver};
 ghost use Rattle.live_agent.specs.Tallying.{looked_counted, waited_counted, with_fate};
 ghost use Rattle.live_agent.specs.Tallying.{CountsLeaving, CountsOffer, CountsSent, OnlyCounts, OnlyNotes};
@@ -293,17 +293,6 @@ impl<S: Surroundings + Drop> Wire<S> {
         true
     }
 
-    // The next packet that the network hands out now, if there is one.
-    fn take_due(&mut self) -> Option<Packet>
-        ensures first { HandsFirst self.old.now.clock self.old.network result self.new.network }
-        ensures rest { self.new ≡ record self.old { network = self.new.network } }
-    {
-        match &mut self.network {
-            Some(network) => network.take_due(self.now.clock),
-            None => None,
-        }
-    }
-
     /// The next packet that the network hands over now, if there is one. Those before it that go out are sent.
     pub(crate) fn handed_over(&mut self) -> Option<Packet>
         ensures comes { IfSome result (λ packet. packet.way ≡ In) }
@@ -311,7 +300,10 @@ impl<S: Surroundings + Drop> Wire<S> {
         ensures hands { HandsOver (HandsTo S.sends S.traffic) result self.old self.new }
     {
         for _ in 0..MOST_AT_ONCE {
-            let Some(packet) = self.take_due() else {
+            let Some(network) = &mut self.network else {
+                return None;
+            };
+            let Some(packet) = network.take_due(self.now.clock) else {
                 return None;
             };
             if comes_in(packet.way) {
