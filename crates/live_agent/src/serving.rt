@@ -3,7 +3,7 @@ ghost use Rattle.std.specs.Prelude.{◌≡◌, ◌⊎◌, [], None, true, is_som
 ghost use Rattle.agent_texts.specs.Counts.{nothing_counted};
 ghost use Rattle.live_ends.specs.declared.ending.CommonEnding.TheVariants.{OutOfMemory};
 ghost use Rattle.live_agent.specs.Clock.{milliseconds};
-ghost use Rattle.live_agent.specs.Ending.{is_record_refused, WritesAndEnds};
+ghost use Rattle.live_agent.specs.Ending.{is_record_refused};
 ghost use Rattle.live_agent.specs.Handing.{HandsTo};
 ghost use Rattle.live_agent.specs.Serving.{Serves, ServesOver, ServesToEnd, TurnsOnce};
 ghost use Rattle.live_agent.specs.Wiring.{SpoilsSo};
@@ -144,29 +144,6 @@ fn is_record_refused(journal: &Journal) -> bool
     journal.told.is_refused() || journal.log.is_refused() || journal.capture.is_refused()
 }
 
-// Writes what was recorded to its end, and behind it what was counted: how the program ends, where the clock has failed or hasn't.
-fn finish<R: Clock, W: Recorder + Finisher>(
-    rt: &R,
-    journal: &mut Journal,
-    recorder: &mut W,
-    time: u64,
-    has_failed: bool,
-) -> CommonEnding
-    ensures ends { WritesAndEnds W.writes W.ends has_failed time journal.old recorder.old journal.new recorder.new result }
-    ensures tally { journal.new.tally ≡ journal.old.tally }
-{
-    recorder.write(journal, time);
-    let Ok(counts) = journal.counts() else {
-        return CommonEnding::OutOfMemory;
-    };
-    let written = recorder.end_with(rt, counts.as_slice(), time);
-    if has_failed {
-        return CommonEnding::Clock;
-    }
-    // Of a record that couldn't be written it was said at once.
-    CommonEnding::of_records(is_record_refused(journal), written)
-}
-
 // Serves with this desk until the end, and writes what was recorded to its end, and behind it what was counted: how the program ends. The
 // desk is let go.
 fn serve_to_end<R: Clock, S: Surroundings + Drop, W: Recorder + Finisher>(
@@ -183,7 +160,16 @@ fn serve_to_end<R: Clock, S: Surroundings + Drop, W: Recorder + Finisher>(
     let served = serve(alloc, &mut board, wire, recorder);
     board.close();
     let time = wire.around.time();
-    finish(rt, &mut wire.journal, recorder, time, served.is_err())
+    recorder.write(&mut wire.journal, time);
+    let Ok(counts) = wire.journal.counts() else {
+        return CommonEnding::OutOfMemory;
+    };
+    let written = recorder.end_with(rt, counts.as_slice(), time);
+    if served.is_err() {
+        return CommonEnding::Clock;
+    }
+    // Of a record that couldn't be written it was said at once.
+    CommonEnding::of_records(is_record_refused(&wire.journal), written)
 }
 
 /// Serves the gateways of a configuration over a wire until the end, and routes calls between their lines where that is asked for. What
