@@ -2,7 +2,7 @@
 use Rattle.std.proofs.Common.{◌≡◌, ℕ, ◌+◌, ◌<◌, ◌≤◌, List, ◌∷◌, ◌++◌, [], length, get_or, drop, sym, ap, subst, append_assoc, append-nil, ◌∙◌}
 use Rattle.std.proofs.lemmas.List.{drop_more, at_drop_all}
 use Rattle.std.specs.Global.{Box}
-use Rattle.std.specs.Prelude.{Option, None}
+use Rattle.std.specs.Prelude.{Option, Some, None}
 use Rattle.std.specs.declared.net.socket_addr.SocketAddrV4.{SocketAddrV4}
 use Rattle.agent_config.specs.declared.config.GatewayConfig.{GatewayConfig}
 use Rattle.load_bench.specs.declared.bench.Bench.{Bench}
@@ -10,7 +10,7 @@ use Rattle.load_bench.specs.declared.line.BenchLine.{BenchLine}
 use Rattle.load_bench.specs.declared.settings.LoadSettings.{LoadSettings}
 use Rattle.load_bench.specs.declared.tally.LoadTally.{LoadTally}
 use Rattle.load_bench.specs.Counting.{no_numbers}
-use Rattle.load_bench.specs.Opening.{unfailed, BeginsWith, OpensAt}
+use Rattle.load_bench.specs.Opening.{lines_behind, unfailed, BeginsWith, OpensAt}
 use Rattle.live_agent.specs.Telephones.{lines_at, lines_of}
 
 -- so many more are there, behind the gateway whose turn it is
@@ -47,6 +47,14 @@ pub none_more : (lines : List BenchLine) (telephones : Option SocketAddrV4) (num
     → lines ≡ lines ++ lines_at telephones numbers
 none_more lines telephones numbers none =
     sym (append-nil lines) ∙ ap (λ (at : Option SocketAddrV4). lines ++ lines_at at numbers) (sym none)
+
+-- one of which it is known adds all that it has
+pub some_more : (lines next : List BenchLine) (telephones : SocketAddrV4) (given : Option SocketAddrV4) (numbers put : List (List ℕ))
+    → given ≡ Some telephones → put ≡ numbers → next ≡ lines ++ lines_behind telephones 0 put → next ≡ lines ++ lines_at given numbers
+some_more lines next telephones given numbers put known same more =
+    more
+    ∙ ap (λ (keys : List (List ℕ)). lines ++ lines_behind telephones 0 keys) same
+    ∙ ap (λ (at : Option SocketAddrV4). lines ++ lines_at at numbers) (sym known)
 
 -- a bench that is made, then has these lines, and is asked then
 pub begun_with : (settings : LoadSettings) (now : ℕ) (lines : List BenchLine) (made asked : Bench)

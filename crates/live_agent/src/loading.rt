@@ -9,7 +9,7 @@ ghost use Rattle.live_agent.specs.Handing.{HandsTo};
 ghost use Rattle.live_agent.specs.Serving.{LoadsOver, Serves, ServesBegun, TurnsOnce};
 ghost use Rattle.live_agent.specs.declared.loading.LoadEnding.TheVariants.{Unmade};
 ghost use Rattle.live_agent.specs.declared.loading.TheConstants.{ROOM};
-ghost use Rattle.live_agent.specs.Telephones.{end_of, lines_at, lines_of, load_ending, BeginsLoad, CountsFor, EndsLoad};
+ghost use Rattle.live_agent.specs.Telephones.{end_of, lines_of, load_ending, BeginsLoad, CountsFor, EndsLoad};
 ghost use Rattle.live_agent.specs.Telephones.{HearsOnce, HearsTelephones, KeepsRoom, PassesLoad};
 ghost use Rattle.live_agent.specs.Telephones.{SaysAll, SaysAndReports, SaysEach, SaysPassed};
 ghost use Rattle.live_agent.specs.Wiring.{due_of, with_read, FallsDueOver};
@@ -18,7 +18,7 @@ use crate::recorder::Recorder;
 use crate::serving::{MICROSECONDS, WireSettings, board_of, open_wire};
 use crate::session::serve;
 use crate::wire::Wire;
-use agent_config::{AgentConfig, GatewayConfig};
+use agent_config::AgentConfig;
 use exchange_log::peer_text;
 use live_ends::{AddressWord, CommonEnding, SocketWanted};
 use live_outlets::{Outlets, boxed};
@@ -289,21 +289,6 @@ impl<S: Surroundings + Drop> Wire<S> {
     }
 }
 
-// Adds a gateway, if it has telephones.
-fn add_telephones(bench: &mut Bench, gateway: &GatewayConfig) -> Result<(), OutOfMemory>
-    ensures lines { OnOk result (bench.new.lines.items
-        ≡ bench.old.lines.items ++ lines_at gateway.now.phones gateway.now.numbers.items) }
-    ensures course { bench.new.course ≡ bench.old.course }
-    ensures tally { bench.new.tally ≡ bench.old.tally }
-{
-    match gateway.phones {
-        Some(telephones) => {
-            bench.add_gateway(gateway.address, telephones, gateway.numbers.as_slice())
-        }
-        None => Ok(()),
-    }
-}
-
 // Adds the gateways of a configuration that have telephones, and asks these at this moment, in ms.
 fn fill(bench: &mut Bench, config: &AgentConfig, now: u64) -> Result<(), OutOfMemory>
     ensures lines { OnOk result (bench.new.lines.items ≡ bench.old.lines.items ++ lines_of config.now.gateways.items) }
@@ -311,7 +296,10 @@ fn fill(bench: &mut Bench, config: &AgentConfig, now: u64) -> Result<(), OutOfMe
     ensures tally { OnOk result (bench.new.tally ≡ bench.old.tally) }
 {
     for gateway in config.gateways.iter() {
-        add_telephones(bench, gateway)?;
+        let Some(telephones) = gateway.phones else {
+            continue;
+        };
+        bench.add_gateway(gateway.address, telephones, gateway.numbers.as_slice())?;
     }
     bench.ask(now);
     Ok(())
