@@ -1,5 +1,5 @@
 //! Makes a load: calls at a rate between the telephones of gateways, which another call agent serves, or this program's own exchange.
-ghost use Rattle.std.specs.Prelude.{◌≡◌, ◌++◌, true, false, is_some, length, vec_len, IfOk, OnOk};
+ghost use Rattle.std.specs.Prelude.{◌≡◌, ◌++◌, true, false, is_some, vec_len, IfOk, OnOk};
 ghost use Rattle.load_bench.specs.declared.settings.LoadFault.TheVariants.{OutOfMemory};
 ghost use Rattle.load_bench.specs.Opening.{unfailed};
 ghost use Rattle.load_bench.specs.Over.{bench_over};
@@ -146,45 +146,25 @@ struct Look {
 }
 
 // Takes a datagram of telephones at this moment, in ms, if one has come.
-fn hear<S: Surroundings>(
-    alloc: Global,
-    around: &mut S,
-    bench: &mut Bench,
-    room: &mut [u8],
-    moment: u64,
-) -> Look
-    ensures over { result.is_over ≡ bench_over moment bench.new }
-    ensures heard { HearsOnce S.hears S.answers moment (length room.old) result.taken around.old around.new bench.old bench.new }
-{
-    let Some(found) = around.hear(room) else {
-        return Look {
-            taken: false,
-            is_over: bench.is_over(moment),
-        };
-    };
-    let text = room.get(..found.1).unwrap_or(&[]);
-    bench.hear(found.0, text, moment);
-    say_all(alloc, around, bench);
-    Look {
-        taken: true,
-        is_over: bench.is_over(moment),
-    }
-}
-
-// So it is over a load.
-fn hear_in<S: Surroundings>(alloc: Global, around: &mut S, load: &mut Load, moment: u64) -> Look
+fn hear<S: Surroundings>(alloc: Global, around: &mut S, load: &mut Load, moment: u64) -> Look
     ensures over { result.is_over ≡ bench_over moment load.new.bench }
     ensures heard { HearsOnce S.hears S.answers moment (vec_len load.old.room) result.taken around.old around.new
         load.old.bench load.new.bench }
     ensures room { KeepsRoom load.old load.new }
 {
-    hear(
-        alloc,
-        around,
-        &mut load.bench,
-        load.room.as_mut_slice(),
-        moment,
-    )
+    let Some(found) = around.hear(load.room.as_mut_slice()) else {
+        return Look {
+            taken: false,
+            is_over: load.bench.is_over(moment),
+        };
+    };
+    let text = load.room.as_slice().get(..found.1).unwrap_or(&[]);
+    load.bench.hear(found.0, text, moment);
+    say_all(alloc, around, &mut load.bench);
+    Look {
+        taken: true,
+        is_over: load.bench.is_over(moment),
+    }
 }
 
 // So many datagrams were read, where one more was, or none.
@@ -259,7 +239,7 @@ impl<S: Surroundings + Drop> Wire<S> {
         let Some(load) = &mut self.load else {
             return false;
         };
-        let look = hear_in(alloc, &mut self.around, &mut **load, moment);
+        let look = hear(alloc, &mut self.around, &mut **load, moment);
         self.read = with_read(look.taken, self.read);
         self.end = end_of(look.is_over, self.end);
         true
