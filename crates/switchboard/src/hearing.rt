@@ -5,9 +5,8 @@ ghost use Rattle.switchboard.specs.Boards.{taking_in};
 ghost use Rattle.switchboard.specs.Hearing.{is_new_to, is_strange, AnswersAt, NotesAt};
 ghost use Rattle.switchboard.specs.Hearing.{announcement_counted, command_counted, message_counted, response_counted};
 ghost use Rattle.switchboard.specs.Hearing.{HearsAnnouncement, HearsCommand, HearsMessage, HearsNotification, HearsResponse, HearsText};
-ghost use Rattle.call_office.specs.Steps.{HearsSome};
-ghost use Rattle.switchboard.specs.Steps.{AnnouncesTo, OfOffice, WaitsIn};
-ghost use Rattle.switchboard.specs.Taking.{first_of, taken_place, TakesOf, TakesTold};
+ghost use Rattle.switchboard.specs.Steps.{AnnouncesTo, WaitsIn};
+ghost use Rattle.switchboard.specs.Taking.{taken_place, TakesOf};
 ghost use Rattle.switchboard.specs.Tallying.{counted_if};
 ghost use Rattle.call_office.specs.Waiting.{Settles};
 
@@ -21,16 +20,6 @@ use agent_texts::Journal;
 use endpoint_names::read_name;
 use mg_bytes::same_no_case;
 use mgcp_text::{Message, Param, TextFault, TransactionId, Verb, read_message};
-
-// The place of the first line of the gateway at this place.
-fn first_of(gateways: &Vec<Gateway>, place: usize) -> usize
-    ensures { result ≡ first_of (slice_get gateways.now.items place) }
-{
-    match gateways.get(place) {
-        Some(gateway) => gateway.first,
-        None => 0,
-    }
-}
 
 // Tells of a command whose name isn't of the gateway at this place.
 fn tell_strange(
@@ -261,24 +250,10 @@ impl Switchboard {
         ensures rest { self.new ≡ record self.old { stations = self.new.stations; office = self.new.office } }
         ensures journal { journal.new ≡ record journal.old { tally = journal.new.tally; told = journal.new.told } }
     {
-        match self.notifying.at(first_of(&self.gateways, place), index) {
-            Some(line) => self.take_of(journal, place, line),
-            None => false,
-        }
-    }
-
-    // Takes what a line has told and wasn't taken yet: whether there was anything.
-    fn take_of(&mut self, journal: &mut Journal, place: usize, line: usize) -> bool
-        ensures takes { TakesTold line (slice_get self.old.gateways.items place) (slice_get self.old.stations.items line) result
-            self.old self.new }
-        ensures told { result ≡ true → OfOffice (HearsSome line) self.old.office self.new.office }
-        ensures waits { result ≡ true → WaitsIn line self.new.office }
-        ensures nothing { result ≡ false → self.new.office ≡ self.old.office }
-        ensures tally { journal.new.tally ≡ counted_if result with_notification journal.old.tally }
-        ensures rest { self.new ≡ record self.old { stations = self.new.stations; office = self.new.office } }
-        ensures journal { journal.new ≡ record journal.old { tally = journal.new.tally; told = journal.new.told } }
-    {
         let Some(gateway) = self.gateways.get(place) else {
+            return false;
+        };
+        let Some(line) = self.notifying.at(gateway.first, index) else {
             return false;
         };
         let Some(station) = self.stations.get_mut(line) else {

@@ -1,17 +1,33 @@
-use Rattle.std.proofs.Common.{◌≡◌, ℕ, Option, Some, subst, rules}
-use Rattle.std.specs.Prelude.{slice_get, IfSome}
-use Rattle.switchboard.specs.Steps.{WaitsIn}
-use Rattle.switchboard.specs.Taking.{taken_place, TakesOf}
+use Rattle.std.proofs.Common.{◌≡◌, Some, None, refl, rules}
+use Rattle.std.specs.Prelude.{slice_get}
+use Rattle.switchboard.specs.Taking.{taken_place}
+use Rattle.switchboard.proofs.TakingLemmas.{no_gateway, taken_so, waits_so}
 use Rattle.switchboard.proofs.switchboard.Switchboard.take.Goals as goal
 
-pub returns-in-Some-clause-takes : goal.returns-in-Some-clause-takes
-returns-in-Some-clause-takes c =
-    let found : Some c.in-Some.line
-    ≡ taken_place c.args.index (slice_get c.args.self.now.gateways.items c.args.place) c.args.self.now.notifying = search rules in
-    subst (λ (line : Option ℕ). TakesOf c.args.place line c.take_of.result c.args.self.now c.take_of.new.self) found c.take_of.ensures.takes
+pub returns-in_default-clause-takes : goal.returns-in_default-clause-takes
+returns-in_default-clause-takes c =
+    let none : slice_get c.args.self.now.gateways.items c.args.place ≡ None = search rules in
+    no_gateway c.args.place _ c.args.self.now none
 
-pub returns-in-Some-clause-waits : goal.returns-in-Some-clause-waits
-returns-in-Some-clause-waits c = λ told.
-    let found : Some c.in-Some.line
+pub returns-in_default-at-clause-takes : goal.returns-in_default-at-clause-takes
+returns-in_default-at-clause-takes c =
+    let none : None ≡ taken_place c.args.index (slice_get c.args.self.now.gateways.items c.args.place) c.args.self.now.notifying = search rules in
+    taken_so c.args.place None _ _ _ _ none (refl, refl, refl)
+
+pub returns-in_default-get_mut-clause-takes : goal.returns-in_default-get_mut-clause-takes
+returns-in_default-get_mut-clause-takes c =
+    let found : Some c.in-Some-at.line
     ≡ taken_place c.args.index (slice_get c.args.self.now.gateways.items c.args.place) c.args.self.now.notifying = search rules in
-    subst (λ (line : Option ℕ). IfSome line (λ one. WaitsIn one c.take_of.new.self.office)) found (c.take_of.ensures.waits told)
+    taken_so c.args.place (Some c.in-Some-at.line) _ _ _ _ found (search rules)
+
+pub returns-clause-takes : goal.returns-clause-takes
+returns-clause-takes c =
+    let found : Some c.in-Some-at.line
+    ≡ taken_place c.args.index (slice_get c.args.self.now.gateways.items c.args.place) c.args.self.now.notifying = search rules in
+    taken_so c.args.place (Some c.in-Some-at.line) _ _ _ _ found (search rules)
+
+pub returns-clause-waits : goal.returns-clause-waits
+returns-clause-waits c = λ told.
+    let found : Some c.in-Some-at.line
+    ≡ taken_place c.args.index (slice_get c.args.self.now.gateways.items c.args.place) c.args.self.now.notifying = search rules in
+    waits_so (Some c.in-Some-at.line) _ _ found (c.take_from.ensures.waits told)
