@@ -5,6 +5,8 @@ use Rattle.std.proofs.lemmas.List.{drop_more, at_drop_all, map-append}
 use Rattle.std.proofs.lemmas.List.Elements.{All-nil, All-push}
 use Rattle.std.specs.Prelude.{map, min, All}
 use Rattle.std.specs.declared.net.socket_addr.SocketAddrV4.{SocketAddrV4}
+use Rattle.endpoint_names.specs.declared.name.Pattern.TheVariants.{One}
+use Rattle.endpoint_names.specs.Name.{name_text}
 use Rattle.agent_config.specs.declared.config.GatewayConfig.{GatewayConfig}
 use Rattle.agent_texts.specs.declared.station.Station.{Station}
 use Rattle.switchboard.specs.declared.gateway.Gateway.{Gateway}
@@ -84,6 +86,15 @@ pub one_longer : (were are : List Gateway) (gateway : Gateway) → are ≡ were 
 one_longer were are gateway more = ap (λ (all : List Gateway). length all) more ∙ length-append were (gateway ∷ [])
 
 -- Lines: one more of a gateway is put, for the digits whose turn it is
+
+pub station_more : (gateway : ℕ) (domain : List ℕ) (line : ℕ) (name bytes number : List ℕ) (were are : List Station)
+    → name ≡ name_text (One line) domain → number ≡ bytes
+    → are ≡ were ++ (record { gateway = gateway; line = line; name = name; number = number; taken = 0 }) ∷ []
+    → are ≡ were ++ new_station gateway domain line bytes ∷ []
+station_more gateway domain line name bytes number were are name_is number_is more =
+    more
+    ∙ ap (λ (text : List ℕ). were ++ (record { gateway = gateway; line = line; name = text; number = number; taken = 0 }) ∷ []) name_is
+    ∙ ap (λ (digits : List ℕ). were ++ new_station gateway domain line digits ∷ []) number_is
 
 pub put_one : (gateway : ℕ) (domain : List ℕ) (before line : ℕ) (numbers : List (List ℕ)) (place : ℕ) (digits bytes : List ℕ)
     (all so_far next : List Station) → line ≡ min (before + 1) greatest_line → place < length numbers

@@ -1,5 +1,5 @@
 //! A board: the gateways that a call agent works with, and their lines; how it is made, and what its agents hear.
-ghost use Rattle.std.specs.Prelude.{◌≡◌, ◌&&◌, [], ◌∷◌, ◌++◌, None, Ok, All, length, map, position, slice_get};
+ghost use Rattle.std.specs.Prelude.{◌≡◌, ◌&&◌, [], ◌++◌, None, Ok, All, length, map, position, slice_get};
 ghost use Rattle.std.specs.Prelude.{IfNone, IfOk, OnErr, OnOk, is_ok, is_some};
 ghost use Rattle.std.specs.Result.{result_err};
 ghost use Rattle.plain_machine.specs.Event.{datagram, tick};
@@ -7,7 +7,7 @@ ghost use Rattle.call_agent.specs.Hearing.{hears};
 ghost use Rattle.call_agent.specs.AgentStands.{AgentStays, AgentTook};
 ghost use Rattle.switchboard.specs.AgentClock.{tick_to};
 ghost use Rattle.switchboard.specs.Boards.{is_at};
-ghost use Rattle.switchboard.specs.Opening.{gateways_from, known_as, lines_of, new_station, stations_behind, stations_from};
+ghost use Rattle.switchboard.specs.Opening.{gateways_from, known_as, lines_of, stations_behind, stations_from};
 ghost use Rattle.switchboard.specs.Opening.{BoardOf, StandsNew};
 ghost use Rattle.switchboard.specs.Steps.{AtPlace, OthersStay, Refuses, Ticks};
 
@@ -55,27 +55,6 @@ impl Drop for Switchboard {
     }
 }
 
-// Puts a line behind the others.
-fn put_station(
-    alloc: Global,
-    stations: &mut Vec<Station>,
-    gateway: usize,
-    line: u16,
-    domain: &[u8],
-    number: &[u8],
-) -> Result<(), OutOfMemory>
-    ensures { OnOk result (stations.new.items ≡ stations.old.items ++ new_station gateway domain.now line number.now ∷ []) }
-{
-    stations.push(Station {
-        gateway,
-        line,
-        name: write_name(alloc, Pattern::One(line), domain)?,
-        number: copied(alloc, number)?,
-        taken: 0,
-    })?;
-    Ok(())
-}
-
 // Puts the lines of a gateway behind the others, one for each number.
 fn put_stations(
     alloc: Global,
@@ -89,8 +68,23 @@ fn put_stations(
     let mut line: u16 = 0;
     for number in numbers {
         line = line.saturating_add(1);
-        let number = number.as_bytes();
-        put_station(alloc, stations, gateway, line, domain, number)?;
+        // By hand, as below: all lines are held here.
+        let Ok(name) = write_name(alloc, Pattern::One(line), domain) else {
+            return Err(AllocError);
+        };
+        let Ok(number) = copied(alloc, number.as_bytes()) else {
+            return Err(AllocError);
+        };
+        let station = Station {
+            gateway,
+            line,
+            name,
+            number,
+            taken: 0,
+        };
+        let Ok(()) = stations.push(station) else {
+            return Err(AllocError);
+        };
     }
     Ok(())
 }
