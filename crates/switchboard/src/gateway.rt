@@ -1,5 +1,5 @@
 //! A gateway that a call agent works with.
-ghost use Rattle.std.specs.Prelude.{◌≡◌, ◌<◌, ◌≤◌, [], ◌∷◌, ◌++◌, None, IfErr, IfOk, OnOk, OnErr, length, remove, slice_get, vec_len};
+ghost use Rattle.std.specs.Prelude.{◌≡◌, ◌<◌, ◌≤◌, [], ◌∷◌, ◌++◌, None, IfErr, IfOk, OnOk, OnErr, length, slice_get, vec_len};
 ghost use Rattle.std.specs.Vec.{vec_capacity};
 ghost use Rattle.std.specs.Result.{result_err};
 ghost use Rattle.endpoint_names.specs.declared.route.Route.TheVariants as routes;
@@ -116,17 +116,6 @@ fn is_ended_at(
     }
 }
 
-// The command at a place isn't among these any more, if it was.
-fn taken_at(flights: &mut Vec<Flight>, place: usize) -> Option<Flight>
-    ensures taken { result ≡ slice_get flights.old.items place }
-    ensures left { flights.new.items ≡ remove flights.old.items place }
-{
-    if place >= flights.len() {
-        return None;
-    }
-    Some(flights.remove(place))
-}
-
 // The first of these commands that is over at a moment, in ms. It isn't among them any more.
 fn first_ended(
     flights: &mut Vec<Flight>,
@@ -138,7 +127,7 @@ fn first_ended(
 {
     for place in 0..flights.len() {
         if is_ended_at(flights, place, response, moment) {
-            return taken_at(flights, place);
+            return Some(flights.remove(place));
         }
     }
     None

@@ -1,4 +1,4 @@
-use Rattle.std.proofs.Common.{◌≤◌, ◌+◌, List, Option, length, refl, ap, ◌∙◌, arith}
+use Rattle.std.proofs.Common.{◌≡◌, ◌<◌, ◌≤◌, ◌+◌, List, Option, Some, length, refl, ap, ◌∙◌, arith, rules}
 use Rattle.std.specs.Prelude.{slice_get}
 use Rattle.switchboard.specs.declared.flight.Flight.{Flight}
 use Rattle.switchboard.proofs.EndedLemmas.{all_passed, asked_count, passed_at, taken_at}
@@ -17,11 +17,22 @@ loop-place-preserved c = record {
       ∙ c.loop-place.invariant.left;
 }
 
+pub remove-requires : goal.remove-requires
+remove-requires c =
+    let many = asked_count c.args.response.now c.args.moment c.loop-place.place c.loop-place.flights.items c.is_ended_at.new.flights.items
+    (slice_get c.loop-place.flights.items c.loop-place.place) c.is_ended_at.ensures.flights in
+    omega (arith, c.loop-place-test.true, c.len-place-end.ensures, c.loop-place.invariant.count, many)
+
 pub returns-then-is_ended_at : goal.returns-then-is_ended_at
 returns-then-is_ended_at c =
-    let all = taken_at c.args.response.now c.args.moment c.loop-place.place c.loop-place.flights.items _ _
+    let many = asked_count c.args.response.now c.args.moment c.loop-place.place c.loop-place.flights.items c.is_ended_at.new.flights.items
+    (slice_get c.loop-place.flights.items c.loop-place.place) c.is_ended_at.ensures.flights in
+    let within : c.loop-place.place < length c.is_ended_at.new.flights.items
+    = omega (arith, c.loop-place-test.true, c.len-place-end.ensures, c.loop-place.invariant.count, many) in
+    let there : Some c.remove.result ≡ slice_get c.is_ended_at.new.flights.items c.loop-place.place = search rules in
+    let all = taken_at c.args.response.now c.args.moment c.loop-place.place c.loop-place.flights.items c.is_ended_at.new.flights.items _
     (slice_get c.loop-place.flights.items c.loop-place.place) _ _ refl
-    c.is_ended_at.ensures.over c.if-is_ended_at.true c.is_ended_at.ensures.flights c.taken_at.ensures.taken c.taken_at.ensures.left
+    c.is_ended_at.ensures.over c.if-is_ended_at.true c.is_ended_at.ensures.flights there c.remove.ensures.items
     ∙ c.loop-place.invariant.left in
     record {
       ended = ap (λ (found : Option Flight × List Flight). found.0) all;
