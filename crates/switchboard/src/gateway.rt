@@ -1,12 +1,9 @@
 //! A gateway that a call agent works with.
-ghost use Rattle.std.specs.Prelude.{◌≡◌, ◌<◌, ◌≤◌, [], ◌∷◌, ◌++◌, None, IfErr, IfOk, OnOk, OnErr, length, slice_get, vec_len};
-ghost use Rattle.std.specs.Vec.{vec_capacity};
+ghost use Rattle.std.specs.Prelude.{◌≡◌, [], ◌∷◌, ◌++◌, None, IfErr, IfOk, OnOk, OnErr, slice_get};
 ghost use Rattle.std.specs.Result.{result_err};
-ghost use Rattle.endpoint_names.specs.declared.route.Route.TheVariants as routes;
 ghost use Rattle.plain_machine.specs.Event.{tick};
 ghost use Rattle.call_agent.specs.Hearing.{hears, issues};
-ghost use Rattle.outbound.specs.Flight.{sent_first};
-ghost use Rattle.call_agent.specs.AgentStands.{AgentStands, AgentTook, AgentStays};
+ghost use Rattle.call_agent.specs.AgentStands.{AgentTook, AgentStays};
 ghost use Rattle.switchboard.specs.AgentClock.{first_id, tick_to};
 ghost use Rattle.switchboard.specs.Announcing.{is_new, last_new};
 ghost use Rattle.switchboard.specs.Dues.{FallsDueAt};
