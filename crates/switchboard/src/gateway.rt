@@ -113,23 +113,6 @@ fn is_ended_at(
     }
 }
 
-// The first of these commands that is over at a moment, in ms. It isn't among them any more.
-fn first_ended(
-    flights: &mut Vec<Flight>,
-    response: &Option<(TransactionId, u16)>,
-    moment: u64,
-) -> Option<Flight>
-    ensures ended { result ≡ first_ended response.now moment flights.old.items }
-    ensures left { flights.new.items ≡ still_flying response.now moment flights.old.items }
-{
-    for place in 0..flights.len() {
-        if is_ended_at(flights, place, response, moment) {
-            return Some(flights.remove(place));
-        }
-    }
-    None
-}
-
 impl Gateway {
     /// A gateway at this address with this domain and so many lines, of which the first has this place. The agent has this address of
     /// its own. It is this time of day, in ms: an agent that is started again issues its commands behind the ids of the one before, of
@@ -259,7 +242,12 @@ impl Gateway {
         ensures rest { self.new ≡ record self.old { flights = self.new.flights } }
     {
         let now = self.ticked;
-        first_ended(&mut self.flights, &response, now)
+        for place in 0..self.flights.len() {
+            if is_ended_at(&mut self.flights, place, &response, now) {
+                return Some(self.flights.remove(place));
+            }
+        }
+        None
     }
 
     /// Something is announced under this id: whether that is new.
