@@ -185,27 +185,6 @@ fn flight_at(exchange: &Exchange, line: usize) -> Option<Command>
     }
 }
 
-// The command that the exchange sends to a line, if it sends one; it is in flight from then on.
-fn routed(
-    alloc: Global,
-    exchange: &mut Exchange,
-    line: usize,
-    map: &[u8],
-) -> Result<Option<Order>, OutOfMemory>
-    ensures order { IfOk result (λ order. option_map shown order ≡ routed exchange.old line map.now) }
-    ensures sent { exchange.new ≡ sent_to exchange.old line }
-    ensures none { IfOk result (λ order. is_none order ≡ is_none (due exchange.old line)) }
-    ensures err { OnErr result (is_none (due exchange.old line) ≡ false) }
-{
-    let Some(command) = exchange.send(line) else {
-        return Ok(None);
-    };
-    Ok(Some(Order {
-        verb: command.verb(),
-        rest: exchange.parameters(alloc, line, map)?,
-    }))
-}
-
 // A command to the line that was for this was given up.
 fn forsake(exchange: &mut Exchange, line: usize, duty: Option<Duty>)
     ensures { exchange.new ≡ forsaken exchange.old line duty }
@@ -522,7 +501,7 @@ impl Office {
         }
     }
 
-    // The command of the exchange to the line, where that sends one; else none is in flight.
+    // The command of the exchange to the line, where that sends one, and it is in flight from then on; else none is.
     fn route(
         &mut self,
         alloc: Global,
@@ -535,14 +514,17 @@ impl Office {
             ≡ landed_if (is_none (due self.old.exchange line)) self.old.cares.items line }
         ensures rest { self.new ≡ record self.old { exchange = self.new.exchange; cares = self.new.cares } }
     {
-        let order = match routed(alloc, &mut self.exchange, line, map) {
-            Ok(order) => order,
-            Err(refused) => return Err(refused),
-        };
-        if order.is_none() {
+        let Some(command) = self.exchange.send(line) else {
             let _ = change_at(&mut self.cares, line, Change::Land);
-        }
-        Ok(order)
+            return Ok(None);
+        };
+        let Ok(rest) = self.exchange.parameters(alloc, line, map) else {
+            return Err(AllocError);
+        };
+        Ok(Some(Order {
+            verb: command.verb(),
+            rest,
+        }))
     }
 
     /// The command in flight to the line was answered by this final response at this moment, in ms: when what was put off of the line is
