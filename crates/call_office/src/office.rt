@@ -338,28 +338,6 @@ fn restart(exchange: &mut Exchange, line: usize, is_restart: bool)
     }
 }
 
-// A notification of the line told these events, where an audit had found its handset lifted before, or hadn't.
-fn hear(
-    alloc: Global,
-    exchange: &mut Exchange,
-    plan: &NumberPlan,
-    was_found_off: bool,
-    line: usize,
-    observed: &[Observed],
-) -> Result<(), OutOfMemory>
-    ensures ok { OnOk result (exchange.new
-        ≡ heard_by exchange.old line (notified was_found_off (told_in plan.now observed.now))) }
-    ensures err { OnErr result (exchange.new ≡ exchange.old) }
-    ensures memory { OnErr result (tells_digits observed.now ≡ true) }
-{
-    let told = told_in(alloc, plan, observed)?;
-    match notified(was_found_off, told) {
-        Some(told) => exchange.tell(line, told),
-        None => {}
-    }
-    Ok(())
-}
-
 // A notification of the line told these events. Where memory is refused for their digits the line's hook is asked for.
 fn take_told(
     alloc: Global,
@@ -373,12 +351,15 @@ fn take_told(
         exchange.new cares.new.items }
 {
     let was_off = was_found_off(change_at(cares, line, Change::Tell));
-    match hear(alloc, exchange, plan, was_off, line, observed) {
-        Ok(()) => {}
-        Err(_) => {
-            let _ = change_at(cares, line, Change::OweAudit);
-        }
-    }
+    let Ok(told) = told_in(alloc, plan, observed) else {
+        let _ = change_at(cares, line, Change::OweAudit);
+        return;
+    };
+    // By that an audit may have found its handset lifted before.
+    let Some(told) = notified(was_off, told) else {
+        return;
+    };
+    exchange.tell(line, told);
 }
 
 // How a line stands, and what it refuses for good.
