@@ -289,25 +289,6 @@ fn audit_answered(
     take_audit(alloc, exchange, cares, line, text);
 }
 
-// The deletion of all that the line has was answered: it is put off, or over.
-fn clear_answered(
-    exchange: &mut Exchange,
-    cares: &mut Vec<Care>,
-    line: usize,
-    moment: u64,
-    code: u16,
-)
-    ensures exchange { exchange.new ≡ cleared_by (is_put_off_in code (slice_get cares.old.items line)) exchange.old line code }
-    ensures cares { cares.new.items ≡ kept_behind Clear line moment code cares.old.items }
-{
-    let duty = Duty::Clear;
-    let was = change_at(cares, line, Change::Answer { moment, code, duty });
-    if is_put_off(was, code) {
-        return;
-    }
-    exchange.clear(line, code);
-}
-
 // A final response came at this moment to a command to the line that was for this, which has landed.
 fn take_response(
     alloc: Global,
@@ -324,7 +305,15 @@ fn take_response(
     match duty {
         Some(Duty::Route) => answer(alloc, exchange, cares, line, moment, code, text),
         Some(Duty::Audit) => audit_answered(alloc, exchange, cares, line, moment, code, text),
-        Some(Duty::Clear) => clear_answered(exchange, cares, line, moment, code),
+        // The deletion of all that the line has: it is put off, or over.
+        Some(Duty::Clear) => {
+            let duty = Duty::Clear;
+            let was = change_at(cares, line, Change::Answer { moment, code, duty });
+            if is_put_off(was, code) {
+                return;
+            }
+            exchange.clear(line, code);
+        }
         None => {}
     }
 }
