@@ -351,16 +351,6 @@ fn take_told(
     exchange.tell(line, told);
 }
 
-// How a line stands, and what it refuses for good.
-fn shown_of(exchange: &Exchange, line: usize) -> Shown
-    ensures { result ≡ shown_in exchange.now line }
-{
-    Shown {
-        standing: standing_of(exchange, line),
-        refusals: refusals_of(exchange, line),
-    }
-}
-
 // Whether a line stands so still.
 fn stands_so(was: Standing, is: Standing) -> bool
     ensures { IsTrue result ↔ (was ≡ is) }
@@ -611,7 +601,10 @@ impl Office {
         ensures exchange { self.new.exchange ≡ self.old.exchange }
         ensures rest { self.new ≡ record self.old { cares = self.new.cares } }
     {
-        let is = shown_of(&self.exchange, line);
+        let is = Shown {
+            standing: standing_of(&self.exchange, line),
+            refusals: refusals_of(&self.exchange, line),
+        };
         let Some(was) = change_at(&mut self.cares, line, Change::Show { shown: is }) else {
             return;
         };
