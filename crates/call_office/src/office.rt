@@ -104,17 +104,6 @@ fn change_at(cares: &mut Vec<Care>, line: usize, change: Change) -> Option<Care>
     }
 }
 
-// What begins at a line of which this is kept.
-fn duty_of(care: Option<Care>) -> Option<Duty>
-    ensures { result ≡ duty_of care }
-{
-    let care = care?;
-    if care.is_held() {
-        return None;
-    }
-    Some(care.next)
-}
-
 // What the command in flight to a line is for of which this is kept.
 fn flight_of(care: Option<Care>) -> Option<Duty>
     ensures { result ≡ flight_of care }
@@ -449,10 +438,13 @@ impl Office {
         ensures begins { Begins line self.old.exchange self.old.cares.items self.new.exchange self.new.cares.items }
         ensures rest { self.new ≡ record self.old { exchange = self.new.exchange; cares = self.new.cares } }
     {
-        let Some(duty) = duty_of(change_at(&mut self.cares, line, Change::Begin)) else {
+        let Some(care) = change_at(&mut self.cares, line, Change::Begin) else {
             return Ok(None);
         };
-        match fixed_order(duty) {
+        if care.is_held() {
+            return Ok(None);
+        }
+        match fixed_order(care.next) {
             Some((verb, rest)) => Ok(Some(Order {
                 verb,
                 rest: copied(alloc, rest)?,
