@@ -188,24 +188,19 @@ impl Care {
         }
     }
 
-    // Its gateway has started again.
-    fn outlive(&mut self)
-        ensures { self.new ≡ outlived self.old }
-    {
-        self.is_outlived = self.flight.is_some();
-        self.is_found_off = false;
-        self.put_off = 0;
-        self.again = None;
-    }
-
     // It is announced: it has started again, or lost its agent.
     fn announce(&mut self, is_restart: bool)
         ensures { self.new ≡ announced is_restart self.old }
     {
-        if is_restart {
-            self.outlive();
-        }
         self.owe(Duty::Audit);
+        if !is_restart {
+            return;
+        }
+        // Its gateway has started again.
+        self.is_outlived = self.flight.is_some();
+        self.is_found_off = false;
+        self.put_off = 0;
+        self.again = None;
     }
 
     // The command that was put off at this moment is sent again a while later.
