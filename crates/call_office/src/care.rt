@@ -118,16 +118,6 @@ fn duty_behind(off: PutOff) -> Option<Duty>
     }
 }
 
-// Whether the moment at which a command is sent again is this one.
-fn is_due_at(again: Option<u64>, moment: u64) -> bool
-    ensures { result ≡ is_due_at again moment }
-{
-    match again {
-        Some(again) => again == moment,
-        None => false,
-    }
-}
-
 /// The command that a duty is, by its verb and what stands behind its line; none where the exchange says which.
 pub(crate) fn fixed_order(duty: Duty) -> Option<(&'static [u8], &'static [u8])>
     ensures { option_map (λ order. (order.0.now, order.1.now)) result ≡ fixed_order duty }
@@ -214,8 +204,13 @@ impl Care {
     fn wake(&mut self, moment: u64)
         ensures { self.new ≡ woken moment self.old }
     {
-        if is_due_at(self.again, moment) {
-            self.again = None;
+        match self.again {
+            Some(again) => {
+                if again == moment {
+                    self.again = None;
+                }
+            }
+            None => {}
         }
     }
 
