@@ -44,16 +44,6 @@ fn hook_in(states: &[u8]) -> Option<bool>
     None
 }
 
-// What the parameters of an answer to an audit tell.
-fn hook_told(params: &[Param<'_>]) -> Option<bool>
-    ensures { result ≡ hook_told params.now }
-{
-    match param_at(b"ES", params) {
-        Some(param) => hook_in(param.value.as_slice()),
-        None => None,
-    }
-}
-
 /// What an answer to an audit tells of a hook.
 pub(crate) fn audited_hook(alloc: Global, text: &[u8]) -> Result<Option<bool>, OutOfMemory>
     ensures { IfOk result (λ hook. hook ≡ hook_by (read_text text.now)) }
@@ -63,7 +53,10 @@ pub(crate) fn audited_hook(alloc: Global, text: &[u8]) -> Result<Option<bool>, O
         Err(TextFault::NoHeader | TextFault::BadVersion { .. } | TextFault::BadBody { .. }) => Ok(
             None,
         ),
-        Ok(message) => Ok(hook_told(message.params())),
+        Ok(message) => match param_at(b"ES", message.params()) {
+            Some(param) => Ok(hook_in(param.value.as_slice())),
+            None => Ok(None),
+        },
     }
 }
 
