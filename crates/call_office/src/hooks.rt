@@ -17,28 +17,17 @@ fn is_either(text: &[u8], one: &[u8], other: &[u8]) -> bool
     same_no_case(text, one) || same_no_case(text, other)
 }
 
-// Whether a telephone is off the hook, as an event state says it (RFC 3435, 2.3.10).
-fn hook_of(state: &[u8]) -> Option<bool>
-    ensures { result ≡ hook_of state.now }
-{
-    if is_either(state, b"L/hd", b"hd") {
-        Some(true)
-    } else if is_either(state, b"L/hu", b"hu") {
-        Some(false)
-    } else {
-        None
-    }
-}
-
-// The same of a list of them.
+// Whether a telephone is off the hook, as the first event state of a list says it that does (RFC 3435, 2.3.10).
 #[tactic(auto, unfolding(crate::specs::Hooks::hook_among))]
 fn hook_in(states: &[u8]) -> Option<bool>
     ensures { result ≡ hook_among (items_of states.now) }
 {
     for state in list_items(states) {
-        match hook_of(state) {
-            Some(hook) => return Some(hook),
-            None => {}
+        if is_either(state, b"L/hd", b"hd") {
+            return Some(true);
+        }
+        if is_either(state, b"L/hu", b"hu") {
+            return Some(false);
         }
     }
     None
