@@ -4,7 +4,7 @@ ghost use Rattle.agent_texts.specs.Counts.{with_notification, with_strange_name}
 ghost use Rattle.switchboard.specs.Boards.{taking_in};
 ghost use Rattle.switchboard.specs.Hearing.{is_new_to, is_strange, AnswersAt, NotesAt};
 ghost use Rattle.switchboard.specs.Hearing.{announcement_counted, command_counted, message_counted, response_counted};
-ghost use Rattle.switchboard.specs.Hearing.{HearsAnnouncement, HearsCommand, HearsMessage, HearsNotification, HearsResponse, HearsText};
+ghost use Rattle.switchboard.specs.Hearing.{HearsAnnouncement, HearsCommand, HearsMessage, HearsResponse, HearsText};
 ghost use Rattle.switchboard.specs.Steps.{AnnouncesTo, WaitsIn};
 ghost use Rattle.switchboard.specs.Taking.{taken_place, TakesOf};
 ghost use Rattle.switchboard.specs.Tallying.{counted_if};
@@ -141,19 +141,6 @@ impl Switchboard {
         self.announce(place, name, false);
     }
 
-    // A notification came: what the agent took of it is to be taken of its line.
-    fn hear_notification(&mut self, place: usize, name: &[u8])
-        ensures { HearsNotification place name.now self.old self.new }
-    {
-        let Some(gateway) = self.gateways.get(place) else {
-            return;
-        };
-        let domain = gateway.domain.as_bytes();
-        if let Some(line) = line_meant(name, domain, gateway.lines, gateway.first) {
-            self.notifying.put(line);
-        }
-    }
-
     // A command came from the gateway at this place.
     fn hear_command(
         &mut self,
@@ -170,7 +157,16 @@ impl Switchboard {
     {
         match verb {
             Verb::Rsip => self.hear_announcement(journal, place, id, name, params),
-            Verb::Ntfy => self.hear_notification(place, name),
+            // What the agent took of it is to be taken of its line.
+            Verb::Ntfy => {
+                let Some(gateway) = self.gateways.get(place) else {
+                    return;
+                };
+                let domain = gateway.domain.as_bytes();
+                if let Some(line) = line_meant(name, domain, gateway.lines, gateway.first) {
+                    self.notifying.put(line);
+                }
+            }
             Verb::Epcf | Verb::Rqnt | Verb::Crcx | Verb::Mdcx | Verb::Dlcx => {}
             Verb::Auep | Verb::Aucx | Verb::Other => {}
         }
