@@ -12,7 +12,7 @@ ghost use Rattle.call_office.specs.Waiting.{Settles};
 
 use crate::announcing::announce_all;
 use crate::gateway::Gateway;
-use crate::naming::{is_unknown, line_meant, method_of};
+use crate::naming::{line_meant, method_of};
 use crate::orders::answer_at;
 use crate::switchboard::Switchboard;
 use crate::taking::take_from;
@@ -39,7 +39,7 @@ fn tell_strange(
     let Some(gateway) = gateways.get(place) else {
         return;
     };
-    if is_unknown(name.as_slice(), gateway.domain.as_bytes(), gateway.lines) {
+    if read_name(name.as_slice(), gateway.domain.as_bytes(), gateway.lines).is_err() {
         journal.tell_strange(text);
     }
 }

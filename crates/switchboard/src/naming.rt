@@ -1,5 +1,5 @@
 //! Names of endpoints: which gateway and which of its lines one means, and how lines are announced.
-ghost use Rattle.std.specs.Prelude.{◌≡◌, ◌∷◌, ◌++◌, IfOk, codes, is_err};
+ghost use Rattle.std.specs.Prelude.{◌≡◌, ◌∷◌, ◌++◌, IfOk, codes};
 ghost use Rattle.endpoint_names.specs.Name.{name_of};
 ghost use Rattle.mgcp_text.specs.Message.{param_at};
 ghost use Rattle.switchboard.specs.Hearing.{line_meant, method_of};
@@ -66,11 +66,4 @@ pub(crate) fn line_meant(name: &[u8], domain: &[u8], lines: u16, first: usize) -
         Ok(Pattern::One(line)) => Some(line_behind(first, line.saturating_sub(1))),
         Ok(Pattern::All | Pattern::Any) | Err(_) => None,
     }
-}
-
-/// Whether a name means no line of a gateway with this domain and so many lines.
-pub(crate) fn is_unknown(name: &[u8], domain: &[u8], lines: u16) -> bool
-    ensures { result ≡ is_err (name_of name.now domain.now lines) }
-{
-    read_name(name, domain, lines).is_err()
 }
