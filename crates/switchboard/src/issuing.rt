@@ -18,7 +18,7 @@ ghost use Rattle.call_office.specs.Waiting.{Touches};
 use crate::flight::Flight;
 use crate::gateway::Gateway;
 use crate::naming::has_domain;
-use crate::orders::{issue_by, issue_named};
+use crate::orders::issue_named;
 use crate::switchboard::Switchboard;
 use crate::typed::{TypedFault, typed_in};
 use agent_texts::Journal;
@@ -132,7 +132,9 @@ impl Switchboard {
         let Some(gateway) = self.gateways.get_mut(station.gateway) else {
             return Err(IssueFault::BadCommand);
         };
-        issue_by(self.alloc, gateway, station, order, line)
+        let name = station.name.as_bytes();
+        let rest = order.rest.as_bytes();
+        gateway.issue(self.alloc, order.verb, name, rest, Some(line))
     }
 
     // The command that is to be issued to a line now, if one is; it is in flight from then on. After an error, which is for want of

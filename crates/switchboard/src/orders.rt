@@ -1,8 +1,6 @@
-//! What the exchange orders of a gateway: that is issued, and its answer is told.
+//! What is typed for a gateway is issued, and what the exchange is told of an answer.
 ghost use Rattle.std.specs.Prelude.{◌≡◌};
 ghost use Rattle.switchboard.specs.Boards.{Answers};
-ghost use Rattle.switchboard.specs.Issuing.{IssuesUnder};
-ghost use Rattle.call_office.specs.Orders.{shown};
 ghost use Rattle.call_office.specs.Waiting.{Touches};
 ghost use Rattle.switchboard.specs.Steps.{Sends};
 ghost use Rattle.switchboard.specs.TypedCommands.{typed_fault, IssuesNamed};
@@ -10,26 +8,9 @@ ghost use Rattle.switchboard.specs.TypedCommands.{typed_fault, IssuesNamed};
 use crate::gateway::Gateway;
 use crate::naming::whole_name;
 use crate::typed::TypedFault;
-use agent_texts::Station;
 use call_agent::{IssueFault, Issued};
-use call_office::{Office, Order};
+use call_office::Office;
 use std::alloc::Global;
-
-/// Issues a command of the exchange to a line of a gateway.
-pub(crate) fn issue_by(
-    alloc: Global,
-    gateway: &mut Gateway,
-    station: &Station,
-    order: &Order,
-    line: usize,
-) -> Result<Issued, IssueFault>
-    ensures issues { IssuesUnder station.now.name (shown order.now) line result gateway.old gateway.new }
-    ensures sends { Sends gateway.old gateway.new }
-{
-    let name = station.name.as_bytes();
-    let rest = order.rest.as_bytes();
-    gateway.issue(alloc, order.verb, name, rest, Some(line))
-}
 
 // What an agent's fault is to who typed.
 fn typed_fault(fault: IssueFault) -> TypedFault
