@@ -2,7 +2,7 @@
 ghost use Rattle.std.specs.Prelude.{◌≡◌, true, false, IfSome, slice_get};
 ghost use Rattle.agent_texts.specs.Counts.{with_notification, with_strange_name};
 ghost use Rattle.switchboard.specs.Boards.{taking_in};
-ghost use Rattle.switchboard.specs.Hearing.{is_new_to, is_strange, AnswersAt, NotesAt};
+ghost use Rattle.switchboard.specs.Hearing.{is_strange, AnswersAt};
 ghost use Rattle.switchboard.specs.Hearing.{announcement_counted, command_counted, message_counted, response_counted};
 ghost use Rattle.switchboard.specs.Hearing.{HearsAnnouncement, HearsCommand, HearsMessage, HearsResponse, HearsText};
 ghost use Rattle.switchboard.specs.Steps.{AnnouncesTo, WaitsIn};
@@ -103,17 +103,6 @@ impl Switchboard {
         }
     }
 
-    // An announcement came under this id: whether that is new to the gateway at this place.
-    fn is_new_at(&mut self, place: usize, id: TransactionId) -> bool
-        ensures new { result ≡ is_new_to id (slice_get self.old.gateways.items place) }
-        ensures noted { NotesAt place id self.old self.new }
-    {
-        match self.gateways.get_mut(place) {
-            Some(gateway) => gateway.announces(id),
-            None => false,
-        }
-    }
-
     // An announcement came (RFC 3435, 2.3.12).
     fn hear_announcement(
         &mut self,
@@ -127,7 +116,10 @@ impl Switchboard {
         ensures tally { journal.new.tally ≡ announcement_counted id (slice_get self.old.gateways.items place) journal.old.tally }
         ensures rest { journal.new ≡ record journal.old { tally = journal.new.tally; told = journal.new.told } }
     {
-        if !self.is_new_at(place, id) {
+        let Some(gateway) = self.gateways.get_mut(place) else {
+            return;
+        };
+        if !gateway.announces(id) {
             return;
         }
         let method = method_of(params);
