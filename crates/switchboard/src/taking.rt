@@ -3,7 +3,7 @@ ghost use Rattle.std.specs.Prelude.{◌≡◌, true, false, drop};
 ghost use Rattle.agent_texts.specs.Counts.{with_notification};
 ghost use Rattle.call_office.specs.Steps.{HearsSome};
 ghost use Rattle.switchboard.specs.Steps.{OfOffice, WaitsIn};
-ghost use Rattle.switchboard.specs.Taking.{HearsTold, TakesFrom};
+ghost use Rattle.switchboard.specs.Taking.{TakesFrom};
 ghost use Rattle.switchboard.specs.Tallying.{counted_if};
 
 use crate::gateway::Gateway;
@@ -20,22 +20,6 @@ fn behind(observed: &[Observed], taken: usize) -> &[Observed]
     match observed.get(taken..) {
         Some(told) => told,
         None => &[],
-    }
-}
-
-// The exchange, if there is one, is told this of a line.
-fn tell_office(
-    alloc: Global,
-    plan: &NumberPlan,
-    office: &mut Option<Box<Office>>,
-    line: usize,
-    told: &[Observed],
-)
-    ensures hears { HearsTold plan.now line told.now office.old office.new }
-    ensures waits { WaitsIn line office.new }
-{
-    if let Some(office) = office {
-        office.told(alloc, plan, line, told);
     }
 }
 
@@ -64,6 +48,10 @@ pub(crate) fn take_from(
     }
     station.taken = observed.len();
     journal.tell_notification(station.name.as_bytes(), told);
-    tell_office(alloc, plan, office, line, told);
+    // The exchange, if there is one, is told this.
+    let Some(office) = office else {
+        return true;
+    };
+    office.told(alloc, plan, line, told);
     true
 }
