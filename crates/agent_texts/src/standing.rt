@@ -2,7 +2,7 @@
 ghost use Rattle.std.specs.Prelude.{◌≡◌};
 ghost use Rattle.call_routing.specs.Exchange.{line_of};
 ghost use Rattle.agent_texts.specs.Telling.{is_caller_in, words_of, call_line, line_line, end_told, standing_told, change_told, Tells};
-ghost use Rattle.agent_texts.specs.Standings.{stands_for, is_joined, progress_of, standing_of, with_failure, with_rest, with_change};
+ghost use Rattle.agent_texts.specs.Standings.{stands_for, is_joined, progress_of, standing_of, with_rest, with_change};
 
 use crate::journal::Journal;
 use crate::station::{Station, number_at};
@@ -102,28 +102,21 @@ fn is_caller_in(standing: Standing, call: u64) -> bool
     }
 }
 
-// Counts that a call of a line, which stands so now, ended before its ends were connected.
-fn count_failure(tally: &mut Tally, is: Standing)
-    ensures { tally.new ≡ with_failure is tally.old }
-{
-    match is {
-        Standing::Reorder => count(&mut tally.failed),
-        Standing::Rest
-        | Standing::Dialling
-        | Standing::Busy
-        | Standing::Caller { .. }
-        | Standing::Called => count(&mut tally.abandoned),
-    }
-}
-
 // Counts what became of a line that has no call of its own now.
 fn count_rest(tally: &mut Tally, was: Standing, is: Standing)
     ensures { tally.new ≡ with_rest was is tally.old }
 {
     match was {
-        // Its call is over.
+        // Its call is over, before its ends were connected, or behind that.
         Standing::Caller { progress, .. } => match progress {
-            Progress::Ringing | Progress::Answered => count_failure(tally, is),
+            Progress::Ringing | Progress::Answered => match is {
+                Standing::Reorder => count(&mut tally.failed),
+                Standing::Rest
+                | Standing::Dialling
+                | Standing::Busy
+                | Standing::Caller { .. }
+                | Standing::Called => count(&mut tally.abandoned),
+            },
             Progress::Connected => {}
         },
         // What it dialled led to no call.
