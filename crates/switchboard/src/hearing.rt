@@ -13,7 +13,6 @@ ghost use Rattle.call_office.specs.Waiting.{Settles};
 use crate::announcing::announce_all;
 use crate::gateway::Gateway;
 use crate::naming::{line_meant, method_of};
-use crate::orders::answer_at;
 use crate::switchboard::Switchboard;
 use crate::taking::take_from;
 use agent_texts::Journal;
@@ -55,7 +54,14 @@ impl Switchboard {
         let Some(office) = &mut self.office else {
             return;
         };
-        answer_at(self.alloc, gateway, &mut **office, line, code, text);
+        let Some(again) = office.answered(self.alloc, line, gateway.ticked, code, text) else {
+            return;
+        };
+        // Where memory is refused for keeping when it is sent again, it is so at once.
+        match gateway.put_off(line, again) {
+            Ok(()) => {}
+            Err(_) => office.wake(line, again),
+        }
     }
 
     // A response came from the gateway at this place.

@@ -1,7 +1,5 @@
-//! What is typed for a gateway is issued, and what the exchange is told of an answer.
+//! What is typed for a gateway is issued.
 ghost use Rattle.std.specs.Prelude.{◌≡◌};
-ghost use Rattle.switchboard.specs.Boards.{Answers};
-ghost use Rattle.call_office.specs.Waiting.{Touches};
 ghost use Rattle.switchboard.specs.Steps.{Sends};
 ghost use Rattle.switchboard.specs.TypedCommands.{typed_fault, IssuesNamed};
 
@@ -9,7 +7,6 @@ use crate::gateway::Gateway;
 use crate::naming::whole_name;
 use crate::typed::TypedFault;
 use call_agent::{IssueFault, Issued};
-use call_office::Office;
 use std::alloc::Global;
 
 // What an agent's fault is to who typed.
@@ -40,28 +37,5 @@ pub(crate) fn issue_named(
     match gateway.issue(alloc, verb, name.as_slice(), rest, None) {
         Ok(issued) => Ok(issued),
         Err(fault) => Err(typed_fault(fault)),
-    }
-}
-
-/// The exchange's command to a line of a gateway was answered. Where memory is refused for keeping when it is sent again, it is so at
-/// once.
-pub(crate) fn answer_at(
-    alloc: Global,
-    gateway: &mut Gateway,
-    office: &mut Office,
-    line: usize,
-    code: u16,
-    text: &[u8],
-)
-    ensures answers { Answers line code text.now gateway.old office.old gateway.new office.new }
-    ensures touches { Touches line office.old office.new }
-    ensures rest { gateway.new ≡ record gateway.old { wakes = gateway.new.wakes } }
-{
-    let Some(again) = office.answered(alloc, line, gateway.ticked, code, text) else {
-        return;
-    };
-    match gateway.put_off(line, again) {
-        Ok(()) => {}
-        Err(_) => office.wake(line, again),
     }
 }
