@@ -6,7 +6,7 @@ ghost use Rattle.load_bench.specs.Over.{bench_over};
 ghost use Rattle.load_bench.specs.Telephones.{CountsCame, CountsSent};
 ghost use Rattle.live_agent.specs.Clock.{milliseconds};
 ghost use Rattle.live_agent.specs.Handing.{HandsTo};
-ghost use Rattle.live_agent.specs.Serving.{LoadsOver, Serves, ServesBegun, TurnsOnce};
+ghost use Rattle.live_agent.specs.Serving.{LoadsOver, Serves, TurnsOnce};
 ghost use Rattle.live_agent.specs.declared.loading.LoadEnding.TheVariants.{Unmade};
 ghost use Rattle.live_agent.specs.declared.loading.TheConstants.{ROOM};
 ghost use Rattle.live_agent.specs.Telephones.{end_of, lines_of, load_ending, BeginsLoad, CountsFor, EndsLoad};
@@ -324,35 +324,6 @@ fn begin<S: Surroundings + Drop>(
     None
 }
 
-// Serves the gateways of a configuration until a load that has begun is over, and routes calls between their lines where that is asked for.
-// What is recorded is written after each turn. Where its exchange served its report is told then, and that is written, too.
-fn serve_load<S: Surroundings + Drop, W: Recorder>(
-    alloc: Global,
-    config: &AgentConfig,
-    file: &str,
-    agent: &str,
-    is_routed: bool,
-    wire: &mut Wire<S>,
-    recorder: &mut W,
-) -> LoadEnding
-    ensures { ServesBegun S.answers
-        (Serves S.passes S.tells (TurnsOnce S.traffic S.sockets (HandsTo S.sends S.traffic) S.passes S.dates S.tells S.sleeps S.receives
-        S.hears S.answers W.writes)) W.writes config.now is_routed wire.old result wire.new }
-{
-    let mut board = match board_of(alloc, config, is_routed, wire) {
-        Ok(board) => board,
-        Err(ending) => return LoadEnding::Common(ending),
-    };
-    let served = serve(alloc, &mut board, wire, recorder);
-    board.close();
-    if served.is_err() {
-        return LoadEnding::Common(CommonEnding::Clock);
-    }
-    let ending = wire.end_load(alloc, file, agent);
-    recorder.write(&mut wire.journal, wire.now.time);
-    ending
-}
-
 /// Makes a load over a wire, by the gateways of a configuration, whose file has this name: calls between their telephones, who are at the
 /// wire's commands. An exchange of this program's, whose clock begins now, serves them where that is asked for, and what becomes of its
 /// commands is counted. How far it is is logged, and the report is told.
@@ -373,17 +344,22 @@ pub fn load_over<S: Surroundings + Drop, W: Recorder>(
     };
     let is_routed = settings.is_routed;
     match begin(alloc, config, settings, wire) {
-        Some(ending) => LoadEnding::Common(ending),
-        None => serve_load(
-            alloc,
-            config,
-            file,
-            agent.as_str(),
-            is_routed,
-            wire,
-            recorder,
-        ),
+        Some(ending) => return LoadEnding::Common(ending),
+        None => {}
     }
+    let mut board = match board_of(alloc, config, is_routed, wire) {
+        Ok(board) => board,
+        Err(ending) => return LoadEnding::Common(ending),
+    };
+    // What is recorded is written after each turn. Where its exchange served its report is told then, and that is written, too.
+    let served = serve(alloc, &mut board, wire, recorder);
+    board.close();
+    if served.is_err() {
+        return LoadEnding::Common(CommonEnding::Clock);
+    }
+    let ending = wire.end_load(alloc, file, agent.as_str());
+    recorder.write(&mut wire.journal, wire.now.time);
+    ending
 }
 
 /// Makes a load as the settings ask, by the gateways of a configuration, whose file has this name, all of which have telephones.
