@@ -96,13 +96,18 @@ fn lines_of(numbers: &[Text]) -> u16
     u16::try_from(numbers.len()).unwrap_or(u16::MAX)
 }
 
-// The numbers of the lines, in their order.
-fn plan_of(alloc: Global, stations: &[Station]) -> Result<NumberPlan, OutOfMemory> {
+// How the lines are dialled: by their numbers, in their order, and by this map.
+fn dialling_of(
+    alloc: Global,
+    stations: &[Station],
+    map: &[u8],
+) -> Result<Box<Dialling>, OutOfMemory> {
     let mut numbers = Vec::new(alloc);
     for station in stations {
         numbers.push(copied(alloc, station.number.as_bytes())?)?;
     }
-    Ok(NumberPlan::of(numbers))
+    let map = copied(alloc, map)?;
+    Dialling::of(alloc, NumberPlan::of(numbers), map)
 }
 
 fn is_at(gateway: &Gateway, address: SocketAddrV4) -> bool
@@ -161,16 +166,10 @@ impl Switchboard {
         let Some(map) = &config.map else {
             return Ok(());
         };
-        let Ok(plan) = plan_of(self.alloc, &self.stations) else {
-            return Err(AllocError);
-        };
-        let Ok(map) = copied(self.alloc, map.as_bytes()) else {
-            return Err(AllocError);
-        };
         let Ok(office) = Office::new(self.alloc, self.stations.len()) else {
             return Err(AllocError);
         };
-        let Ok(dialling) = Dialling::of(self.alloc, plan, map) else {
+        let Ok(dialling) = dialling_of(self.alloc, &self.stations, map.as_bytes()) else {
             return Err(AllocError);
         };
         self.dialling = dialling;
