@@ -1,6 +1,6 @@
 //! A board: the gateways that a call agent works with, and their lines; how it is made, and what its agents hear.
-ghost use Rattle.std.specs.Prelude.{◌≡◌, ◌&&◌, [], ◌++◌, None, Ok, All, length, map, position, slice_get};
-ghost use Rattle.std.specs.Prelude.{IfNone, IfOk, OnErr, OnOk, is_ok, is_some};
+ghost use Rattle.std.specs.Prelude.{◌≡◌, [], ◌++◌, Ok, All, length, map, position, slice_get};
+ghost use Rattle.std.specs.Prelude.{IfNone, IfOk, OnErr, OnOk, is_ok};
 ghost use Rattle.std.specs.Result.{result_err};
 ghost use Rattle.plain_machine.specs.Event.{datagram, tick};
 ghost use Rattle.call_agent.specs.Hearing.{hears};
@@ -147,36 +147,6 @@ impl Switchboard {
         Ok(())
     }
 
-    // Adds the gateways of a configuration, and opens an exchange for their lines, which are dialled by its map, where calls are routed.
-    fn fill(&mut self, config: &AgentConfig, is_routed: bool, time: u64) -> Result<(), OutOfMemory>
-        ensures gateways { OnOk result (map known_as self.new.gateways.items ≡ map known_as self.old.gateways.items
-            ++ gateways_from time config.now.own (length self.old.stations.items) config.now.gateways.items) }
-        ensures stands { OnOk result (All StandsNew self.old.gateways.items → All StandsNew self.new.gateways.items) }
-        ensures stations { OnOk result (self.new.stations.items
-            ≡ self.old.stations.items ++ stations_from (length self.old.gateways.items) config.now.gateways.items) }
-        ensures office { OnOk result (self.old.office ≡ None → is_some self.new.office ≡ (is_routed && is_some config.now.map)) }
-    {
-        // By hand: a question mark is some twenty steps more, at each of which a check pays for all that stands there.
-        let Ok(()) = self.add_all(config, time) else {
-            return Err(AllocError);
-        };
-        if !is_routed {
-            return Ok(());
-        }
-        let Some(map) = &config.map else {
-            return Ok(());
-        };
-        let Ok(office) = Office::new(self.alloc, self.stations.len()) else {
-            return Err(AllocError);
-        };
-        let Ok(dialling) = dialling_of(self.alloc, &self.stations, map.as_bytes()) else {
-            return Err(AllocError);
-        };
-        self.dialling = dialling;
-        self.office = Some(office);
-        Ok(())
-    }
-
     /// The gateways of a configuration, and an exchange for their lines where calls are routed. It is this time of day, in ms. An error
     /// is for want of memory only.
     pub fn of(
@@ -199,10 +169,25 @@ impl Switchboard {
             dialling,
             notifying: Worklist::new(alloc, false),
         };
-        match board.fill(config, is_routed, time) {
-            Ok(()) => Ok(board),
-            Err(refused) => Err(refused),
+        // By hand: a question mark is some twenty steps more, at each of which a check pays for all that stands there.
+        let Ok(()) = board.add_all(config, time) else {
+            return Err(AllocError);
+        };
+        if !is_routed {
+            return Ok(board);
         }
+        let Some(map) = &config.map else {
+            return Ok(board);
+        };
+        let Ok(office) = Office::new(alloc, board.stations.len()) else {
+            return Err(AllocError);
+        };
+        let Ok(dialling) = dialling_of(alloc, &board.stations, map.as_bytes()) else {
+            return Err(AllocError);
+        };
+        board.dialling = dialling;
+        board.office = Some(office);
+        Ok(board)
     }
 
     /// Lets it go. Where it is dropped instead, the drops of all its parts are checked once more.
