@@ -11,9 +11,9 @@ use Rattle.switchboard.specs.declared.switchboard.Switchboard.{Switchboard}
 use Rattle.turns.specs.Schedule.{opening}
 use Rattle.turns.specs.declared.schedule.Schedule.{Schedule}
 use Rattle.live_agent.specs.declared.wire.Wire.{Wire}
-use Rattle.live_agent.specs.Serving.{served_ending, Runs, RunsTurns, Serves, StopsAt, Writes}
+use Rattle.live_agent.specs.Serving.{served_ending, Runs, RunsTurns, Serves, Writes}
 use Rattle.live_agent.specs.Turning.{Waits, WaitsUntil}
-use Rattle.live_agent.specs.Wiring.{due_of, longest_until, AsksNext, FallsDueFirst}
+use Rattle.live_agent.specs.Wiring.{due_of, longest_until, FallsDueFirst}
 
 -- what comes next isn't the end
 pub not_end : (is_over : Bool) → true ≡ not is_over → is_over ≡ false
@@ -57,13 +57,6 @@ module _ {S : Type 0} (turns : Switchboard → Wire S → Schedule → Switchboa
   runs_more count board between now was left is schedule behind after so_far turn =
       runs_by count (count + 1) board between now was left is schedule behind after (omega arith) so_far turn
 
-  -- behind them nothing more is done
-  pub runs_so : (count : ℕ) (board between now : Switchboard) (was left is : Wire S) (schedule behind : Schedule) → now ≡ between → is ≡ left
-      → RunsTurns turns count board was schedule between left behind → RunsTurns turns count board was schedule now is behind
-  runs_so count board between now was left is schedule behind same_board same_wire so_far =
-      subst (λ (one : Switchboard). RunsTurns turns count board was schedule one is behind) (sym same_board)
-      (subst (λ (one : Wire S). RunsTurns turns count board was schedule between one behind) (sym same_wire) so_far)
-
 -- it served from the moment on that the clock told
 pub serves_so : {S : Type 0} (passes : S → Result ℕ Fault → Type 0) (tells : S → Told → Type 0)
     (turns : Switchboard → Wire S → Schedule → Switchboard → Wire S → Schedule → Type 0) (start : ℕ) (result : Result ⊤ Fault)
@@ -71,23 +64,6 @@ pub serves_so : {S : Type 0} (passes : S → Result ℕ Fault → Type 0) (tells
     → Runs passes tells turns result board was opened now is → Serves passes tells turns result board was now is
 serves_so passes tells turns start result board now was is opened tells_start opened_is runs =
     inl (start, tells_start, subst (λ (schedule : Schedule). Runs passes tells turns result board was schedule now is) opened_is runs)
-
-module _ {S : Type 0} (passes : S → Result ℕ Fault → Type 0) (tells : S → Told → Type 0) where
-  -- the end comes next
-  pub stops_ended : (count : ℕ) (board now : Switchboard) (was is : Wire S) (schedule next : Schedule) → now ≡ board → is ≡ was
-      → AsksNext passes tells board was schedule false next → StopsAt passes tells (Ok tt) count now is schedule
-  stops_ended count board now was is schedule next same_board same_wire asks =
-      inl (
-        next,
-        subst (λ (one : Switchboard). AsksNext passes tells one is schedule false next) (sym same_board)
-            (subst (λ (one : Wire S). AsksNext passes tells board one schedule false next) (sym same_wire) asks),
-      )
-
-  -- the clock fails
-  pub stops_failed : (fault : Fault) (count : ℕ) (now : Switchboard) (was is : Wire S) (schedule : Schedule) → is ≡ was → passes was.around (Err fault)
-      → StopsAt passes tells (Err fault) count now is schedule
-  stops_failed fault count now was is schedule same_wire failed =
-      subst (λ (one : Wire S). passes one.around (Err fault)) (sym same_wire) failed
 
 -- how an exchange ends whose clock failed, and one that served
 

@@ -8,10 +8,11 @@ ghost use Rattle.live_agent.specs.Settling.{SendsEach, SettlesAll, ShowsEach};
 ghost use Rattle.live_agent.specs.Ticking.{GivesUpAll, GivesUpEach, TicksEach, WakesAll, WakesEach};
 ghost use Rattle.live_agent.specs.Serving.{Serves, TurnsOnce};
 ghost use Rattle.transmission.specs.Texts.{texts_of};
-ghost use Rattle.live_agent.specs.Turning.{stop_request, line_request, AsksFirst, TakesTyped, DoesTurn, DoesNext};
+ghost use Rattle.turns.specs.Runs.{is_end};
+ghost use Rattle.live_agent.specs.Turning.{stop_request, line_request, AsksFirst, TakesTyped, DoesTurn};
 ghost use Rattle.live_agent.specs.TypedCommands.{fault_text, issued_text, DoesCommand, IsTypedNext};
 ghost use Rattle.surroundings.specs.Typing.{left_of};
-ghost use Rattle.live_agent.specs.Wiring.{due_of, ms_until, longest_until, IsSituation, IsWaitedFor, AsksNext};
+ghost use Rattle.live_agent.specs.Wiring.{due_of, ms_until, longest_until, IsSituation, IsWaitedFor};
 
 use crate::loading::count_came;
 use crate::recorder::Recorder;
@@ -504,36 +505,11 @@ fn do_turn<S: Surroundings + Drop>(
     }
 }
 
-// Asks what comes next and does that: whether the end hasn't come. An error is of the clock.
-fn turn<S: Surroundings + Drop>(
-    alloc: Global,
-    board: &mut Switchboard,
-    wire: &mut Wire<S>,
-    schedule: &mut Schedule,
-) -> Result<bool, Fault>
-    ensures next { IfOk result (λ goes_on. AsksNext S.passes S.tells board.old wire.old schedule.old goes_on schedule.new) }
-    ensures does { IfOk result (λ goes_on. goes_on ≡ true →
-        DoesNext S.traffic S.sockets (HandsTo S.sends S.traffic) S.passes S.dates S.tells
-        S.sleeps S.receives S.hears S.answers board.old board.new wire.old wire.new schedule.old schedule.new) }
-    ensures ended { IfOk result (λ goes_on. goes_on ≡ false → (wire.new ≡ wire.old) × (board.new ≡ board.old)) }
-    ensures failed { IfErr result (λ fault. S.passes wire.old.around (Err fault)) }
-    ensures fault { IfErr result (λ _. (wire.new ≡ wire.old) × (board.new ≡ board.old) × (schedule.new ≡ schedule.old)) }
+// Whether this is the end.
+fn is_end(turn: Turn) -> bool
+    ensures { result ≡ is_end turn }
 {
-    let at = match situation(board, wire) {
-        Ok(at) => at,
-        Err(fault) => return Err(fault),
-    };
-    let turn = schedule.next(at);
-    if matches!(turn, Turn::End) {
-        return Ok(false);
-    }
-    wire.now.time = wire.around.time();
-    wire.is_behind = is_behind(at.moment, at.ticked);
-    // At the start all lines wait to be settled, and later those whose command couldn't be issued, or that something happened to while the
-    // clock was behind.
-    settle(board, wire);
-    do_turn(alloc, board, wire, turn, at.moment);
-    Ok(true)
+    matches!(turn, Turn::End)
 }
 
 /// Serves until the end comes, and writes after each turn what was recorded. An error is of the clock.
@@ -553,13 +529,20 @@ pub(crate) fn serve<S: Surroundings + Drop, W: Recorder>(
     };
     let mut schedule = Schedule::starting_at(start);
     for _ in 0..u64::MAX {
-        let goes_on = match turn(alloc, board, wire, &mut schedule) {
-            Ok(goes_on) => goes_on,
+        let at = match situation(board, wire) {
+            Ok(at) => at,
             Err(fault) => return Err(fault),
         };
-        if !goes_on {
+        let turn = schedule.next(at);
+        if is_end(turn) {
             return Ok(());
         }
+        wire.now.time = wire.around.time();
+        wire.is_behind = is_behind(at.moment, at.ticked);
+        // At the start all lines wait to be settled, and later those whose command couldn't be issued, or that something happened to
+        // while the clock was behind.
+        settle(board, wire);
+        do_turn(alloc, board, wire, turn, at.moment);
         // As much as is taken at once; whether some of it waits to be taken is kept.
         recorder.write(&mut wire.journal, wire.now.time);
         wire.is_offering = recorder.is_offering();

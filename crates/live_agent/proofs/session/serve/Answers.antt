@@ -1,9 +1,14 @@
-use Rattle.std.proofs.Common.{◌≡◌, ◌-◌, true, false, inr, refl, arith, rules}
+use Rattle.std.proofs.Common.{◌≡◌, ◌-◌, Bool, true, false, inl, inr, refl, ap, sym, subst, ◌∙◌, arith}
 use Rattle.std.specs.Box.{with_value}
-use Rattle.std.specs.Prelude.{Err}
+use Rattle.std.specs.Prelude.{Err, not}
+use Rattle.turns.specs.Runs.{is_end}
+use Rattle.turns.specs.declared.schedule.Schedule.{Schedule}
+use Rattle.turns.specs.declared.turn.Turn.{Turn}
 use Rattle.live_agent.specs.Handing.{HandsTo}
 use Rattle.live_agent.specs.Serving.{TurnsOnce}
-use Rattle.live_agent.proofs.ServingLemmas.{runs_more, runs_so, serves_so, stops_ended, stops_failed, written_so}
+use Rattle.live_agent.specs.Turning.{DoesTurn}
+use Rattle.live_agent.proofs.SendingLemmas.{begun_so}
+use Rattle.live_agent.proofs.ServingLemmas.{not_end, runs_more, serves_so, written_so}
 use Rattle.live_agent.proofs.session.serve.Goals as goal
 
 pub loop-init : goal.loop-init
@@ -11,50 +16,72 @@ loop-init g c = (refl, refl, refl)
 
 pub loop-preserved : goal.loop-preserved
 loop-preserved g c =
-    let went : c.in-Ok-turn.goes_on ≡ true = search rules in
-    let written = record c.turn.new.wire { journal = with_value c.turn.new.wire.journal c.write.new.journal } in
+    let goes : true ≡ not (is_end c.next-turn.result) = ap (λ (over : Bool). not over) (sym (sym c.is_end.ensures ∙ c.if-is_end.false)) in
+    let begun = record c.loop.wire { now = record c.loop.wire.now { time = c.time-wire.result } } in
+    let written = record c.do_turn.new.wire { journal = with_value c.do_turn.new.wire.journal c.write.new.journal } in
     let offered = record written { is_offering = c.is_offering-wire.result } in
     runs_more (TurnsOnce g.S.Surroundings.traffic g.S.Surroundings.sockets (HandsTo g.S.Surroundings.sends g.S.Surroundings.traffic) g.S.Surroundings.passes g.S.Surroundings.dates g.S.Surroundings.tells g.S.Surroundings.sleeps g.S.Surroundings.receives g.S.Surroundings.hears
     g.S.Surroundings.answers g.W.Recorder.writes)
-    c.loop.counter c.args.board.now c.loop.board c.turn.new.board c.args.wire.now c.loop.wire offered c.starting_at-schedule.result c.loop.schedule
-    c.turn.new.schedule c.loop.invariant (record {
-      done = c.turn.new.wire;
-      asks = rw went at c.in-Ok-turn.ensures.next;
-      does = c.in-Ok-turn.ensures.does went;
-      written = written_so g.W.Recorder.writes c.loop.recorder c.write.new.self c.turn.new.wire written offered
+    c.loop.counter c.args.board.now c.loop.board c.do_turn.new.board c.args.wire.now c.loop.wire offered c.starting_at-schedule.result c.loop.schedule
+    c.next-turn.new.self c.loop.invariant (record {
+      done = c.do_turn.new.wire;
+      asks = record {
+        at = c.in-Ok-situation.at;
+        turn = c.next-turn.result;
+        situation = c.in-Ok-situation.ensures.stands;
+        comes = c.next-turn.ensures;
+        goes = goes;
+      };
+      does = record {
+        at = c.in-Ok-situation.at;
+        settled = c.settle.new.board;
+        begun = _;
+        sent = c.settle.new.wire;
+        situation = c.in-Ok-situation.ensures.stands;
+        goes_on = ap (λ (next : Turn × Schedule). is_end next.0) (sym c.next-turn.ensures) ∙ not_end (is_end c.next-turn.result) goes;
+        behind = ap (λ (next : Turn × Schedule). next.1) c.next-turn.ensures;
+        begins = begun_so c.loop.wire begun _ _ refl c.is_behind-wire.ensures;
+        dated = c.time-wire.ensures;
+        settles = c.settle.ensures;
+        does = subst (λ (turn : Turn). DoesTurn g.S.Surroundings.traffic g.S.Surroundings.sockets g.S.Surroundings.sleeps (HandsTo g.S.Surroundings.sends g.S.Surroundings.traffic) g.S.Surroundings.receives g.S.Surroundings.hears
+            g.S.Surroundings.answers c.in-Ok-situation.at.moment turn c.settle.new.board
+            c.do_turn.new.board c.settle.new.wire c.do_turn.new.wire)
+            (ap (λ (next : Turn × Schedule). next.0) c.next-turn.ensures) c.do_turn.ensures;
+      };
+      written = written_so g.W.Recorder.writes c.loop.recorder c.write.new.self c.do_turn.new.wire written offered
           (rw (c.deref_mut.ensures.value) at c.write.ensures.wrote) (rw (c.deref_mut.ensures.value) at c.write.ensures.kept) refl refl;
     })
 
-pub returns-in-Err-turn : goal.returns-in-Err-turn
-returns-in-Err-turn g c =
+pub returns-in-Err-situation : goal.returns-in-Err-situation
+returns-in-Err-situation g c =
     serves_so g.S.Surroundings.passes g.S.Surroundings.tells (TurnsOnce g.S.Surroundings.traffic g.S.Surroundings.sockets (HandsTo g.S.Surroundings.sends g.S.Surroundings.traffic) g.S.Surroundings.passes g.S.Surroundings.dates g.S.Surroundings.tells g.S.Surroundings.sleeps g.S.Surroundings.receives g.S.Surroundings.hears
     g.S.Surroundings.answers g.W.Recorder.writes)
     c.in-Ok.start _ c.args.board.now _ c.args.wire.now _ c.starting_at-schedule.result c.in-Ok.ensures c.starting_at-schedule.ensures (record {
       count = c.loop.counter;
       behind = c.loop.schedule;
-      runs = runs_so (TurnsOnce g.S.Surroundings.traffic g.S.Surroundings.sockets (HandsTo g.S.Surroundings.sends g.S.Surroundings.traffic) g.S.Surroundings.passes g.S.Surroundings.dates g.S.Surroundings.tells g.S.Surroundings.sleeps g.S.Surroundings.receives g.S.Surroundings.hears
-          g.S.Surroundings.answers g.W.Recorder.writes)
-          c.loop.counter c.args.board.now c.loop.board c.turn.new.board c.args.wire.now c.loop.wire c.turn.new.wire c.starting_at-schedule.result c.loop.schedule
-          c.in-Err-turn.ensures.fault.1 c.in-Err-turn.ensures.fault.0 c.loop.invariant;
-      stops = stops_failed g.S.Surroundings.passes g.S.Surroundings.tells c.in-Err-turn.fault c.loop.counter c.turn.new.board c.loop.wire c.turn.new.wire c.loop.schedule
-          c.in-Err-turn.ensures.fault.0 c.in-Err-turn.ensures.failed;
+      runs = c.loop.invariant;
+      stops = c.in-Err-situation.ensures.failed;
     })
 
-pub returns-then-not-goes_on : goal.returns-then-not-goes_on
-returns-then-not-goes_on g c =
-    let over : c.in-Ok-turn.goes_on ≡ false = search rules in
-    let same = c.in-Ok-turn.ensures.ended over in
+pub returns-then-is_end : goal.returns-then-is_end
+returns-then-is_end g c =
+    let over : false ≡ not (is_end c.next-turn.result) = ap (λ (one : Bool). not one) (sym (sym c.is_end.ensures ∙ c.if-is_end.true)) in
     serves_so g.S.Surroundings.passes g.S.Surroundings.tells (TurnsOnce g.S.Surroundings.traffic g.S.Surroundings.sockets (HandsTo g.S.Surroundings.sends g.S.Surroundings.traffic) g.S.Surroundings.passes g.S.Surroundings.dates g.S.Surroundings.tells g.S.Surroundings.sleeps g.S.Surroundings.receives g.S.Surroundings.hears
     g.S.Surroundings.answers g.W.Recorder.writes)
     c.in-Ok.start _ c.args.board.now _ c.args.wire.now _ c.starting_at-schedule.result c.in-Ok.ensures c.starting_at-schedule.ensures (record {
       count = c.loop.counter;
       behind = c.loop.schedule;
-      runs = runs_so (TurnsOnce g.S.Surroundings.traffic g.S.Surroundings.sockets (HandsTo g.S.Surroundings.sends g.S.Surroundings.traffic) g.S.Surroundings.passes g.S.Surroundings.dates g.S.Surroundings.tells g.S.Surroundings.sleeps g.S.Surroundings.receives g.S.Surroundings.hears
-          g.S.Surroundings.answers g.W.Recorder.writes)
-          c.loop.counter c.args.board.now c.loop.board c.turn.new.board c.args.wire.now c.loop.wire c.turn.new.wire c.starting_at-schedule.result c.loop.schedule
-          same.1 same.0 c.loop.invariant;
-      stops = stops_ended g.S.Surroundings.passes g.S.Surroundings.tells c.loop.counter c.loop.board c.turn.new.board c.loop.wire c.turn.new.wire
-          c.loop.schedule c.turn.new.schedule same.1 same.0 (rw over at c.in-Ok-turn.ensures.next);
+      runs = c.loop.invariant;
+      stops = inl (
+        c.next-turn.new.self,
+        record {
+          at = c.in-Ok-situation.at;
+          turn = c.next-turn.result;
+          situation = c.in-Ok-situation.ensures.stands;
+          comes = c.next-turn.ensures;
+          goes = over;
+        },
+      );
     })
 
 pub returns : goal.returns
