@@ -1,5 +1,5 @@
 -- What is issued to a line, by its station and its gateway.
-use Rattle.std.proofs.Common.{◌≡◌, ℕ, List, [], ◌∷◌, Option, Some, None, Ok, Err, Result, inl, inr, refl, sym, ap, subst, ◌∙◌}
+use Rattle.std.proofs.Common.{◌≡◌, ℕ, Bool, List, [], ◌∷◌, Option, Some, None, Ok, Err, Result, inl, inr, refl, sym, ap, subst, ◌∙◌}
 use Rattle.std.proofs.lemmas.Option.{same_Some}
 use Rattle.std.specs.Prelude.{IfErr, IfOk, OnErr, slice_get}
 use Rattle.call_agent.specs.declared.issuing.Issued.{Issued}
@@ -9,8 +9,11 @@ use Rattle.call_agent.specs.AgentStands.{AgentStays, AgentTook, IssueEnds}
 use Rattle.call_agent.specs.Hearing.{issues}
 use Rattle.call_agent.specs.Issuing.{IssueRefusal, no_more_ids, bad_command}
 use Rattle.switchboard.specs.declared.gateway.Gateway.{Gateway}
+use Rattle.std.specs.Global.{Box}
+use Rattle.call_office.specs.declared.office.Office.{Office}
 use Rattle.switchboard.specs.declared.switchboard.Switchboard.{Switchboard}
-use Rattle.switchboard.specs.Issuing.{Fails, FailsBy, Flies, IssuesOrder, IssuesTo, IssuesUnder, RefusedBefore, SendsAlone}
+use Rattle.switchboard.specs.Issuing.{ordered_in, Fails, FailsBy, Flies, IssuesOrder, IssuesSettled, IssuesTo, IssuesUnder, RefusedBefore, SendsAlone, SendsAtMost}
+use Rattle.switchboard.specs.Steps.{Issues, IssuesAt, WaitsBehind}
 use Rattle.call_office.specs.Orders.{Shown}
 
 -- a command was issued under a name with what stands behind its line, by these texts; or it wasn't
@@ -70,6 +73,23 @@ pub sent_alone : (line : ℕ) (was ordering issuing is : Switchboard) → orderi
 sent_alone line was ordering issuing is rest alone same =
     subst (λ (are : List Gateway). SendsAlone (slice_get was.stations.items line) was.gateways.items are) (sym same)
     (subst (λ (board : Switchboard). SendsAlone (slice_get board.stations.items line) board.gateways.items issuing.gateways.items) rest alone)
+
+-- so it is of the line that is settled
+pub issues_at : (found : Option ℕ) (line : ℕ) (fails : Bool) (was is : Option (Box Office)) → found ≡ Some line → Issues fails line was is
+    → WaitsBehind fails line was is → IssuesAt found fails was is
+issues_at found line fails was is settled issues waits =
+    subst (λ (one : Option ℕ). IssuesAt one fails was is) (sym settled) (issues, waits)
+
+pub settled_so : (found : Option ℕ) (line : ℕ) (result : Result (Option Issued) IssueFault) (was is : Switchboard) → found ≡ Some line
+    → IssuesOrder line (ordered_in line was.dialling.value.map was.office) result (slice_get was.stations.items line) was.gateways.items
+    is.gateways.items
+    → IssuesSettled found result was is
+settled_so found line result was is settled issues =
+    subst (λ (one : Option ℕ). IssuesSettled one result was is) (sym settled) issues
+
+pub at_most : (found : Option ℕ) (line : ℕ) (was is : Switchboard) → found ≡ Some line
+    → SendsAlone (slice_get was.stations.items line) was.gateways.items is.gateways.items → SendsAtMost found was is
+at_most found line was is settled alone = subst (λ (one : Option ℕ). SendsAtMost one was is) (sym settled) alone
 
 -- memory is refused for it
 pub for_memory : (refusal : Option IssueRefusal) → FailsBy refusal OutOfMemory

@@ -4,13 +4,13 @@ ghost use Rattle.agent_texts.specs.Counts.{with_given_up};
 ghost use Rattle.switchboard.specs.Boards.{settling_in, SettlesIn, woken_at, WakesIn};
 ghost use Rattle.switchboard.specs.Dues.{FallsDue};
 ghost use Rattle.switchboard.specs.GivingUp.{ended_in, EndsAt, GivesUp};
-ghost use Rattle.switchboard.specs.Issuing.{ordered_in, IssuesOrder, IssuesSettled, IssuesTo, SendsAlone, SendsAtMost};
+ghost use Rattle.switchboard.specs.Issuing.{ordered_in, IssuesSettled, IssuesTo, SendsAlone, SendsAtMost};
 ghost use Rattle.switchboard.specs.Meaning.{has_domain, meant};
 ghost use Rattle.call_office.specs.Orders.{shown};
 ghost use Rattle.call_office.specs.Showing.{ShowsIn};
 ghost use Rattle.call_office.specs.Steps.{Begins, Forgets};
-ghost use Rattle.switchboard.specs.Steps.{settled_in, AtPlace, InOffice, Issues, IssuesAt, LinesWaitOn, OfOffice};
-ghost use Rattle.switchboard.specs.Steps.{OthersStay, SameLines, ToldAt, WaitsBehind, Wakens};
+ghost use Rattle.switchboard.specs.Steps.{settled_in, AtPlace, InOffice, IssuesAt, LinesWaitOn, OfOffice};
+ghost use Rattle.switchboard.specs.Steps.{OthersStay, SameLines, ToldAt, Wakens};
 ghost use Rattle.switchboard.specs.Tallying.{counted_if};
 ghost use Rattle.switchboard.specs.TypedCommands.{IssuesThere, IssuesTyped};
 ghost use Rattle.call_office.specs.Waiting.{Touches};
@@ -151,15 +151,20 @@ impl Switchboard {
         }
     }
 
-    // Issues what a line is to be sent now: what is to be sent, if anything is. Where it can't be issued it counts as given up.
-    fn issue_to(&mut self, line: usize) -> Result<Option<Issued>, IssueFault>
-        ensures office { Issues (is_err result) line self.old.office self.new.office }
-        ensures lines { WaitsBehind (is_err result) line self.old.office self.new.office }
-        ensures issued { IssuesOrder line (ordered_in line self.old.dialling.value.map self.old.office) result
-            (slice_get self.old.stations.items line) self.old.gateways.items self.new.gateways.items }
-        ensures alone { SendsAlone (slice_get self.old.stations.items line) self.old.gateways.items self.new.gateways.items }
+    /// Issues what the line that is settled so many behind the first is to be sent now: what is to be sent, if anything is. Where it
+    /// can't be issued it counts as given up.
+    pub fn issue_next(&mut self, index: usize) -> Result<Option<Issued>, IssueFault>
+        ensures office { IssuesAt (settled_in index self.old.office) (is_err result) self.old.office self.new.office }
+        ensures issued { IssuesSettled (settled_in index self.old.office) result self.old self.new }
+        ensures alone { SendsAtMost (settled_in index self.old.office) self.old self.new }
         ensures rest { self.new ≡ record self.old { gateways = self.new.gateways; office = self.new.office } }
     {
+        let Some(office) = &self.office else {
+            return Ok(None);
+        };
+        let Some(line) = office.settled_at(index) else {
+            return Ok(None);
+        };
         let order = match self.order(line) {
             Ok(Some(order)) => order,
             Ok(None) => return Ok(None),
@@ -174,23 +179,6 @@ impl Switchboard {
                 forget(&mut self.office, line);
                 Err(fault)
             }
-        }
-    }
-
-    /// Issues what the line that is settled so many behind the first is to be sent now: what is to be sent, if anything is. Where it
-    /// can't be issued it counts as given up.
-    pub fn issue_next(&mut self, index: usize) -> Result<Option<Issued>, IssueFault>
-        ensures office { IssuesAt (settled_in index self.old.office) (is_err result) self.old.office self.new.office }
-        ensures issued { IssuesSettled (settled_in index self.old.office) result self.old self.new }
-        ensures alone { SendsAtMost (settled_in index self.old.office) self.old self.new }
-        ensures rest { self.new ≡ record self.old { gateways = self.new.gateways; office = self.new.office } }
-    {
-        let Some(office) = &self.office else {
-            return Ok(None);
-        };
-        match office.settled_at(index) {
-            Some(line) => self.issue_to(line),
-            None => Ok(None),
         }
     }
 
