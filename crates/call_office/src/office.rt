@@ -5,18 +5,18 @@ ghost use Rattle.std.specs.Prelude.{◌≡◌, ◌≢◌, ◌⊎◌, ◌↔◌, 
 ghost use Rattle.call_routing.specs.Phases.{named_by};
 ghost use Rattle.call_routing.specs.declared.told.Told.TheVariants.{Flash};
 ghost use Rattle.call_routing.specs.declared.command.Outcome.TheVariants.{GivenUp};
-ghost use Rattle.call_routing.specs.Exchange.{opening, phase_of, flight_in, line_of, told, due, sent_to};
+ghost use Rattle.call_routing.specs.Exchange.{opening, phase_of, flight_in, line_of, told};
 ghost use Rattle.call_routing.specs.Numbers.{told_in, tells_digits};
 ghost use Rattle.agent_texts.specs.Standings.{with_change};
 ghost use Rattle.agent_texts.specs.Telling.{change_told, Tells};
 ghost use Rattle.call_office.specs.declared.care.Duty.TheVariants.{Clear, Audit};
 ghost use Rattle.call_office.specs.Duties.{new_care, landed, lost, announced, told_of, woken, changed_by};
 ghost use Rattle.call_office.specs.Hooks.{notified};
-ghost use Rattle.call_office.specs.Orders.{shown, duty_of, flight_of, was_found_off, is_outlived, has_told, again_of, is_put_off_in, cared, routed, ordered};
+ghost use Rattle.call_office.specs.Orders.{shown, duty_of, flight_of, was_found_off, is_outlived, has_told, again_of, is_put_off_in, cared, ordered};
 ghost use Rattle.call_office.specs.Responses.{is_creation};
 ghost use Rattle.call_office.specs.Showing.{shown_in, Shows, ShowsLine};
 ghost use Rattle.call_office.specs.Turns.{forsaken, heard_by, announced_by, outcome_with, told_by_audit, kept_behind, cleared_by, Routes, TakesAudit, AnswersAudit, TakesResponse, TakesAnswer};
-ghost use Rattle.call_office.specs.Steps.{landed_if, Begins, Hears};
+ghost use Rattle.call_office.specs.Steps.{Begins, Hears};
 ghost use Rattle.call_office.specs.Waiting.{waits, settling, settled_at, IsWaiting, Settles, Touches, WaitOn};
 
 use crate::care::{Care, Change, Duty, NEW_CARE, Shown, fixed_order};
@@ -445,27 +445,15 @@ impl Office {
             return Ok(None);
         }
         match fixed_order(care.next) {
-            Some((verb, rest)) => Ok(Some(Order {
-                verb,
-                rest: copied(alloc, rest)?,
-            })),
-            None => self.route(alloc, line, map),
+            Some((verb, rest)) => {
+                return Ok(Some(Order {
+                    verb,
+                    rest: copied(alloc, rest)?,
+                }));
+            }
+            None => {}
         }
-    }
-
-    // The command of the exchange to the line, where that sends one, and it is in flight from then on; else none is.
-    fn route(
-        &mut self,
-        alloc: Global,
-        line: usize,
-        map: &[u8],
-    ) -> Result<Option<Order>, OutOfMemory>
-        ensures order { IfOk result (λ order. option_map shown order ≡ routed self.old.exchange line map.now) }
-        ensures sent { self.new.exchange ≡ sent_to self.old.exchange line }
-        ensures cares { self.new.cares.items
-            ≡ landed_if (is_none (due self.old.exchange line)) self.old.cares.items line }
-        ensures rest { self.new ≡ record self.old { exchange = self.new.exchange; cares = self.new.cares } }
-    {
+        // The exchange's, where that sends one, and it is in flight from then on; else none is.
         let Some(command) = self.exchange.send(line) else {
             let _ = change_at(&mut self.cares, line, Change::Land);
             return Ok(None);
