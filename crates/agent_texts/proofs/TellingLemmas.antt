@@ -1,12 +1,12 @@
 -- What is told, one text behind another, and where nothing is.
-use Rattle.std.proofs.Common.{inl, inr, ◌≡◌, ℕ, Bool, true, false, List, [], ◌∷◌, ◌++◌, refl, sym, ap, ◌∙◌, append_assoc, append-nil}
+use Rattle.std.proofs.Common.{inl, inr, ◌≡◌, ℕ, Bool, true, false, List, [], ◌∷◌, ◌++◌, Option, Some, refl, sym, ap, subst, ◌∙◌, append_assoc, append-nil}
 use Rattle.std.specs.Prelude.{if◌then◌else◌, codes, decimal}
 use Rattle.std.specs.Borrow.{Bor}
 use Rattle.live_outlets.specs.declared.record.Record.{Record}
 use Rattle.live_outlets.specs.declared.record.RecordState.{RecordState}
 use Rattle.live_outlets.specs.declared.record.RecordState.TheVariants as records
 use Rattle.live_outlets.specs.Recording.{is_told}
-use Rattle.agent_texts.specs.Refusals.{refusal_line}
+use Rattle.agent_texts.specs.Refusals.{code_told, is_code, refusal_line}
 use Rattle.agent_texts.specs.Stations.{number_at}
 use Rattle.agent_texts.specs.Telling.{call_line, line_of_pieces, Tells}
 use Rattle.agent_texts.specs.declared.station.Station.{Station}
@@ -69,3 +69,10 @@ pub refusal_told : (code : ℕ) (begin number words digits : Bor (List ℕ)) (wa
     → Tells (refusal_line number.now words.now code) was is
 unfolding refusal_line line_of_pieces
 refusal_told code begin number words digits was is b d tells = rw (b, d) at tells
+
+-- it is new
+pub code_new : (number words : List ℕ) (was is : Option ℕ) (code : ℕ) (before now : Record) → is ≡ Some code → is_code was code ≡ false
+    → Tells (refusal_line number words code) before now → Tells (code_told number words was is) before now
+code_new number words was is code before now some new tells =
+    subst (λ (one : Option ℕ). Tells (code_told number words was one) before now) (sym some)
+    (subst (λ (same : Bool). Tells (if same then [] else refusal_line number words code) before now) (sym new) tells)

@@ -1,6 +1,6 @@
 //! What lines refused for good, as it is told to people.
 ghost use Rattle.std.specs.Prelude.{◌≡◌};
-ghost use Rattle.agent_texts.specs.Refusals.{refusals_of, is_code, refusal_line, code_told, refusals_told};
+ghost use Rattle.agent_texts.specs.Refusals.{refusals_of, is_code, code_told, refusals_told};
 ghost use Rattle.agent_texts.specs.Telling.{Tells};
 
 use crate::journal::Journal;
@@ -46,22 +46,8 @@ fn is_code(was: Option<u16>, code: u16) -> bool
     }
 }
 
-// Tells that a line refuses something by this code.
-#[tactic(auto, unfolding(crate::specs::Refusals::refusal_line, crate::specs::Telling::line_of_pieces), using(crate::proofs::TellingLemmas::tells_refusal))]
-fn tell_refusal(alloc: Global, journal: &mut Journal, number: &[u8], words: &[u8], code: u16)
-    ensures tells { Tells (refusal_line number.now words.now code) journal.old.told journal.new.told }
-    ensures rest { journal.new ≡ record journal.old { told = journal.new.told } }
-{
-    let mut digits = Vec::new(alloc);
-    if put_decimal(alloc, &mut digits, u64::from(code)).is_err() {
-        journal.told.refuse();
-        return;
-    }
-    journal.tell(&[b"line ".as_slice(), number, words, digits.as_slice()]);
-}
-
 // Tells by which code a line refuses something, where that is new.
-#[tactic(auto, using(crate::proofs::TellingLemmas::tells_none))]
+#[tactic(auto, using(crate::proofs::TellingLemmas::tells_none, crate::proofs::TellingLemmas::tells_refusal))]
 fn tell_code(
     alloc: Global,
     journal: &mut Journal,
@@ -76,9 +62,15 @@ fn tell_code(
     let Some(code) = is else {
         return;
     };
-    if !is_code(was, code) {
-        tell_refusal(alloc, journal, number, words, code);
+    if is_code(was, code) {
+        return;
     }
+    let mut digits = Vec::new(alloc);
+    if put_decimal(alloc, &mut digits, u64::from(code)).is_err() {
+        journal.told.refuse();
+        return;
+    }
+    journal.tell(&[b"line ".as_slice(), number, words, digits.as_slice()]);
 }
 
 /// Tells what the line at this place refuses for good, which refused otherwise before.
