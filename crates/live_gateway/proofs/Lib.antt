@@ -11,5 +11,6 @@ pub mod TurningLemmas
 pub mod LineLemmas
 pub mod PageLemmas
 mod ArrivingLemmas
+mod AdmittingLemmas
 pub mod ArrivalLemmas
 pub mod OverLemmas

@@ -1,5 +1,5 @@
 -- Who may speak to a gateway where no word says it, and whom it hears.
-use Rattle.std.specs.Prelude.{◌≡◌, ℕ, Bool, ◌&&◌, ◌||◌, ◌==◌, not, List, [], ◌∷◌, filter, nat_eq, nat_lt, bytes_eq, Option}
+use Rattle.std.specs.Prelude.{◌≡◌, ℕ, Bool, ◌&&◌, ◌||◌, ◌==◌, not, List, [], ◌∷◌, ◌++◌, filter, nat_eq, nat_lt, bytes_eq, Option}
 use Rattle.std.specs.List.{fold, list_any, starts_with}
 use Rattle.std.specs.Net.Addr.{ipv4_octets}
 use Rattle.std.specs.declared.net.ipv4_addr.Ipv4Addr.{Ipv4Addr}
@@ -29,6 +29,14 @@ with_named admitted host = with_hosts admitted (addresses host.route)
 -- the agent that it reports to, and all hosts that its configuration names, each with all its addresses, from any port
 unfoldable pub known_to : Setup → Admitted
 known_to setup = fold with_named (with_hosts nobody (addresses (hosts_of setup.agent.route))) setup.names.table
+
+-- behind these addresses those of a host
+abbrev pub with_addresses : List Ipv4Addr → Host → List Ipv4Addr
+with_addresses hosts host = hosts ++ addresses host.route
+
+-- all addresses of these, in their order
+abbrev pub known_hosts : Setup → List Ipv4Addr
+known_hosts setup = fold with_addresses (addresses (hosts_of setup.agent.route)) setup.names.table
 
 -- Whom it hears
 

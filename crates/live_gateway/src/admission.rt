@@ -1,11 +1,10 @@
 //! Who may speak to a gateway, whom it hears, and who may type.
-ghost use Rattle.std.specs.Prelude.{◌≡◌, OnOk, IfOk};
-ghost use Rattle.std.specs.List.{fold};
+ghost use Rattle.std.specs.Prelude.{◌≡◌, ◌++◌, OnOk, IfOk};
 ghost use Rattle.endpoint_names.specs.Route.{addresses};
 ghost use Rattle.surroundings.specs.Speaking.{admitted_by};
-ghost use Rattle.live_gateway.specs.Admitting.{with_hosts, hosts_of, with_named, known_to, is_at, is_sent_by, is_its_own, is_heard};
+ghost use Rattle.live_gateway.specs.Admitting.{hosts_of, known_hosts, known_to, is_at, is_sent_by, is_its_own, is_heard};
 
-use endpoint_names::{Host, Route};
+use endpoint_names::Route;
 use plain_machine::Setup;
 use std::alloc::{AllocError, Global};
 use std::net::{Ipv4Addr, SocketAddrV4};
@@ -70,29 +69,8 @@ impl Admission {
     }
 }
 
-// Whoever has one of these addresses may speak too.
-fn admit_all(speakers: &mut Speakers, hosts: &[Ipv4Addr]) -> Result<(), AllocError>
-    ensures { OnOk result (admitted_by speakers.new ≡ with_hosts (admitted_by speakers.old) hosts.now) }
-{
-    for host in hosts {
-        speakers.admit(*host)?;
-    }
-    Ok(())
-}
-
-fn admit_route(speakers: &mut Speakers, route: Route<Ipv4Addr>) -> Result<(), AllocError>
-    ensures { OnOk result (admitted_by speakers.new ≡ with_hosts (admitted_by speakers.old) (addresses route)) }
-{
-    match route {
-        Route::One(a) => admit_all(speakers, &[a]),
-        Route::Two(a, b) => admit_all(speakers, &[a, b]),
-        Route::Three(a, b, c) => admit_all(speakers, &[a, b, c]),
-        Route::Four(a, b, c, d) => admit_all(speakers, &[a, b, c, d]),
-    }
-}
-
 // The addresses of a receiver, without its port.
-pub(crate) fn hosts_of(route: &Route<SocketAddrV4>) -> Route<Ipv4Addr>
+fn hosts_of(route: &Route<SocketAddrV4>) -> Route<Ipv4Addr>
     ensures { result ≡ hosts_of route.now }
 {
     match route {
@@ -103,23 +81,40 @@ pub(crate) fn hosts_of(route: &Route<SocketAddrV4>) -> Route<Ipv4Addr>
     }
 }
 
-fn admit_named(speakers: &mut Speakers, hosts: &[Host]) -> Result<(), AllocError>
-    ensures { OnOk result (admitted_by speakers.new ≡ fold with_named (admitted_by speakers.old) hosts.now) }
+// Puts the addresses of a receiver behind these.
+fn put_route(hosts: &mut Vec<Ipv4Addr>, route: Route<Ipv4Addr>) -> Result<(), AllocError>
+    ensures { OnOk result (hosts.new.items ≡ hosts.old.items ++ addresses route) }
 {
-    for host in hosts {
-        admit_route(speakers, host.route)?;
+    match route {
+        Route::One(a) => hosts.extend_from_slice(&[a]),
+        Route::Two(a, b) => hosts.extend_from_slice(&[a, b]),
+        Route::Three(a, b, c) => hosts.extend_from_slice(&[a, b, c]),
+        Route::Four(a, b, c, d) => hosts.extend_from_slice(&[a, b, c, d]),
     }
-    Ok(())
+}
+
+/// The addresses that a gateway of this setup knows, in their order: those of its agent, and those of all hosts that its configuration
+/// names. Its only error is want of memory.
+pub(crate) fn known_hosts(alloc: Global, setup: &Setup) -> Result<Vec<Ipv4Addr>, AllocError>
+    ensures { IfOk result (λ known. known.items ≡ known_hosts setup.now) }
+{
+    let mut known = Vec::new(alloc);
+    put_route(&mut known, hosts_of(&setup.agent.route))?;
+    for host in setup.names.table.hosts() {
+        put_route(&mut known, host.route)?;
+    }
+    Ok(known)
 }
 
 /// Those who may speak to a gateway that is set up so, where no word says another: its agent, and all hosts that its configuration
 /// names, from any port. Its only error is want of memory.
-#[tactic(auto, unfolding(crate::specs::Admitting::known_to))]
 pub fn speakers_of(alloc: Global, setup: &Setup) -> Result<Speakers, AllocError>
     ensures { IfOk result (λ speakers. admitted_by speakers ≡ known_to setup.now) }
 {
+    let known = known_hosts(alloc, setup)?;
     let mut speakers = Speakers::nobody(alloc);
-    admit_route(&mut speakers, hosts_of(&setup.agent.route))?;
-    admit_named(&mut speakers, setup.names.table.hosts())?;
+    for host in known.as_slice() {
+        speakers.admit(*host)?;
+    }
     Ok(speakers)
 }

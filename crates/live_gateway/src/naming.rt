@@ -1,11 +1,8 @@
 //! The word that says of a gateway who may speak to it, where none is said.
 ghost use Rattle.std.specs.Prelude.{◌≡◌, IfOk, OnOk, option_copied};
-ghost use Rattle.std.specs.List.{fold};
-ghost use Rattle.endpoint_names.specs.Route.{addresses};
-ghost use Rattle.live_gateway.specs.Naming.{word_of, with_named_host, with_all, with_each, known_word, agents_line};
+ghost use Rattle.live_gateway.specs.Naming.{word_of, with_named_host, known_word, agents_line};
 
-use crate::admission::hosts_of;
-use endpoint_names::{Host, Route};
+use crate::admission::known_hosts;
 use exchange_log::put_host;
 use mg_bytes::{Draft, OutOfMemory};
 use plain_machine::Setup;
@@ -37,49 +34,21 @@ impl Named {
         item.append_to(&mut self.text)?;
         self.speakers.admit(host)
     }
-
-    fn name_all(&mut self, hosts: &[Ipv4Addr]) -> Result<(), OutOfMemory>
-        ensures { OnOk result (word_of self.new ≡ with_all (word_of self.old) hosts.now) }
-    {
-        for host in hosts {
-            self.name(*host)?;
-        }
-        Ok(())
-    }
-
-    fn name_route(&mut self, route: Route<Ipv4Addr>) -> Result<(), OutOfMemory>
-        ensures { OnOk result (word_of self.new ≡ with_all (word_of self.old) (addresses route)) }
-    {
-        match route {
-            Route::One(a) => self.name_all(&[a]),
-            Route::Two(a, b) => self.name_all(&[a, b]),
-            Route::Three(a, b, c) => self.name_all(&[a, b, c]),
-            Route::Four(a, b, c, d) => self.name_all(&[a, b, c, d]),
-        }
-    }
-
-    fn name_each(&mut self, hosts: &[Host]) -> Result<(), OutOfMemory>
-        ensures { OnOk result (word_of self.new ≡ fold with_each (word_of self.old) hosts.now) }
-    {
-        for host in hosts {
-            self.name_route(host.route)?;
-        }
-        Ok(())
-    }
 }
 
 // The word that admits those who may speak to a gateway that is set up so, where no word says another.
-#[tactic(auto, unfolding(crate::specs::Naming::known_word))]
 fn known_word(alloc: Global, setup: &Setup) -> Result<Vec<u8>, OutOfMemory>
     ensures { IfOk result (λ word. word.items ≡ known_word setup.now) }
 {
+    let known = known_hosts(alloc, setup)?;
     let mut named = Named {
         alloc,
         text: Vec::new(alloc),
         speakers: Speakers::nobody(alloc),
     };
-    named.name_route(hosts_of(&setup.agent.route))?;
-    named.name_each(setup.names.table.hosts())?;
+    for host in known.as_slice() {
+        named.name(*host)?;
+    }
     Ok(named.text)
 }
 

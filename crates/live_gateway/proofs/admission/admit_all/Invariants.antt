@@ -1,7 +1,0 @@
-use Rattle.std.proofs.Common.{◌≡◌, take}
-use Rattle.surroundings.specs.Speaking.{admitted_by}
-use Rattle.live_gateway.specs.Admitting.{with_hosts}
-use Rattle.live_gateway.proofs.admission.admit_all.Given as goal
-
-abbrev pub invariant-loop-host : goal.invariant-loop-host
-invariant-loop-host l = admitted_by l.speakers ≡ with_hosts (admitted_by l.fn.speakers) (take l.host-index l.hosts)
