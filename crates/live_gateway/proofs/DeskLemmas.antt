@@ -130,6 +130,14 @@ stays_so told traffic old new same kept = record {
   admission = kept;
 }
 
+-- so it does where its exchange waited
+pub waited_same : {S T : Type 0} (told : T → Option (List ℕ)) (traffic : S → Traffic) (was : Desk S T) (is : Exchange S)
+    → handed_by is.network (traffic is.around).sent ≡ handed_by was.exchange.network (traffic was.exchange.around).sent
+    → received_by is.network (traffic is.around).received ≡ received_by was.exchange.network (traffic was.exchange.around).received
+    → is.faults.refused ≡ was.exchange.faults.refused
+    → at_desk told traffic (record was { exchange = is }) ≡ at_desk told traffic was
+waited_same told traffic was is handed received refused = rw (handed, received, refused) refl
+
 pub stays : {S T : Type 0} (told : T → Option (List ℕ)) (traffic : S → Traffic) (old : Desk S T) → GoesOn told traffic old old
 stays told traffic old = stays_so told traffic old old refl refl
 

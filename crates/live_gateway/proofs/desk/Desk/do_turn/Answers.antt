@@ -8,7 +8,7 @@ use Rattle.live_play.specs.Coming.{Came}
 use Rattle.live_play.specs.Running.{live}
 use Rattle.live_gateway.specs.Desk.{at_desk}
 use Rattle.live_gateway.specs.Exchanging.{handed_by, Waits}
-use Rattle.live_gateway.proofs.DeskLemmas.{standing_of, between, counted_by, ticks, stays_so}
+use Rattle.live_gateway.proofs.DeskLemmas.{standing_of, between, counted_by, ticks, stays_so, waited_same}
 use Rattle.live_gateway.proofs.FrameLemmas.{made_of, heard_alone, heard_same, page_same, with_exchange, visit_same}
 use Rattle.live_gateway.proofs.OverLemmas.{same_now, taken_quietly, refused_quietly, noted_now}
 use Rattle.live_gateway.proofs.TurningLemmas.{tries, takes_from, tries_begun}
@@ -156,3 +156,69 @@ returns-in-Visit-clause-leaves g c = rw (c.in-Visit.is) c.visit.ensures
 
 pub returns-in-Note-clause-leaves : goal.returns-in-Note-clause-leaves
 returns-in-Note-clause-leaves g c = rw (c.in-Note.is) ((refl, rw (c.deref_mut.ensures.value) at c.pause.ensures.puts), refl)
+
+-- where nothing is done, or only waited or noted
+
+pub returns-in-Look-clause-play : goal.returns-in-Look-clause-play
+returns-in-Look-clause-play g c =
+    stays_so g.T.Teller.told g.S.Surroundings.traffic _ _
+    (waited_same g.T.Teller.told g.S.Surroundings.traffic c.args.self.now c.wait.new.self
+    c.wait.ensures.handed c.wait.ensures.received c.wait.ensures.refused)
+    refl
+
+pub returns-in-Look-clause-does : goal.returns-in-Look-clause-does
+returns-in-Look-clause-does g c =
+    rw (c.in-Look.is)
+    (waited_same g.T.Teller.told g.S.Surroundings.traffic c.args.self.now c.wait.new.self
+    c.wait.ensures.handed c.wait.ensures.received c.wait.ensures.refused)
+
+pub returns-in-Wait-clause-play : goal.returns-in-Wait-clause-play
+returns-in-Wait-clause-play g c =
+    stays_so g.T.Teller.told g.S.Surroundings.traffic _ _
+    (waited_same g.T.Teller.told g.S.Surroundings.traffic c.args.self.now c.wait-in-Wait.new.self
+    c.wait-in-Wait.ensures.handed c.wait-in-Wait.ensures.received c.wait-in-Wait.ensures.refused)
+    refl
+
+pub returns-in-Wait-clause-does : goal.returns-in-Wait-clause-does
+returns-in-Wait-clause-does g c =
+    rw (c.in-Wait.is)
+    (waited_same g.T.Teller.told g.S.Surroundings.traffic c.args.self.now c.wait-in-Wait.new.self
+    c.wait-in-Wait.ensures.handed c.wait-in-Wait.ensures.received c.wait-in-Wait.ensures.refused)
+
+pub returns-in-Note-clause-play : goal.returns-in-Note-clause-play
+returns-in-Note-clause-play g c = stays_so g.T.Teller.told g.S.Surroundings.traffic _ _ refl refl
+
+pub returns-in-Note-clause-does : goal.returns-in-Note-clause-does
+returns-in-Note-clause-does g c = rw (c.in-Note.is) refl
+
+pub returns-in-End-clause-play : goal.returns-in-End-clause-play
+returns-in-End-clause-play g c = stays_so g.T.Teller.told g.S.Surroundings.traffic _ _ refl refl
+
+pub returns-in-End-clause-does : goal.returns-in-End-clause-does
+returns-in-End-clause-does g c = rw (c.in-End.is) refl
+
+-- none but one is the end
+
+pub returns-in-Tick-clause-over : goal.returns-in-Tick-clause-over
+returns-in-Tick-clause-over g c = rw (c.in-Tick.is) (λ over. absurd cc)
+
+pub returns-in-Command-clause-over : goal.returns-in-Command-clause-over
+returns-in-Command-clause-over g c = rw (c.in-Command.is) (λ over. absurd cc)
+
+pub returns-in-Datagram-clause-over : goal.returns-in-Datagram-clause-over
+returns-in-Datagram-clause-over g c = rw (c.in-Datagram.is) (λ over. absurd cc)
+
+pub returns-in-Visit-clause-over : goal.returns-in-Visit-clause-over
+returns-in-Visit-clause-over g c = rw (c.in-Visit.is) (λ over. absurd cc)
+
+pub returns-in-Look-clause-over : goal.returns-in-Look-clause-over
+returns-in-Look-clause-over g c = λ over. (refl, refl)
+
+pub returns-in-Wait-clause-over : goal.returns-in-Wait-clause-over
+returns-in-Wait-clause-over g c = λ over. (refl, refl)
+
+pub returns-in-Note-clause-over : goal.returns-in-Note-clause-over
+returns-in-Note-clause-over g c = λ over. (refl, refl)
+
+pub returns-in-End-clause-over : goal.returns-in-End-clause-over
+returns-in-End-clause-over g c = λ over. (refl, refl)
