@@ -4,6 +4,7 @@ pub mod HearingLemmas
 pub mod PassingLemmas
 pub mod CountingLemmas
 pub mod EndingLemmas
+pub mod OpeningLemmas
 pub mod FrameLemmas
 pub mod DeskLemmas
 pub mod AnsweringLemmas
