@@ -12,7 +12,7 @@ use Rattle.live_gateway.specs.declared.exchange.Exchange.{Exchange}
 use Rattle.live_gateway.specs.declared.spoilt_way.SpoiltWay.{SpoiltWay}
 use Rattle.live_gateway.specs.Exchanging.{handed_by}
 use Rattle.live_gateway.specs.Noting.{NotesReceived, TurnsAway}
-use Rattle.live_gateway.specs.Passing.{SendsNext, TurnsNextAway, PassesEach, GoesWhereHeard, GivesWhereHeard, GoesOver, LooksDirectly, LooksBy, Looks}
+use Rattle.live_gateway.specs.Passing.{SendsNext, TurnsNextAway, PassesEach, GoesWhereHeard, GivesWhereHeard, GoesOver, LooksDirectly, LooksOver, LooksBy, Looks}
 
 -- one more of those that were handed out
 pub one_longer : (packets : List Packet) (packet : Packet) (count : ℕ) → length packets ≡ count → length (packets ++ packet ∷ []) ≡ count + 1
@@ -79,3 +79,11 @@ module _ {S : Type 0} where
       → Looks receives sends admission given room was is
   looks_here receives sends admission given room was is none directly =
       subst (λ (b : Bool). LooksBy receives sends b admission given room was is) (sym none) directly
+
+  -- and where one is, it is one at that first
+  pub looks_over : (receives : S → Result (Option (SocketAddrV4 × ℕ)) Fault → List ℕ → S → Type 0)
+      (sends : S → SocketAddrV4 → List ℕ → Result ⊤ Fault → S → Type 0) (admission : Admission) (given : Option (SocketAddrV4 × ℕ)) (room : List ℕ)
+      (was is : Exchange S) → is_some was.network ≡ true → LooksOver receives sends admission given room was is
+      → Looks receives sends admission given room was is
+  looks_over receives sends admission given room was is some over =
+      subst (λ (b : Bool). LooksBy receives sends b admission given room was is) (sym some) over

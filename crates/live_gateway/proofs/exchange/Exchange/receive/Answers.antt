@@ -4,7 +4,7 @@ use Rattle.live_gateway.specs.Exchanging.{handed_by, received_by}
 use Rattle.live_gateway.proofs.ArrivalLemmas.{found_none, found_between, arrival_found, arrival_strange, heard_looked, strange_looked}
 use Rattle.live_gateway.proofs.HearingLemmas.{heard_still, hears_nothing, hears_one, passes_over}
 use Rattle.live_gateway.proofs.CountingLemmas.{looked_before, heard_given, strange_kept}
-use Rattle.live_gateway.proofs.PassingLemmas.{heard_gives, strange_gives, handed_still, looks_here}
+use Rattle.live_gateway.proofs.PassingLemmas.{heard_gives, strange_gives, handed_still, looks_here, looks_over}
 use Rattle.live_gateway.proofs.exchange.Exchange.receive.Goals as goal
 
 pub returns-in_err-source-clause-came : goal.returns-in_err-source-clause-came
@@ -144,3 +144,70 @@ returns-clause-looks g c =
       gives = strange_gives (is_heard c.args.admission.now c.in_ok-source.source) (c.in_ok-source.source, c.in_ok-source.len) c.read_socket.new.room
           c.read_socket.new.self c.come.new.self other (c.come.ensures.noted.strange other) c.come.ensures.rest;
     })
+
+-- what is so of each by the calls before it
+
+pub receive_spoilt-requires : goal.receive_spoilt-requires
+receive_spoilt-requires g c = sym c.is_some.ensures ∙ c.if-is_some.true
+
+pub returns-then-is_some-clause-length : goal.returns-then-is_some-clause-length
+returns-then-is_some-clause-length g c = c.receive_spoilt.ensures.length
+
+pub returns-then-is_some-clause-within : goal.returns-then-is_some-clause-within
+returns-then-is_some-clause-within g c = c.receive_spoilt.ensures.within
+
+pub returns-then-is_some-clause-admitted : goal.returns-then-is_some-clause-admitted
+returns-then-is_some-clause-admitted g c = c.receive_spoilt.ensures.admitted
+
+pub returns-then-is_some-clause-handed : goal.returns-then-is_some-clause-handed
+returns-then-is_some-clause-handed g c = c.receive_spoilt.ensures.handed
+
+pub returns-then-is_some-clause-refused : goal.returns-then-is_some-clause-refused
+returns-then-is_some-clause-refused g c = c.receive_spoilt.ensures.refused
+
+pub returns-then-is_some-clause-counts : goal.returns-then-is_some-clause-counts
+returns-then-is_some-clause-counts g c = c.receive_spoilt.ensures.counts
+
+pub returns-then-is_some-clause-turn : goal.returns-then-is_some-clause-turn
+returns-then-is_some-clause-turn g c = c.receive_spoilt.ensures.turn
+
+pub returns-then-is_some-clause-came : goal.returns-then-is_some-clause-came
+returns-then-is_some-clause-came g c = c.receive_spoilt.ensures.came
+
+pub returns-then-is_some-clause-tally : goal.returns-then-is_some-clause-tally
+returns-then-is_some-clause-tally g c = c.receive_spoilt.ensures.tally
+
+pub returns-then-is_some-clause-looks : goal.returns-then-is_some-clause-looks
+returns-then-is_some-clause-looks g c =
+    looks_over g.S.Surroundings.receives g.S.Surroundings.sends c.args.admission.now c.receive_spoilt.result c.receive_spoilt.new.room c.args.self.now
+    c.receive_spoilt.new.self (sym c.is_some.ensures ∙ c.if-is_some.true) c.receive_spoilt.ensures.looks
+
+pub returns-in_err-source-clause-length : goal.returns-in_err-source-clause-length
+returns-in_err-source-clause-length g c = c.read_socket.ensures.length
+
+pub returns-in_err-source-clause-within : goal.returns-in_err-source-clause-within
+returns-in_err-source-clause-within g c = rw (c.from_residual.ensures) tt
+
+pub returns-in_err-source-clause-admitted : goal.returns-in_err-source-clause-admitted
+returns-in_err-source-clause-admitted g c = rw (c.from_residual.ensures) tt
+
+pub returns-in_err-source-clause-refused : goal.returns-in_err-source-clause-refused
+returns-in_err-source-clause-refused g c = c.read_socket.ensures.refused
+
+pub returns-then-come-clause-length : goal.returns-then-come-clause-length
+returns-then-come-clause-length g c = c.read_socket.ensures.length
+
+pub returns-then-come-clause-within : goal.returns-then-come-clause-within
+returns-then-come-clause-within g c = c.in_ok-source.ensures.within
+
+pub returns-then-come-clause-admitted : goal.returns-then-come-clause-admitted
+returns-then-come-clause-admitted g c = sym c.come.ensures.heard ∙ c.if-come.true
+
+pub returns-clause-length : goal.returns-clause-length
+returns-clause-length g c = c.read_socket.ensures.length
+
+pub returns-clause-within : goal.returns-clause-within
+returns-clause-within g c = tt
+
+pub returns-clause-admitted : goal.returns-clause-admitted
+returns-clause-admitted g c = tt

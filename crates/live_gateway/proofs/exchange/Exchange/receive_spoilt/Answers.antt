@@ -225,3 +225,68 @@ returns-clause-looks g c = inr (record {
         behind = c.handed_over-2.ensures.hands;
       });
 })
+
+-- what is so of each by the calls before it
+
+pub returns-in-Some-clause-length : goal.returns-in-Some-clause-length
+returns-in-Some-clause-length g c = c.handed_over.ensures.length
+
+pub returns-in-Some-clause-within : goal.returns-in-Some-clause-within
+returns-in-Some-clause-within g c = c.in-Some.ensures.within
+
+pub returns-in-Some-clause-admitted : goal.returns-in-Some-clause-admitted
+returns-in-Some-clause-admitted g c = c.in-Some.ensures.admitted
+
+pub returns-in-Some-clause-handed : goal.returns-in-Some-clause-handed
+returns-in-Some-clause-handed g c = c.handed_over.ensures.handed
+
+pub returns-in-Some-clause-refused : goal.returns-in-Some-clause-refused
+returns-in-Some-clause-refused g c = ap (λ faults. faults.refused) c.handed_over.ensures.faults
+
+pub returns-in-Some-clause-turn : goal.returns-in-Some-clause-turn
+returns-in-Some-clause-turn g c = c.handed_over.ensures.turn
+
+pub returns-in-Some-clause-came : goal.returns-in-Some-clause-came
+returns-in-Some-clause-came g c = c.in-Some.ensures.came
+
+pub returns-in-Some-clause-tally : goal.returns-in-Some-clause-tally
+returns-in-Some-clause-tally g c = c.in-Some.ensures.tally
+
+pub returns-in_err-source-clause-length : goal.returns-in_err-source-clause-length
+returns-in_err-source-clause-length g c = c.read_socket.ensures.length ∙ c.handed_over.ensures.length
+
+pub returns-in_err-source-clause-within : goal.returns-in_err-source-clause-within
+returns-in_err-source-clause-within g c = rw (c.from_residual.ensures) tt
+
+pub returns-in_err-source-clause-admitted : goal.returns-in_err-source-clause-admitted
+returns-in_err-source-clause-admitted g c = rw (c.from_residual.ensures) tt
+
+pub returns-in_err-source-clause-refused : goal.returns-in_err-source-clause-refused
+returns-in_err-source-clause-refused g c = c.read_socket.ensures.refused ∙ ap (λ faults. faults.refused) c.handed_over.ensures.faults
+
+pub returns-then-not-hears-clause-length : goal.returns-then-not-hears-clause-length
+returns-then-not-hears-clause-length g c = c.read_socket.ensures.length ∙ c.handed_over.ensures.length
+
+pub returns-then-not-hears-clause-within : goal.returns-then-not-hears-clause-within
+returns-then-not-hears-clause-within g c = tt
+
+pub returns-then-not-hears-clause-admitted : goal.returns-then-not-hears-clause-admitted
+returns-then-not-hears-clause-admitted g c = tt
+
+pub returns-then-is_lost-clause-length : goal.returns-then-is_lost-clause-length
+returns-then-is_lost-clause-length g c = c.read_socket.ensures.length ∙ c.handed_over.ensures.length
+
+pub returns-then-is_lost-clause-within : goal.returns-then-is_lost-clause-within
+returns-then-is_lost-clause-within g c = tt
+
+pub returns-then-is_lost-clause-admitted : goal.returns-then-is_lost-clause-admitted
+returns-then-is_lost-clause-admitted g c = tt
+
+pub returns-clause-length : goal.returns-clause-length
+returns-clause-length g c = c.handed_over-2.ensures.length ∙ c.read_socket.ensures.length ∙ c.handed_over.ensures.length
+
+pub returns-clause-within : goal.returns-clause-within
+returns-clause-within g c = c.handed_over-2.ensures.within
+
+pub returns-clause-admitted : goal.returns-clause-admitted
+returns-clause-admitted g c = c.handed_over-2.ensures.admitted
