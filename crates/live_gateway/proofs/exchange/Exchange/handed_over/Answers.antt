@@ -1,4 +1,4 @@
-use Rattle.std.proofs.Common.{◌≡◌, rules, [], ◌∷◌, ◌++◌, inl, inr, refl, sym, ◌∙◌, ap, arith}
+use Rattle.std.proofs.Common.{◌≡◌, [], ◌∷◌, ◌++◌, inl, inr, refl, sym, ◌∙◌, ap, arith}
 use Rattle.std.specs.Prelude.{is_some}
 use Rattle.live_gateway.specs.declared.exchange.TheConstants.{MOST_AT_ONCE}
 use Rattle.live_gateway.specs.Exchanging.{handed_by, received_by}
@@ -119,7 +119,7 @@ loop-init g c = record {
 pub loop-preserved : goal.loop-preserved
 loop-preserved g c = elim c.match-packet.branch [
   | in-Out w ↦ record {
-    length = search rules;
+    length = c.take_due.ensures.length ∙ c.loop.invariant.length;
     handed = rw w.self-is (handed_late g.S.Surroundings.traffic c.loop.self c.take_due.new.self w.send_late.new.self
         (ap (λ e. e.network) w.send_late.ensures.rest) c.in_ok-packet.ensures.behind ∙ c.loop.invariant.handed);
     faults = rw w.self-is (ap (λ e. e.faults) w.send_late.ensures.rest ∙ ap (λ e. e.faults) c.take_due.ensures.rest ∙ c.loop.invariant.faults);
@@ -150,7 +150,7 @@ loop-preserved g c = elim c.match-packet.branch [
     );
   }
   | in-In+else-come w ↦ record {
-    length = search rules;
+    length = c.take_due.ensures.length ∙ c.loop.invariant.length;
     handed = rw w.self-is (ap (λ e. handed_by e.network (g.S.Surroundings.traffic e.around).sent) w.come.ensures.rest ∙ c.take_due.ensures.handed ∙ c.loop.invariant.handed);
     faults = rw w.self-is (ap (λ e. e.faults) w.come.ensures.rest ∙ ap (λ e. e.faults) c.take_due.ensures.rest ∙ c.loop.invariant.faults);
     read = rw w.self-is (ap (λ e. e.read) w.come.ensures.rest ∙ ap (λ e. e.read) c.take_due.ensures.rest ∙ c.loop.invariant.read);
@@ -180,3 +180,59 @@ loop-preserved g c = elim c.match-packet.branch [
     );
   }
 ]
+
+-- what is so of each by the calls before it
+
+pub returns-in_err-packet-clause-length : goal.returns-in_err-packet-clause-length
+returns-in_err-packet-clause-length g c = c.take_due.ensures.length ∙ c.loop.invariant.length
+
+pub returns-in_err-packet-clause-within : goal.returns-in_err-packet-clause-within
+returns-in_err-packet-clause-within g c = rw (c.from_residual.ensures) tt
+
+pub returns-in_err-packet-clause-admitted : goal.returns-in_err-packet-clause-admitted
+returns-in_err-packet-clause-admitted g c = rw (c.from_residual.ensures) tt
+
+pub returns-in_err-packet-clause-handed : goal.returns-in_err-packet-clause-handed
+returns-in_err-packet-clause-handed g c = c.take_due.ensures.handed ∙ c.loop.invariant.handed
+
+pub returns-in_err-packet-clause-spoilt : goal.returns-in_err-packet-clause-spoilt
+returns-in_err-packet-clause-spoilt g c = c.take_due.ensures.spoilt ∙ c.loop.invariant.spoilt
+
+pub returns-then-come-clause-length : goal.returns-then-come-clause-length
+returns-then-come-clause-length g c = c.take_due.ensures.length ∙ c.loop.invariant.length
+
+pub returns-then-come-clause-within : goal.returns-then-come-clause-within
+returns-then-come-clause-within g c = c.in_ok-packet.ensures.within
+
+pub returns-then-come-clause-admitted : goal.returns-then-come-clause-admitted
+returns-then-come-clause-admitted g c = sym c.come.ensures.heard ∙ c.if-come.true
+
+pub returns-clause-length : goal.returns-clause-length
+returns-clause-length g c = c.loop.invariant.length
+
+pub returns-clause-within : goal.returns-clause-within
+returns-clause-within g c = tt
+
+pub returns-clause-admitted : goal.returns-clause-admitted
+returns-clause-admitted g c = tt
+
+pub returns-clause-handed : goal.returns-clause-handed
+returns-clause-handed g c = c.loop.invariant.handed
+
+pub returns-clause-faults : goal.returns-clause-faults
+returns-clause-faults g c = c.loop.invariant.faults
+
+pub returns-clause-read : goal.returns-clause-read
+returns-clause-read g c = c.loop.invariant.read
+
+pub returns-clause-turn : goal.returns-clause-turn
+returns-clause-turn g c = c.loop.invariant.turn
+
+pub returns-clause-spoilt : goal.returns-clause-spoilt
+returns-clause-spoilt g c = c.loop.invariant.spoilt
+
+pub returns-clause-came : goal.returns-clause-came
+returns-clause-came g c = c.loop.invariant.came
+
+pub returns-clause-tally : goal.returns-clause-tally
+returns-clause-tally g c = c.loop.invariant.tally
