@@ -68,3 +68,53 @@ returns-in-Counts-clause-answered g c =
       },
       put.1,
     )
+
+-- the gateway does nothing
+
+pub returns-in-ShowAll-clause-play : goal.returns-in-ShowAll-clause-play
+returns-in-ShowAll-clause-play g c = rw (c.answer_put.ensures.traffic) refl
+
+pub returns-in-Watch-clause-play : goal.returns-in-Watch-clause-play
+returns-in-Watch-clause-play g c = rw (c.answer_put-in-Watch.ensures.traffic) refl
+
+pub returns-in-Counts-clause-play : goal.returns-in-Counts-clause-play
+returns-in-Counts-clause-play g c = rw (c.answer_put-in-Counts.ensures.traffic) refl
+
+pub returns-in-Stop-clause-play : goal.returns-in-Stop-clause-play
+returns-in-Stop-clause-play g c = refl
+
+pub returns-in-Stop-clause-answered : goal.returns-in-Stop-clause-answered
+returns-in-Stop-clause-answered g c = rw (c.in-Stop.is) refl
+
+pub returns-in-Refused-clause-play : goal.returns-in-Refused-clause-play
+returns-in-Refused-clause-play g c = rw (c.answer_all.ensures.traffic) refl
+
+pub returns-in-ShowAll-clause-admission : goal.returns-in-ShowAll-clause-admission
+returns-in-ShowAll-clause-admission g c = refl
+
+pub returns-in-ShowAll-clause-schedule : goal.returns-in-ShowAll-clause-schedule
+returns-in-ShowAll-clause-schedule g c = refl
+
+pub returns-in-Watch-clause-admission : goal.returns-in-Watch-clause-admission
+returns-in-Watch-clause-admission g c = refl
+
+pub returns-in-Watch-clause-schedule : goal.returns-in-Watch-clause-schedule
+returns-in-Watch-clause-schedule g c = refl
+
+pub returns-in-Counts-clause-admission : goal.returns-in-Counts-clause-admission
+returns-in-Counts-clause-admission g c = refl
+
+pub returns-in-Counts-clause-schedule : goal.returns-in-Counts-clause-schedule
+returns-in-Counts-clause-schedule g c = refl
+
+pub returns-in-Stop-clause-admission : goal.returns-in-Stop-clause-admission
+returns-in-Stop-clause-admission g c = refl
+
+pub returns-in-Stop-clause-schedule : goal.returns-in-Stop-clause-schedule
+returns-in-Stop-clause-schedule g c = refl
+
+pub returns-in-Refused-clause-admission : goal.returns-in-Refused-clause-admission
+returns-in-Refused-clause-admission g c = refl
+
+pub returns-in-Refused-clause-schedule : goal.returns-in-Refused-clause-schedule
+returns-in-Refused-clause-schedule g c = refl
