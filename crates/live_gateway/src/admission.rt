@@ -2,7 +2,7 @@
 ghost use Rattle.std.specs.Prelude.{◌≡◌, ◌++◌, OnOk, IfOk};
 ghost use Rattle.endpoint_names.specs.Route.{addresses};
 ghost use Rattle.surroundings.specs.Speaking.{admitted_by};
-ghost use Rattle.live_gateway.specs.Admitting.{hosts_of, known_hosts, known_to, is_at, is_sent_by, is_its_own, is_heard};
+ghost use Rattle.live_gateway.specs.Admitting.{hosts_of, known_hosts, known_to, is_sent_by, is_its_own, is_heard};
 
 use endpoint_names::Route;
 use plain_machine::Setup;
@@ -31,21 +31,18 @@ impl Drop for Admission {
     }
 }
 
-// Whether the host of a socket here is at this address, as far as that can be told: no other machine can send from 127.0.0.0/8 (RFC 1122,
-// 3.2.1.3).
-fn is_at(own: &[u8], sender: &[u8]) -> bool
-    ensures { result ≡ is_at own.now sender.now }
-{
-    own == sender || (own == [0u8, 0, 0, 0].as_slice() && sender.starts_with([127u8].as_slice()))
-}
-
-// Whether what has this sender came from the socket here.
+// Whether what has this sender came from the socket here, as far as its address tells: no other machine can send from 127.0.0.0/8
+// (RFC 1122, 3.2.1.3).
 fn is_sent_by(sender: SocketAddrV4, own: SocketAddrV4) -> bool
     ensures { result ≡ is_sent_by sender own }
 {
-    let here = own.ip().octets();
-    let there = sender.ip().octets();
-    own.port() == sender.port() && is_at(here.as_slice(), there.as_slice())
+    let own_octets = own.ip().octets();
+    let octets = sender.ip().octets();
+    let here = own_octets.as_slice();
+    let there = octets.as_slice();
+    own.port() == sender.port()
+        && (here == there
+            || (here == [0u8, 0, 0, 0].as_slice() && there.starts_with([127u8].as_slice())))
 }
 
 // Whether what has this sender came from one of these sockets.
