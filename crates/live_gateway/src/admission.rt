@@ -2,7 +2,7 @@
 ghost use Rattle.std.specs.Prelude.{◌≡◌, ◌++◌, OnOk, IfOk};
 ghost use Rattle.endpoint_names.specs.Route.{addresses};
 ghost use Rattle.surroundings.specs.Speaking.{admitted_by};
-ghost use Rattle.live_gateway.specs.Admitting.{hosts_of, known_hosts, known_to, is_sent_by, is_its_own, is_heard};
+ghost use Rattle.live_gateway.specs.Admitting.{hosts_of, known_hosts, known_to, is_sent_by, is_heard};
 
 use endpoint_names::Route;
 use plain_machine::Setup;
@@ -45,24 +45,16 @@ fn is_sent_by(sender: SocketAddrV4, own: SocketAddrV4) -> bool
             || (here == [0u8, 0, 0, 0].as_slice() && there.starts_with([127u8].as_slice())))
 }
 
-// Whether what has this sender came from one of these sockets.
-fn is_its_own(own: &[SocketAddrV4], sender: SocketAddrV4) -> bool
-    ensures { result ≡ is_its_own own.now sender }
-{
-    for socket in own {
-        if is_sent_by(sender, *socket) {
-            return true;
-        }
-    }
-    false
-}
-
 impl Admission {
     /// Whether a datagram that has this sender is heard: it can be answered, who sent it may speak, and it isn't the gateway itself.
     pub fn hears(&self, source: SocketAddrV4) -> bool
         ensures { result ≡ is_heard self.now source }
     {
-        0 < source.port() && !is_its_own(&self.own, source) && self.speakers.hears(*source.ip())
+        let [gateway, telephones] = self.own;
+        0 < source.port()
+            && !is_sent_by(source, gateway)
+            && !is_sent_by(source, telephones)
+            && self.speakers.hears(*source.ip())
     }
 }
 
