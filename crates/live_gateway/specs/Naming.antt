@@ -9,7 +9,7 @@ use Rattle.endpoint_names.specs.Route.{addresses}
 use Rattle.mg_bytes.specs.Lists.{is_empty}
 use Rattle.plain_machine.specs.declared.setup.Setup.{Setup}
 use Rattle.surroundings.specs.Speaking.{Admitted, admitted_by, nobody, with_host, may_speak}
-use Rattle.live_gateway.specs.declared.naming.Named.{Named}
+use Rattle.surroundings.specs.declared.speaking.Speakers.{Speakers}
 use Rattle.live_gateway.specs.Admitting.{hosts_of}
 
 -- a word so far, and whom it admits
@@ -17,8 +17,8 @@ pub record Word : Type 0 where
   pub text : List ℕ
   pub admitted : Admitted
 
-abbrev pub word_of : Named → Word
-word_of named = record { text = named.text.items; admitted = admitted_by named.speakers }
+abbrev pub word_of : List ℕ → Speakers → Word
+word_of text speakers = record { text = text; admitted = admitted_by speakers }
 
 abbrev pub no_word : Word
 no_word = record { text = []; admitted = nobody }

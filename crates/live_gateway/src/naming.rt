@@ -10,30 +10,25 @@ use std::alloc::Global;
 use std::net::Ipv4Addr;
 use surroundings::Speakers;
 
-// A word so far, and those whom it admits.
-#[derive(Drop)]
-struct Named {
+// An address is named behind the others of a word, which admits these: where it isn't admitted yet; commas part those that are.
+fn name(
     alloc: Global,
-    text: Vec<u8>,
-    speakers: Speakers,
-}
-
-impl Named {
-    // An address is named, where it isn't admitted yet; commas part those that are.
-    fn name(&mut self, host: Ipv4Addr) -> Result<(), OutOfMemory>
-        ensures { OnOk result (word_of self.new ≡ with_named_host (word_of self.old) host) }
-    {
-        if self.speakers.hears(host) {
-            return Ok(());
-        }
-        let mut item = Draft::new(self.alloc);
-        if !self.text.is_empty() {
-            item.put(b",");
-        }
-        put_host(&mut item, host);
-        item.append_to(&mut self.text)?;
-        self.speakers.admit(host)
+    word: &mut Vec<u8>,
+    speakers: &mut Speakers,
+    host: Ipv4Addr,
+) -> Result<(), OutOfMemory>
+    ensures { OnOk result (word_of word.new.items speakers.new ≡ with_named_host (word_of word.old.items speakers.old) host) }
+{
+    if speakers.hears(host) {
+        return Ok(());
     }
+    let mut item = Draft::new(alloc);
+    if !word.is_empty() {
+        item.put(b",");
+    }
+    put_host(&mut item, host);
+    item.append_to(word)?;
+    speakers.admit(host)
 }
 
 // The word that admits those who may speak to a gateway that is set up so, where no word says another.
@@ -41,15 +36,12 @@ fn known_word(alloc: Global, setup: &Setup) -> Result<Vec<u8>, OutOfMemory>
     ensures { IfOk result (λ word. word.items ≡ known_word setup.now) }
 {
     let known = known_hosts(alloc, setup)?;
-    let mut named = Named {
-        alloc,
-        text: Vec::new(alloc),
-        speakers: Speakers::nobody(alloc),
-    };
+    let mut word = Vec::new(alloc);
+    let mut speakers = Speakers::nobody(alloc);
     for host in known.as_slice() {
-        named.name(*host)?;
+        name(alloc, &mut word, &mut speakers, *host)?;
     }
-    Ok(named.text)
+    Ok(word)
 }
 
 /// Who may speak to a gateway of this setup, as a line: by this word, where one was given, and else the addresses of its agent and of all
