@@ -1,7 +1,7 @@
 //! The trace, as a record keeps it until it is written.
 ghost use Rattle.std.specs.Prelude.{◌≡◌, ◌≤◌, ◌<◌, ◌-◌, ◌++◌, length, true, false, [], OnOk, None};
 ghost use Rattle.live_outlets.specs.declared.record.RecordState.TheVariants.{Off, OutOfMemory};
-ghost use Rattle.live_journal.specs.Recording.{whole_lines, first_line, trace_head, Begins, is_telling, has_ended, HasPlace};
+ghost use Rattle.live_journal.specs.Recording.{whole_lines, trace_head, Begins, is_telling, has_ended, HasPlace};
 
 use live_outlets::{Outlet, Record, TEXT_ROOM};
 use mg_bytes::{Draft, OutOfMemory};
@@ -43,16 +43,6 @@ fn put_config(out: &mut Draft, config: &[u8])
     out.put_byte(b'\n');
 }
 
-// Puts with which number ids begin, where that isn't 0.
-fn put_start(out: &mut Draft, first: u32)
-    ensures { out.new ≡ out.old ++ first_line first }
-{
-    if first == 0 {
-        return;
-    }
-    put_first(out, first);
-}
-
 // Puts its head: the configuration, `%%`, and with which number ids begin, where that isn't 0.
 fn put_head(alloc: Global, out: &mut Vec<u8>, config: &[u8], first: u32) -> Result<(), OutOfMemory>
     ensures { OnOk result (out.new.items ≡ out.old.items ++ trace_head config.now first) }
@@ -60,7 +50,9 @@ fn put_head(alloc: Global, out: &mut Vec<u8>, config: &[u8], first: u32) -> Resu
     let mut head = Draft::new(alloc);
     put_config(&mut head, config);
     head.put(b"%%\n");
-    put_start(&mut head, first);
+    if first != 0 {
+        put_first(&mut head, first);
+    }
     head.append_to(out)
 }
 
