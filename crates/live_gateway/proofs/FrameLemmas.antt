@@ -20,7 +20,7 @@ use Rattle.live_gateway.specs.declared.spoilt_way.SpoiltWay.{SpoiltWay}
 use Rattle.live_gateway.specs.Desk.{at_desk}
 use Rattle.live_gateway.specs.Exchanging.{faults_by, with_unreceived}
 use Rattle.live_play.specs.Readable.{first_unread}
-use Rattle.live_gateway.specs.Leaving.{OnlyShows, TakesFromPage, DoesVisit, Leaves}
+use Rattle.live_gateway.specs.Leaving.{TakesFromPage, DoesVisit, Leaves}
 
 -- ---- an exchange
 
@@ -49,10 +49,6 @@ board_alone was is same =
 pub shown_alone : {P : Type 0} (was is : Journal) → (is ≡ was) ⊎ (IsSameBeside was is × P) → is ≡ record was { board = is.board }
 shown_alone was is (inl same) = subst (λ (x : Journal). is ≡ record x { board = is.board }) same refl
 shown_alone was is (inr shows) = board_alone was is shows.0
-
--- an exchange is, where its journal is
-pub shows_alone : {S : Type 0} (was : Exchange S) (journal : Journal) → IsSameBeside was.journal journal → OnlyShows was (record was { journal = journal })
-shows_alone {S} was journal same = ap (λ (x : Journal). record was { journal = x }) (board_alone was.journal journal same)
 
 -- a visitor was served, behind what the page was shown
 pub served_alone : {S : Type 0} (was is : Exchange S) (shown : Journal) → shown ≡ record was.journal { board = shown.board }

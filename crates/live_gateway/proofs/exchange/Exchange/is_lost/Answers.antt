@@ -29,3 +29,35 @@ returns-in-Err-clause-lost g c =
 pub returns-in-None-clause-lost : goal.returns-in-None-clause-lost
 returns-in-None-clause-lost g c =
     lost_nowhere c.args.source c.args.bytes.now c.args.self.now.now.clock false c.args.self.now.network c.args.self.now.network c.in-None.is c.in-None.is refl
+
+-- it is otherwise as it was
+
+pub returns-in-Lost-clause-rest : goal.returns-in-Lost-clause-rest
+returns-in-Lost-clause-rest g c = refl
+
+pub returns-in-Lost-clause-spoilt : goal.returns-in-Lost-clause-spoilt
+returns-in-Lost-clause-spoilt g c = rw (c.in-Some.is) refl
+
+pub returns-in_default-clause-rest : goal.returns-in_default-clause-rest
+returns-in_default-clause-rest g c = refl
+
+pub returns-in_default-clause-spoilt : goal.returns-in_default-clause-spoilt
+returns-in_default-clause-spoilt g c = rw (c.in-Some.is) refl
+
+pub returns-in-Err-clause-rest : goal.returns-in-Err-clause-rest
+returns-in-Err-clause-rest g c = refl
+
+pub returns-in-Err-clause-spoilt : goal.returns-in-Err-clause-spoilt
+returns-in-Err-clause-spoilt g c = rw (c.in-Some.is) refl
+
+pub returns-in-None-clause-received : goal.returns-in-None-clause-received
+returns-in-None-clause-received g c = refl
+
+pub returns-in-None-clause-handed : goal.returns-in-None-clause-handed
+returns-in-None-clause-handed g c = refl
+
+pub returns-in-None-clause-rest : goal.returns-in-None-clause-rest
+returns-in-None-clause-rest g c = refl
+
+pub returns-in-None-clause-spoilt : goal.returns-in-None-clause-spoilt
+returns-in-None-clause-spoilt g c = refl

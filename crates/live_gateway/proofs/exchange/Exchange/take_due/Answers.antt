@@ -14,3 +14,41 @@ returns-in-Some-clause-due g c =
 pub returns-in-None-clause-due : goal.returns-in-None-clause-due
 returns-in-None-clause-due g c =
     due_nowhere c.args.self.now.now.clock c.args.self.now.network c.args.self.now.network None c.in-None.is c.in-None.is refl
+
+-- it is otherwise as it was
+
+pub returns-in-Some-clause-length : goal.returns-in-Some-clause-length
+returns-in-Some-clause-length g c = c.take_due.ensures.length
+
+pub returns-in-Some-clause-within : goal.returns-in-Some-clause-within
+returns-in-Some-clause-within g c = c.take_due.ensures.within
+
+pub returns-in-Some-clause-rest : goal.returns-in-Some-clause-rest
+returns-in-Some-clause-rest g c = refl
+
+pub returns-in-Some-clause-spoilt : goal.returns-in-Some-clause-spoilt
+returns-in-Some-clause-spoilt g c = rw (c.in-Some.is) refl
+
+pub returns-in-Some-clause-put : goal.returns-in-Some-clause-put
+returns-in-Some-clause-put g c = c.take_due.ensures.put
+
+pub returns-in-None-clause-length : goal.returns-in-None-clause-length
+returns-in-None-clause-length g c = refl
+
+pub returns-in-None-clause-within : goal.returns-in-None-clause-within
+returns-in-None-clause-within g c = tt
+
+pub returns-in-None-clause-rest : goal.returns-in-None-clause-rest
+returns-in-None-clause-rest g c = refl
+
+pub returns-in-None-clause-spoilt : goal.returns-in-None-clause-spoilt
+returns-in-None-clause-spoilt g c = refl
+
+pub returns-in-None-clause-handed : goal.returns-in-None-clause-handed
+returns-in-None-clause-handed g c = refl
+
+pub returns-in-None-clause-behind : goal.returns-in-None-clause-behind
+returns-in-None-clause-behind g c = tt
+
+pub returns-in-None-clause-put : goal.returns-in-None-clause-put
+returns-in-None-clause-put g c = tt
