@@ -2,7 +2,9 @@
 use Rattle.std.proofs.Common.{◌≡◌, ℕ, ◌+◌, ◌<◌, inr, Bool, true, false, List, [], ◌∷◌, ◌++◌, length, Option, refl, sym, ◌∙◌, ap, subst, arith}
 use Rattle.std.specs.List.{AllByRecursion}
 use Rattle.std.specs.Prelude.{not, is_ok, Result, Ok, Err, OnOk, OnErr}
+use Rattle.std.specs.Global.{Box}
 use Rattle.std.specs.declared.net.socket_addr.SocketAddrV4.{SocketAddrV4}
+use Rattle.message_counts.specs.declared.reporting.Faults.{Faults}
 use Rattle.surroundings.specs.Sending.{Received, Traffic, Grows}
 use Rattle.surroundings.specs.Speaking.{Admitted}
 use Rattle.surroundings.proofs.TrafficLemmas.{grows_nothing, nothing_more, grows_on}
@@ -25,6 +27,7 @@ use Rattle.live_play.proofs.RunLemmas.{ran_on, ran_stays, ran_written_off, marks
 use Rattle.live_gateway.specs.declared.admission.Admission.{Admission}
 use Rattle.live_gateway.specs.declared.desk.Desk.{Desk}
 use Rattle.live_gateway.specs.declared.exchange.Exchange.{Exchange}
+use Rattle.live_gateway.specs.declared.spoilt_way.SpoiltWay.{SpoiltWay}
 use Rattle.live_play.specs.declared.play.LivePlay.{LivePlay}
 use Rattle.live_gateway.specs.Admitting.{heard_of, HeardSince}
 use Rattle.live_gateway.specs.Desk.{Standing, at_desk, with_input, GoesOnBy, GoesOn}
@@ -52,6 +55,20 @@ standing_of told traffic play exchange = record {
   live = live play.gateway.value play.script (told play.teller) (handed_by exchange.network (traffic exchange.around).sent);
   came = came_by traffic exchange;
 }
+
+-- a turn that begins changes nothing of that
+pub begun_live : {S T : Type 0} (told : T → Option (List ℕ)) (traffic : S → Traffic) (play : LivePlay T) (was is : Exchange S)
+    → is.network ≡ was.network → is.around ≡ was.around → (standing_of told traffic play is).live ≡ (standing_of told traffic play was).live
+begun_live {S} told traffic play was is network around =
+    ap (λ (n : Option (Box SpoiltWay)). (standing_of told traffic play (record is { network = n })).live) network
+    ∙ ap (λ (a : S). (standing_of told traffic play (record is { network = was.network; around = a })).live) around
+
+pub begun_came : {S : Type 0} (traffic : S → Traffic) (was is : Exchange S) → is.network ≡ was.network → is.around ≡ was.around
+    → is.faults ≡ was.faults → came_by traffic is ≡ came_by traffic was
+begun_came {S} traffic was is network around faults =
+    ap (λ (n : Option (Box SpoiltWay)). came_by traffic (record is { network = n })) network
+    ∙ ap (λ (a : S). came_by traffic (record is { network = was.network; around = a })) around
+    ∙ ap (λ (f : Faults). came_by traffic (record is { network = was.network; around = was.around; faults = f })) faults
 
 -- that an input was taken or refused is noted
 pub counted_by : {S T : Type 0} (told : T → Option (List ℕ)) (traffic : S → Traffic) (play : LivePlay T) (mid new : Exchange S) (is_taken : Bool)

@@ -187,6 +187,13 @@ refused_in {S} (Err why) admitted source bytes outcomes sent was mid is explains
       rest = ap (λ (x : Exchange S). record x { faults = with_refused true x.faults }) explains.1;
     })
 
+-- what was noted was of an input that was taken, or wasn't, and of what was sent at it
+pub noted_of : {S : Type 0} (is_taken taken : Bool) (admitted : Admitted) (sent all : List SentMessage) (was is : Exchange S)
+    → is_taken ≡ taken → sent ≡ all → Notes is_taken admitted sent was is → Notes taken admitted all was is
+noted_of is_taken taken admitted sent all was is so_taken so_sent notes =
+    subst (λ (b : Bool). Notes b admitted all was is) so_taken
+    (subst (λ (list : List SentMessage). Notes is_taken admitted list was is) so_sent notes)
+
 -- neither changes the turn
 pub noted_now : {S : Type 0} (is_taken : Bool) (admitted : Admitted) (sent : List SentMessage) (was is : Exchange S)
     → Notes is_taken admitted sent was is → is.now ≡ was.now

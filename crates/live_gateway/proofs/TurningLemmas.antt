@@ -18,7 +18,7 @@ use Rattle.turns.specs.Schedule.{next_of}
 use Rattle.turns.proofs.ScheduleLaws.{ticks_within}
 use Rattle.live_outlets.specs.declared.now.Now.{Now}
 use Rattle.live_journal.specs.declared.journal.Journal.{Journal}
-use Rattle.live_play.specs.Running.{Live, Ran, TakesBy}
+use Rattle.live_play.specs.Running.{Live, Ran, Takes, TakesBy}
 use Rattle.live_gateway.specs.Desk.{Standing, with_input}
 use Rattle.live_play.specs.Readable.{first_unread}
 use Rattle.surroundings.specs.Speaking.{Admitted}
@@ -63,6 +63,13 @@ pub takes_from : {S A B : Type 0} (sends : S → SocketAddrV4 → List ℕ → R
 takes_from {S} sends input event done was there is from sent same takes =
     subst (λ (x : Live). OnOk done (TakesBy {O = Exchange S} (λ a gateway b. IsTold a gateway b)
     (λ a at bytes own mark b. HandsOver sends a at bytes own mark b) x from input event is sent)) same takes
+
+pub taken_from : {A B : Type 0} (done : Result A B) (input : Input) (event : GatewayEvent) (there was is : Live) → there ≡ was
+    → OnOk done (Takes there input event is) → OnOk done (Takes was input event is)
+taken_from done input event there was is same takes = subst (λ (x : Live). OnOk done (Takes x input event is)) same takes
+
+pub refused_from : {A B : Type 0} (done : Result A B) (there was is : Live) → there ≡ was → OnErr done (Ran there [] is) → OnErr done (Ran was [] is)
+refused_from done there was is same misses = subst (λ (x : Live). OnErr done (Ran x [] is)) same misses
 
 -- so it was from where a turn began
 pub tries_begun : {S : Type 0} (sends : S → SocketAddrV4 → List ℕ → Result ⊤ Fault → S → Type 0) (admitted : Admitted) (input : Input)

@@ -1,31 +1,34 @@
 use Rattle.std.proofs.Common.{◌≡◌, ℕ, false, refl, ◌∙◌, ap, subst, sym}
 use Rattle.std.specs.Prelude.{not}
+use Rattle.gateway_core.specs.GatewayState.{GatewayState}
 use Rattle.plain_machine.specs.Event.{tick}
 use Rattle.surroundings.specs.Speaking.{admitted_by}
 use Rattle.traces.specs.Writing.{passed}
 use Rattle.live_outlets.specs.declared.now.Now.{Now}
 use Rattle.live_play.specs.Coming.{Came}
-use Rattle.live_play.specs.Running.{live}
 use Rattle.live_gateway.specs.Desk.{at_desk}
-use Rattle.live_gateway.specs.Exchanging.{handed_by, Waits}
-use Rattle.live_gateway.proofs.DeskLemmas.{standing_of, between, counted_by, ticks, stays_so, waited_same}
+use Rattle.live_gateway.specs.Exchanging.{Waits}
+use Rattle.live_gateway.proofs.DeskLemmas.{standing_of, begun_live, begun_came, between, counted_by, ticks, stays_so, waited_same}
 use Rattle.live_gateway.proofs.FrameLemmas.{made_of, heard_alone, heard_same, page_same, with_exchange, visit_same}
-use Rattle.live_gateway.proofs.OverLemmas.{same_now, taken_quietly, refused_quietly, noted_now}
-use Rattle.live_gateway.proofs.TurningLemmas.{tries, takes_from, tries_begun}
+use Rattle.live_gateway.proofs.OverLemmas.{same_now, taken_quietly, refused_quietly, noted_of, noted_now}
+use Rattle.live_gateway.proofs.TurningLemmas.{tries, takes_from, taken_from, refused_from, tries_begun}
 use Rattle.live_gateway.proofs.desk.Desk.do_turn.Goals as goal
 
 pub returns-in-Tick-clause-play : goal.returns-in-Tick-clause-play
 returns-in-Tick-clause-play g c =
     let told = g.T.Teller.told in
     let traffic = g.S.Surroundings.traffic in
-    let may = c.requires c.in-Tick.moment c.in-Tick.is in
-    ticks told traffic _ _ (standing_of told traffic c.tick-done.new.self c.tick-done.new.out) c.tick-done.result c.in-Tick.moment may.0
-    (rw (c.begin.ensures.network, c.begin.ensures.around) at c.tick-done.ensures.taken)
-    (rw (c.begin.ensures.network, c.begin.ensures.around) at c.tick-done.ensures.refused)
+    let to = c.in-Tick.moment in
+    let may = c.requires to c.in-Tick.is in
+    let here = begun_live told traffic c.args.self.now.play c.args.self.now.exchange c.begin.new.self c.begin.ensures.network c.begin.ensures.around in
+    ticks told traffic _ _ (standing_of told traffic c.tick-done.new.self c.tick-done.new.out) c.tick-done.result to may.0
+    (taken_from c.tick-done.result (passed to) (tick to) _ _ _ here c.tick-done.ensures.taken)
+    (refused_from c.tick-done.result _ _ _ here c.tick-done.ensures.refused)
     may.1
-    (rw (c.begin.ensures.network, c.begin.ensures.around, c.begin.ensures.faults) at c.tick-done.ensures.came)
+    (c.tick-done.ensures.came
+    ∙ begun_came traffic c.args.self.now.exchange c.begin.new.self c.begin.ensures.network c.begin.ensures.around c.begin.ensures.faults)
     (counted_by told traffic c.tick-done.new.self c.tick-done.new.out c.note_taken.new.exchange _ _ _
-    (rw (c.is_ok.ensures.value) at c.note_taken.ensures))
+    (noted_of _ _ _ _ _ _ _ c.is_ok.ensures.value refl c.note_taken.ensures))
     refl
 
 pub returns-in-Tick-clause-does : goal.returns-in-Tick-clause-does
@@ -34,10 +37,9 @@ returns-in-Tick-clause-does g c =
     let traffic = g.S.Surroundings.traffic in
     let sends = g.S.Surroundings.sends in
     let to = c.in-Tick.moment in
-    let notes = rw (c.is_ok.ensures.value, c.sent.ensures.kept, c.deref.ensures) at c.note_taken.ensures in
-    let here : live c.args.self.now.play.gateway.value c.args.self.now.play.script (told c.args.self.now.play.teller)
-    (handed_by c.begin.new.self.network (traffic c.begin.new.self.around).sent) ≡ (at_desk told traffic c.args.self.now).live =
-    rw (c.begin.ensures.network, c.begin.ensures.around) refl in
+    let notes = noted_of _ _ _ _ _ _ _ c.is_ok.ensures.value
+    (c.sent.ensures.kept ∙ ap (λ (gateway : GatewayState). gateway.account.sent) c.deref.ensures) c.note_taken.ensures in
+    let here = begun_live told traffic c.args.self.now.play c.args.self.now.exchange c.begin.new.self c.begin.ensures.network c.begin.ensures.around in
     rw (c.in-Tick.is)
     (tries_begun sends (admitted_by c.args.self.now.admission.speakers) (passed to) (tick to) (at_desk told traffic c.args.self.now)
     (standing_of told traffic c.tick-done.new.self c.note_taken.new.exchange) c.args.self.now.exchange c.begin.new.self c.note_taken.new.exchange
@@ -49,11 +51,11 @@ returns-in-Tick-clause-does g c =
     (at_desk told traffic c.args.self.now) (standing_of told traffic c.tick-done.new.self c.tick-done.new.out) _ c.begin.new.self c.tick-done.new.out c.note_taken.new.exchange
     (takes_from sends (passed to) (tick to) c.tick-done.result _ _ _ c.begin.new.self c.tick-done.new.out here c.tick-done.ensures.outlet)
     c.tick-done.ensures.untouched
-    (rw (c.begin.ensures.network, c.begin.ensures.around) at c.tick-done.ensures.refused)
+    (refused_from c.tick-done.result _ _ _ here c.tick-done.ensures.refused)
     (taken_quietly c.tick-done.result _ (tick to) c.tick-done.new.self.gateway.value c.tick-done.new.out _ (λ log. refl) notes)
     (refused_quietly c.tick-done.result _ (tick to) _ c.tick-done.new.out _ (λ log. refl) notes)
-    (ap (λ (x : Came). x.refused)
-    (rw (c.begin.ensures.network, c.begin.ensures.around, c.begin.ensures.faults) at c.tick-done.ensures.came))
+    (ap (λ (x : Came). x.refused) (c.tick-done.ensures.came
+    ∙ begun_came traffic c.args.self.now.exchange c.begin.new.self c.begin.ensures.network c.begin.ensures.around c.begin.ensures.faults))
     (counted_by told traffic c.tick-done.new.self c.tick-done.new.out c.note_taken.new.exchange _ _ _ notes)
     c.tick-done.ensures.ends))
 
