@@ -54,6 +54,10 @@ wrote_once_more {W} writes count was between is some once =
     let more : suc count ≡ count + 1 = omega arith in
     subst (λ (n : ℕ). WroteTimes writes n was is) more (between, some, once)
 
+pub not_false : (is_over : Bool) → not is_over ≡ false → is_over ≡ true
+not_false true goes_on = refl
+not_false false goes_on = absurd cc
+
 -- ---- what was counted
 
 -- it is told by all events that the gateway stands for, where so many events of its lines were lost

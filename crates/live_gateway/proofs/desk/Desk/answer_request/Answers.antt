@@ -118,3 +118,12 @@ returns-in-Refused-clause-admission g c = refl
 
 pub returns-in-Refused-clause-schedule : goal.returns-in-Refused-clause-schedule
 returns-in-Refused-clause-schedule g c = refl
+
+pub returns-in-Act-clause-play : goal.returns-in-Act-clause-play
+returns-in-Act-clause-play g c = rw (c.answer.ensures.traffic) refl
+
+pub returns-in-Act-clause-admission : goal.returns-in-Act-clause-admission
+returns-in-Act-clause-admission g c = refl
+
+pub returns-in-Act-clause-schedule : goal.returns-in-Act-clause-schedule
+returns-in-Act-clause-schedule g c = refl

@@ -56,3 +56,6 @@ loop-preserved g c = (
   runs_once_more _ _ _ _ _ _ _ _ _ _ _ _ _ _ _ c.loop.invariant.1 c.turn-goes_on.ensures.does c.write.ensures.wrote c.write.ensures.offering
       c.write.ensures.teller c.write.ensures.exchange c.write.ensures.rest,
 )
+
+pub returns-clause-play : goal.returns-clause-play
+returns-clause-play g c = c.loop.invariant.0

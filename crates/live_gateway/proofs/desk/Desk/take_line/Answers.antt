@@ -6,7 +6,7 @@ use Rattle.live_play.specs.Coming.{Came}
 use Rattle.live_telephones.specs.declared.telephones.TelephoneRequest.TheVariants.{Act as AsksAct, Show}
 use Rattle.live_gateway.specs.Desk.{at_desk}
 use Rattle.live_gateway.specs.Exchanging.{handed_by}
-use Rattle.live_gateway.proofs.DeskLemmas.{stays, standing_of, counted_behind, acts, asks, line_is_quiet, line_is_still, line_is_line}
+use Rattle.live_gateway.proofs.DeskLemmas.{stays_so, stays, standing_of, counted_behind, acts, asks, line_is_quiet, line_is_still, line_is_line}
 use Rattle.live_gateway.proofs.LineLemmas.{taken_free}
 use Rattle.live_gateway.proofs.OverLemmas.{taken_quietly, refused_quietly, shown_so, told_so as only_told}
 use Rattle.live_gateway.proofs.AnsweringLemmas.{tries_act, asks_of}
@@ -149,3 +149,11 @@ returns-in-Show-clause-schedule g c = refl
 
 pub returns-in_default-clause-play : goal.returns-in_default-clause-play
 returns-in_default-clause-play g c = stays g.T.Teller.told g.S.Surroundings.traffic _
+
+-- it asks for something else
+
+pub returns-in_default-request_in-clause-play : goal.returns-in_default-request_in-clause-play
+returns-in_default-request_in-clause-play g c = stays_so g.T.Teller.told g.S.Surroundings.traffic _ _ c.answer_request.ensures.play c.answer_request.ensures.admission
+
+pub returns-in_default-request_in-clause-schedule : goal.returns-in_default-request_in-clause-schedule
+returns-in_default-request_in-clause-schedule g c = c.answer_request.ensures.schedule

@@ -6,7 +6,7 @@ use Rattle.gateway_core.specs.GatewayState.{GatewayState}
 use Rattle.gateway_core.specs.Stands.{Stands}
 use Rattle.live_gateway.specs.Exchanging.{moment_at}
 use Rattle.live_gateway.proofs.DeskLemmas.{between}
-use Rattle.live_gateway.proofs.EndingLemmas.{turn_ends}
+use Rattle.live_gateway.proofs.EndingLemmas.{not_false, turn_ends}
 use Rattle.live_gateway.proofs.FrameLemmas.{begun_alone, dated_before, with_exchange, begins_same, leaves_schedule}
 use Rattle.live_gateway.proofs.TurningLemmas.{tick_is_later, tick_is_short}
 use Rattle.live_gateway.proofs.desk.Desk.turn.Goals as goal
@@ -96,3 +96,6 @@ returns-clause-does g c =
       still = c.tell.ensures.watchers;
       watch = rw (c.deref-3.ensures) at c.tell.ensures.watch;
     }
+
+pub returns-clause-over : goal.returns-clause-over
+returns-clause-over g c = λ ended. c.do_turn.ensures.over (sym c.is_end.ensures ∙ not_false c.is_end.result ended)
