@@ -1,6 +1,6 @@
 -- What is heard of what comes.
 use Rattle.std.proofs.Common.{◌≡◌, ℕ, Bool, true, false, cond, List, [], ◌∷◌, ◌++◌, map, take, Option, None, Some, refl, sym, ◌∙◌, ap, subst}
-use Rattle.std.specs.Prelude.{is_some}
+use Rattle.std.specs.Prelude.{is_some, option_map}
 use Rattle.std.specs.Global.{Box}
 use Rattle.std.specs.declared.net.socket_addr.SocketAddrV4.{SocketAddrV4}
 use Rattle.std.proofs.lemmas.List.{map-append}
@@ -67,9 +67,18 @@ pub nothing_kept : (was is : Option (List Received)) → is ≡ was → Grows wa
 nothing_kept was is same = nothing_more was is same
 
 -- a copy more is kept
-pub kept_one : (old new : List Sent) (source : SocketAddrV4) (bytes : List ℕ) → new ≡ old ++ record { to = source; bytes = bytes } ∷ []
+kept_one : (old new : List Sent) (source : SocketAddrV4) (bytes : List ℕ) → new ≡ old ++ record { to = source; bytes = bytes } ∷ []
     → map came_from new ≡ map came_from old ++ record { source = source; bytes = bytes } ∷ []
 kept_one old new source bytes more = ap (λ (copies : List Sent). map came_from copies) more ∙ map-append came_from old (record { to = source; bytes = bytes } ∷ [])
+
+pub came_copies : {V : Type 0} (copies : V → List Sent) (was is : Option V) (source : SocketAddrV4) (bytes : List ℕ)
+    → Grows (option_map copies was) (record { to = source; bytes = bytes } ∷ []) (option_map copies is)
+    → Grows (option_map (λ kept. map came_from (copies kept)) was) (record { source = source; bytes = bytes } ∷ [])
+    (option_map (λ kept. map came_from (copies kept)) is)
+came_copies copies None None source bytes grows = refl
+came_copies copies None (Some are) source bytes grows = absurd cc
+came_copies copies (Some were) None source bytes grows = tt
+came_copies copies (Some were) (Some are) source bytes grows = kept_one (copies were) (copies are) source bytes grows
 
 -- none is heard where none came
 pub hears_none : (admission : Admission) (was is : Option (List Received)) → is ≡ was → HeardSince admission was [] is

@@ -2,6 +2,7 @@
 ghost use Rattle.std.specs.Prelude.{◌≡◌, ◌≤◌, ◌∷◌, [], length, take, None, Some, IfSome, option_map};
 ghost use Rattle.bad_network.specs.declared.packet.Way.TheVariants.{In, Out};
 ghost use Rattle.bad_network.specs.Waiting.{first_due};
+ghost use Rattle.surroundings.specs.Keeping.{copies_of};
 ghost use Rattle.surroundings.specs.Sending.{Grows};
 ghost use Rattle.live_gateway.specs.Offering.{offered_by, came_over, brings, brought, Offers, TakesFirst};
 
@@ -48,6 +49,26 @@ fn put_into(room: &mut [u8], bytes: &[u8]) -> usize
     len
 }
 
+// Keeps a copy of a datagram of this moment, in ms, where copies are kept; where memory is refused for it none are any more.
+fn keep_copy(
+    alloc: Global,
+    kept: &mut Option<Vec<SentDatagram>>,
+    now: u64,
+    peer: SocketAddrV4,
+    bytes: &[u8],
+)
+    ensures { Grows (option_map (λ copies. copies_of copies.items) kept.old) (record { to = peer; bytes = bytes.now } ∷ [])
+        (option_map (λ copies. copies_of copies.items) kept.new) }
+{
+    let Some(copies) = kept else {
+        return;
+    };
+    match keep(alloc, copies, now, peer, bytes) {
+        Ok(()) => {}
+        Err(_) => *kept = None,
+    }
+}
+
 impl SpoiltWay {
     /// The way over this network, over which nothing went. What goes over it isn't kept.
     pub fn new(alloc: Global, network: BadNetwork) -> SpoiltWay
@@ -84,23 +105,6 @@ impl SpoiltWay {
         self.network.next_due()
     }
 
-    // A datagram from there came over it, at this moment in ms.
-    #[tactic(auto, using(crate::proofs::HearingLemmas::kept_one))]
-    fn note_came(&mut self, source: SocketAddrV4, bytes: &[u8], now: u64)
-        ensures came { Grows (came_over self.old) (record { source = source; bytes = bytes.now } ∷ []) (came_over self.new) }
-        ensures offered { offered_by self.new ≡ offered_by self.old }
-        ensures network { self.new.network ≡ self.old.network }
-    {
-        let alloc = self.alloc;
-        let Some(came) = &mut self.came else {
-            return;
-        };
-        match keep(alloc, came, now, source, bytes) {
-            Ok(()) => {}
-            Err(_) => self.came = None,
-        }
-    }
-
     // A packet is handed over: of one that comes in as much as there is room for is put at the front of the room. How much that is.
     #[tactic(auto, using(crate::proofs::HearingLemmas::nothing_kept))]
     fn hand_over(&mut self, packet: &Packet, room: &mut [u8]) -> usize
@@ -115,7 +119,13 @@ impl SpoiltWay {
             Way::Out => 0,
             Way::In => {
                 let len = put_into(room, packet.bytes.as_bytes());
-                self.note_came(packet.peer, &room[..len], packet.due);
+                keep_copy(
+                    self.alloc,
+                    &mut self.came,
+                    packet.due,
+                    packet.peer,
+                    &room[..len],
+                );
                 len
             }
         }
@@ -155,22 +165,6 @@ impl SpoiltWay {
         self.network.offer(Way::In, source, bytes, now)
     }
 
-    // A datagram is offered on the way out.
-    fn note(&mut self, to: SocketAddrV4, bytes: &[u8], now: u64)
-        ensures offered { Grows (offered_by self.old) (record { to = to; bytes = bytes.now } ∷ []) (offered_by self.new) }
-        ensures came { came_over self.new ≡ came_over self.old }
-        ensures network { self.new.network ≡ self.old.network }
-    {
-        let alloc = self.alloc;
-        let Some(offered) = &mut self.offered else {
-            return;
-        };
-        match keep(alloc, offered, now, to, bytes) {
-            Ok(()) => {}
-            Err(_) => self.offered = None,
-        }
-    }
-
     /// Offers a datagram that goes there, at this moment in ms: what becomes of it.
     pub fn offer_out(
         &mut self,
@@ -182,7 +176,7 @@ impl SpoiltWay {
         ensures came { came_over self.new ≡ came_over self.old }
         ensures offers { Offers Out self.old.network to bytes.now now result self.new.network }
     {
-        self.note(to, bytes, now);
+        keep_copy(self.alloc, &mut self.offered, now, to, bytes);
         self.network.offer(Way::Out, to, bytes, now)
     }
 }
