@@ -8,7 +8,6 @@ use crate::behind::put_behind;
 use crate::opening::{admission_of, desk_settings, open_site, open_sockets};
 use crate::reception::PageReception;
 use crate::recording::Recording;
-use crate::replaying::{REPLAY, replay_trace};
 use exchange_log::put_peer;
 use gateway_core::Gateway;
 use live_ends::{CaptureFiles, CommonEnding, Live, begin, end, open_capture, read_file};
@@ -19,7 +18,9 @@ use mg_bytes::Draft;
 use plain_machine::Setup;
 use rgw_scenes::{flaw_of, read_config, told, told_setup};
 use rgw_scripts::LIMIT;
-use rgwd_words::{Begun, Ending, Said, Settings, Start, TELL, read_words, tell_line};
+use rgwd_words::{
+    Begun, Ending, REPLAY, Said, Settings, Start, TELL, read_words, replay_trace, tell_line,
+};
 use std::alloc::{AllocError, Global};
 use std::io::ErrorKind;
 use std::net::{Net, SocketAddrV4};

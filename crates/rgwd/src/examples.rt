@@ -2,16 +2,7 @@
 ghost use Rattle.std.specs.Prelude.{◌≡◌, ℕ, List, codes};
 ghost use Rattle.rgw_scenes.specs.declared.flaw.Flaw.TheVariants as flaws;
 ghost use Rattle.rgw_scenes.specs.Wording.{Tells};
-ghost use Rattle.rgwd_words.specs.declared.ending.Ending.TheVariants.{Replayed, Differs, NoTrace};
-ghost use Rattle.traces.specs.declared.verdict.Verdict.TheVariants as verdicts;
-ghost use Rattle.rgwd.specs.Endings.{replayed_by, TellsFlaw};
-
-/// How the program ends by a trace.
-pub fn a_replay_ends_so()
-    ensures as_told { (lines : ℕ) → replayed_by (verdicts.AsTold lines) ≡ Replayed }
-    ensures differs { (line : ℕ) (told : _) (sent : _) → replayed_by (verdicts.Differs line told sent) ≡ Differs }
-    ensures broken { (line : ℕ) → replayed_by (verdicts.Broken line) ≡ NoTrace }
-{}
+ghost use Rattle.rgwd.specs.Endings.{TellsFlaw};
 
 /// What it says of a flaw.
 pub fn a_flaw_is_said_so()

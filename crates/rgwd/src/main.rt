@@ -1,4 +1,4 @@
-//! The program `rgwd`: what it opens and serves as its words ask, and how it replays a trace.
+//! The program `rgwd`: what it opens and serves as its words ask.
 #![tactic(auto)]
 
 mod app;
@@ -7,7 +7,6 @@ mod examples;
 mod opening;
 mod reception;
 mod recording;
-mod replaying;
 
 use crate::app::run_on_site;
 use std::process::ExitCode;

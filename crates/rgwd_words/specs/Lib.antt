@@ -4,3 +4,4 @@ pub mod Texts
 pub mod Names
 pub mod Asking
 pub mod Opening
+pub mod Replaying

@@ -26,6 +26,7 @@ ghost use Rattle.clap.specs.declared.parser.matches.Found.{Found};
 ghost use Rattle.live_outlets.specs.Reasons.{reason_of};
 ghost use Rattle.page_access.specs.Naming.{names_in};
 ghost use Rattle.surroundings.specs.Speaking.{admitted_in};
+ghost use Rattle.traces.specs.declared.verdict.Verdict.TheVariants as verdicts;
 ghost use Rattle.rgwd_words.specs.declared.ending.Ending.{Ending};
 ghost use Rattle.rgwd_words.specs.declared.ending.Ending.TheVariants.{Common, Checked, BadAgents, BadHosts, BadSize, BadFiles, AnyAddress, BadFirst, BadSpread, NoTimeOfDay, Replayed, Differs, NoTrace, Answered, NoAnswer};
 ghost use Rattle.rgwd_words.specs.declared.help.TheConstants.{USAGE};
@@ -37,6 +38,7 @@ ghost use Rattle.rgwd_words.specs.Asking.{usual_listen, usual_phones, spoiling_r
 ghost use Rattle.rgwd_words.specs.Names.{help_pieces, name_of, version_pieces, Says};
 ghost use Rattle.rgwd_words.specs.Opening.{names_asked, RefusesNames, RefusesSpeakers, TellsPlace, TellsSocket, Unanswered};
 ghost use Rattle.rgwd_words.specs.Parting.{parting_of};
+ghost use Rattle.rgwd_words.specs.Replaying.{replayed_by};
 ghost use Rattle.rgwd_words.specs.Statuses.{status_of, is_asked, fails};
 ghost use Rattle.rgwd_words.specs.Texts.{ending_text};
 
@@ -161,4 +163,11 @@ pub fn what_is_opened_has_examples()
         → Unanswered address (ask_faults.Refused kind) ending → status_of ending ≡ 3 }
     ensures no_memory { (address : SocketAddrV4) (ending : Ending) → Unanswered address (ask_faults.Refused kinds.OutOfMemory) ending
         → status_of ending ≡ 3 }
+{}
+
+/// How the program ends by a trace.
+pub fn a_replay_ends_so()
+    ensures as_told { (lines : ℕ) → replayed_by (verdicts.AsTold lines) ≡ Replayed }
+    ensures differs { (line : ℕ) (told : _) (sent : _) → replayed_by (verdicts.Differs line told sent) ≡ Differs }
+    ensures broken { (line : ℕ) → replayed_by (verdicts.Broken line) ≡ NoTrace }
 {}

@@ -1,12 +1,13 @@
 //! Replays a trace, and says whether each line that went out is what the gateway sends for the lines before it.
 ghost use Rattle.std.specs.Prelude.{◌≡◌, [], ◌∷◌, ◌++◌, codes, IfOk, string_bytes};
 ghost use Rattle.rgwd_words.specs.Names.{Says};
-ghost use Rattle.rgwd.specs.Endings.{replayed_by};
+ghost use Rattle.rgwd_words.specs.Replaying.{replayed_by};
 
+use crate::ending::{Ending, Said};
+use crate::words::unless_help;
 use live_ends::{CommonEnding, FileNames};
 use live_outlets::Outlets;
 use mg_bytes::Draft;
-use rgwd_words::{Ending, Said, unless_help};
 use std::alloc::{AllocError, Global};
 use std::fs::File;
 use std::io::BufReader;
