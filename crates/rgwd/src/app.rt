@@ -18,9 +18,7 @@ use mg_bytes::Draft;
 use plain_machine::Setup;
 use rgw_scenes::{flaw_of, read_config, told, told_setup};
 use rgw_scripts::LIMIT;
-use rgwd_words::{
-    Begun, Ending, REPLAY, Said, Settings, Start, TELL, read_words, replay_trace, tell_line,
-};
+use rgwd_words::{Begun, Ending, Said, Settings, Start, asked_by};
 use std::alloc::{AllocError, Global};
 use std::io::ErrorKind;
 use std::net::{Net, SocketAddrV4};
@@ -265,32 +263,17 @@ fn perform<R: Files + Net + Clock + RandomSource + Alloc + Clone + Drop, P: Rece
     ending.said(alloc, settings.files())
 }
 
-// The words behind this one, where that is the first.
-fn words_behind<'w>(first: &str, words: &'w [String]) -> Option<&'w [String]> {
-    match words.get(1) {
-        Some(word) if word.as_str() == first => words.get(2..),
-        _ => None,
-    }
-}
-
 // How the program with these words ends, and what it says then.
 fn said_by<R: AllocGlobal + Files + Net + Clock + RandomSource + Clone + Drop, P: Reception>(
     rt: &R,
     words: &[String],
     recording: &mut Recording<R>,
 ) -> Said {
-    let alloc = rt.alloc();
-    if let Some(asked) = words_behind(TELL, words) {
-        return tell_line(rt, asked, &mut recording.outlets.output).said_of_no_file(alloc);
-    }
-    if let Some(asked) = words_behind(REPLAY, words) {
-        return replay_trace(rt, asked, &mut recording.outlets);
-    }
-    let settings = match read_words(alloc, words, &mut recording.outlets.error) {
+    let settings = match asked_by(rt, words, &mut recording.outlets) {
         Ok(settings) => settings,
-        Err(ending) => return ending.said_of_no_file(alloc),
+        Err(said) => return said,
     };
-    perform::<R, P>(rt, alloc, &settings, recording)
+    perform::<R, P>(rt, rt.alloc(), &settings, recording)
 }
 
 /// The program, over what its machine gives it.

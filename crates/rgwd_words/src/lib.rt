@@ -2,6 +2,7 @@
 //! gateway that runs, and how it replays a trace. It serves nothing.
 #![tactic(auto)]
 
+mod asked;
 mod ending;
 pub mod examples;
 mod help;
@@ -11,12 +12,8 @@ mod starting;
 mod telling;
 mod words;
 
+pub use crate::asked::asked_by;
 pub use crate::ending::{Ending, Said};
 pub use crate::help::USAGE;
-pub use crate::replaying::{REPLAY, replay_trace};
 pub use crate::starting::{Begun, Start};
-pub use crate::telling::{TELL, tell_line};
-pub use crate::words::{
-    ListFault, Settings, Sockets, WORDS, hosts_in, read_words, settings_in, speakers_in,
-    unless_help,
-};
+pub use crate::words::{ListFault, Settings, Sockets, WORDS, hosts_in, settings_in, speakers_in};
