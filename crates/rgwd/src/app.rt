@@ -1,7 +1,5 @@
 //! The program: reads its words and its configuration, opens its sockets, and serves.
-ghost use Rattle.std.specs.Prelude.{◌≡◌, is_some, IfOk, IfNone, IfSome, None};
-ghost use Rattle.rgw_scenes.specs.Flaws.{flaw_of};
-ghost use Rattle.rgwd.specs.Endings.{TellsFlaw};
+ghost use Rattle.std.specs.Prelude.{◌≡◌, IfOk, IfNone, IfSome, None};
 ghost use Rattle.rgwd_words.specs.Names.{name_of, Says};
 
 use crate::behind::put_behind;
@@ -10,15 +8,14 @@ use crate::reception::PageReception;
 use crate::recording::Recording;
 use exchange_log::put_peer;
 use gateway_core::Gateway;
-use live_ends::{CaptureFiles, CommonEnding, Live, begin, end, open_capture, read_file};
+use live_ends::{CaptureFiles, CommonEnding, Live, begin, end, open_capture};
 use live_gateway::{Desk, agents_line, boxed, end_desk, open_desk};
 use live_journal::Trace;
 use live_page::{PageProgram, Reception, run_with_site};
 use mg_bytes::Draft;
 use plain_machine::Setup;
-use rgw_scenes::{flaw_of, read_config, told, told_setup};
-use rgw_scripts::LIMIT;
-use rgwd_words::{Begun, Ending, Said, Settings, Start, asked_by};
+use rgw_scenes::told_setup;
+use rgwd_words::{Begun, Configured, Ending, Said, Settings, asked_by, configure};
 use std::alloc::{AllocError, Global};
 use std::io::ErrorKind;
 use std::net::{Net, SocketAddrV4};
@@ -115,17 +112,6 @@ fn setup_text(
     text.end()
 }
 
-// A gateway of the configuration in this text, which has no flaw, at this start: without one memory alone is refused.
-fn gateway_of(alloc: Global, text: &[u8], start: &Start) -> Result<Box<Gateway>, AllocError> {
-    let Ok(Some(config)) = read_config(alloc, text) else {
-        return Err(AllocError);
-    };
-    match Gateway::starting_at(alloc, config, start.first.number()) {
-        Ok(gateway) => boxed(alloc, gateway),
-        Err(_) => Err(AllocError),
-    }
-}
-
 // The file of a capture, if one is asked for; where it is parted its first file, and what is known of the others, in a box: who is lent
 // what is recorded is lent little.
 fn open_files<R: Files + Alloc + Clone + Drop>(
@@ -197,44 +183,21 @@ fn serve_with<R: Files + Net + Clock + RandomSource + Alloc + Clone + Drop, P: R
     )
 }
 
-// What is said of the flaw that the configuration in this file with this text has, if it has one: a line that names the file.
-fn flaw_text(alloc: Global, file: &str, text: &[u8]) -> Result<Option<Vec<u8>>, AllocError>
-    ensures flawed { IfOk result (λ said. is_some said ≡ is_some (flaw_of text.now)) }
-    ensures told { IfOk result (λ said. IfSome said (λ line. IfSome (flaw_of text.now) (TellsFlaw file.now text.now line.items))) }
-{
-    let Some(flaw) = flaw_of(alloc, text)? else {
-        return Ok(None);
-    };
-    let line = told(alloc, text, flaw)?;
-    let mut said = Draft::new(alloc);
-    said.put(file.as_bytes());
-    said.put(b": ");
-    said.put(line.as_slice());
-    said.put(b"\n");
-    Ok(Some(said.end()?))
-}
-
-// Serves with a gateway of the configuration in this text, or says on standard output what it will be; or on standard error which flaw the
-// text has.
-fn serve_text<R: Files + Net + Clock + RandomSource + Alloc + Clone + Drop, P: Reception>(
+// Serves with the gateway of the configuration that the settings name, or says on standard output what it will be; or on standard error
+// which flaw the configuration has.
+fn serve_configured<R: Files + Net + Clock + RandomSource + Alloc + Clone + Drop, P: Reception>(
     rt: &R,
     alloc: Global,
     settings: &Settings<'_>,
-    text: &[u8],
     recording: &mut Recording<R>,
 ) -> Ending {
-    let Ok(flaw) = flaw_text(alloc, settings.config, text) else {
-        return Ending::Common(CommonEnding::OutOfMemory);
-    };
-    if let Some(said) = &flaw {
-        recording.outlets.error.say(said.as_slice());
-        return Ending::Common(CommonEnding::Told);
-    }
-    let Some(start) = Start::now(rt, settings) else {
-        return Ending::NoTimeOfDay;
-    };
-    let Ok(gateway) = gateway_of(alloc, text, &start) else {
-        return Ending::Common(CommonEnding::OutOfMemory);
+    let Configured {
+        config,
+        gateway,
+        begun,
+    } = match configure(rt, alloc, settings, &mut recording.outlets.error) {
+        Ok(found) => found,
+        Err(ending) => return ending,
     };
     if settings.check {
         let Ok(said) = setup_text(alloc, settings, gateway.setup()) else {
@@ -243,8 +206,15 @@ fn serve_text<R: Files + Net + Clock + RandomSource + Alloc + Clone + Drop, P: R
         recording.outlets.output.say(said.as_slice());
         return Ending::Checked;
     }
-    let begun = start.begun(gateway.setup().names.domain.as_bytes());
-    serve_with::<R, P>(rt, alloc, settings, begun, text, gateway, recording)
+    serve_with::<R, P>(
+        rt,
+        alloc,
+        settings,
+        begun,
+        config.as_slice(),
+        gateway,
+        recording,
+    )
 }
 
 // Does what the settings ask: how the program ends then, and what it says, which names the files of the settings.
@@ -256,10 +226,7 @@ fn perform<R: Files + Net + Clock + RandomSource + Alloc + Clone + Drop, P: Rece
 ) -> Said
     ensures { IfOk result.text (λ text. Says settings.now.config.now (name_of settings.now.capture) result.ending text.items) }
 {
-    let ending = match read_file(rt, alloc, settings.config, LIMIT as u64) {
-        Ok(text) => serve_text::<R, P>(rt, alloc, settings, text.as_slice(), recording),
-        Err(kind) => Ending::unreadable(kind),
-    };
+    let ending = serve_configured::<R, P>(rt, alloc, settings, recording);
     ending.said(alloc, settings.files())
 }
 

@@ -3,7 +3,6 @@
 
 mod app;
 mod behind;
-mod examples;
 mod opening;
 mod reception;
 mod recording;

@@ -5,3 +5,4 @@ pub mod Names
 pub mod Asking
 pub mod Opening
 pub mod Replaying
+pub mod Flaws

@@ -25,6 +25,8 @@ ghost use Rattle.clap.specs.Matches.{first_value, one_text};
 ghost use Rattle.clap.specs.declared.parser.matches.Found.{Found};
 ghost use Rattle.live_outlets.specs.Reasons.{reason_of};
 ghost use Rattle.page_access.specs.Naming.{names_in};
+ghost use Rattle.rgw_scenes.specs.declared.flaw.Flaw.TheVariants as flaws;
+ghost use Rattle.rgw_scenes.specs.Wording.{Tells};
 ghost use Rattle.surroundings.specs.Speaking.{admitted_in};
 ghost use Rattle.traces.specs.declared.verdict.Verdict.TheVariants as verdicts;
 ghost use Rattle.rgwd_words.specs.declared.ending.Ending.{Ending};
@@ -35,6 +37,7 @@ ghost use Rattle.rgwd_words.specs.declared.words.ListFault.TheVariants as faults
 ghost use Rattle.rgwd_words.specs.declared.words.Settings.{Settings};
 ghost use Rattle.rgwd_words.specs.declared.words.Sockets.{Sockets};
 ghost use Rattle.rgwd_words.specs.Asking.{usual_listen, usual_phones, spoiling_read, IsAt, IsBehind, IsRead, IsMoment, SaysFlag, AsksSockets, Asks};
+ghost use Rattle.rgwd_words.specs.Flaws.{TellsFlaw};
 ghost use Rattle.rgwd_words.specs.Names.{help_pieces, name_of, version_pieces, Says};
 ghost use Rattle.rgwd_words.specs.Opening.{names_asked, RefusesNames, RefusesSpeakers, TellsPlace, TellsSocket, Unanswered};
 ghost use Rattle.rgwd_words.specs.Parting.{parting_of};
@@ -166,8 +169,20 @@ pub fn what_is_opened_has_examples()
 {}
 
 /// How the program ends by a trace.
+#[tactic(auto)]
 pub fn a_replay_ends_so()
     ensures as_told { (lines : ℕ) → replayed_by (verdicts.AsTold lines) ≡ Replayed }
     ensures differs { (line : ℕ) (told : _) (sent : _) → replayed_by (verdicts.Differs line told sent) ≡ Differs }
     ensures broken { (line : ℕ) → replayed_by (verdicts.Broken line) ≡ NoTrace }
+{}
+
+/// What it says of a flaw.
+#[tactic(auto)]
+pub fn a_flaw_is_said_so()
+    // A line with the name of the file, and behind that which flaw it is.
+    ensures line { (text line : List ℕ) → TellsFlaw (codes "gateway.toml") text line flaws.NoUtf8
+        → line ≡ codes "gateway.toml: no UTF-8\n" }
+    // It is that of the text, and not of its name.
+    ensures whose { (text line : List ℕ) (says : TellsFlaw (codes "gateway.toml") text line flaws.AnyAddress)
+        → Tells text flaws.AnyAddress says.0 }
 {}

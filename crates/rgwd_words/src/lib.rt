@@ -1,8 +1,9 @@
 //! The words of the program `rgwd`: what they ask for, how the program is used, how it ends, and what it says then; what it tells a
-//! gateway that runs, and how it replays a trace. It serves nothing.
+//! gateway that runs, how it replays a trace, and the gateway that is to serve. It serves nothing.
 #![tactic(auto)]
 
 mod asked;
+mod configuring;
 mod ending;
 pub mod examples;
 mod help;
@@ -13,7 +14,8 @@ mod telling;
 mod words;
 
 pub use crate::asked::asked_by;
+pub use crate::configuring::{Configured, configure};
 pub use crate::ending::{Ending, Said};
 pub use crate::help::USAGE;
-pub use crate::starting::{Begun, Start};
+pub use crate::starting::Begun;
 pub use crate::words::{ListFault, Settings, Sockets, WORDS, hosts_in, settings_in, speakers_in};
