@@ -2,21 +2,18 @@
 ghost use Rattle.std.specs.Prelude.{◌≡◌, IfOk, IfNone, IfSome, None};
 ghost use Rattle.rgwd_words.specs.Names.{name_of, Says};
 
-use crate::behind::put_behind;
 use crate::opening::{admission_of, desk_settings, open_site, open_sockets};
 use crate::reception::PageReception;
 use crate::recording::Recording;
-use exchange_log::put_peer;
 use gateway_core::Gateway;
 use live_ends::{CaptureFiles, CommonEnding, Live, begin, end, open_capture};
 use live_gateway::{Desk, agents_line, boxed, end_desk, open_desk};
 use live_journal::Trace;
 use live_page::{PageProgram, Reception, run_with_site};
-use mg_bytes::Draft;
-use plain_machine::Setup;
-use rgw_scenes::told_setup;
-use rgwd_words::{Begun, Configured, Ending, Said, Settings, asked_by, configure};
-use std::alloc::{AllocError, Global};
+use rgwd_words::{
+    Begun, Configured, Ending, Said, Settings, asked_by, configure, say_setup, say_start,
+};
+use std::alloc::Global;
 use std::io::ErrorKind;
 use std::net::{Net, SocketAddrV4};
 use std::os::fd::AsRawFd;
@@ -37,28 +34,6 @@ fn page_address<P: Reception>(visitors: &Option<Box<PageReception<P>>>) -> Optio
     }
 }
 
-// Where the sockets are, and the page, if there is one, and how it starts, as a line; none where one of these doesn't tell where it is.
-fn start_line(
-    alloc: Global,
-    own: [SocketAddrV4; 2],
-    has_page: bool,
-    page: Option<SocketAddrV4>,
-    begun: Begun,
-) -> Result<Vec<u8>, AllocError> {
-    if own[0].port() == 0 || own[1].port() == 0 || has_page != page.is_some() {
-        return Ok(Vec::new(alloc));
-    }
-    let mut line = Draft::new(alloc);
-    line.put(b"listen ");
-    put_peer(&mut line, own[0]);
-    line.put(b" phones ");
-    put_peer(&mut line, own[1]);
-    put_behind(&mut line, b" http ", page);
-    begun.put(&mut line);
-    line.put(b"\n");
-    line.end()
-}
-
 // Makes the file of a capture, where one is asked for, says on standard error where the sockets are, and how it starts; then serves at this
 // desk until the end, and answers who asked for that once all is written. As long as a start waits it waits first, before its clock begins:
 // so what is recorded of the gateway doesn't tell it.
@@ -77,11 +52,14 @@ fn serve_desk<R: Files + Net + Clock + RandomSource + Alloc + Clone + Drop, P: R
     }
     let own = desk.exchange.around.own();
     let has_page = settings.sockets.http.is_some();
-    // For want of memory that line alone isn't said.
-    if let Ok(line) = start_line(alloc, own, has_page, page_address(visitors), begun) {
-        recording.outlets.error.say(line.as_slice());
-    }
-    recording.outlets.offer();
+    say_start(
+        alloc,
+        own,
+        has_page,
+        page_address(visitors),
+        begun,
+        &mut recording.outlets,
+    );
     if let Some(waits) = begun.waits {
         sleep(rt, Duration::from_millis(waits));
         if desk.exchange.around.clock.begin_anew().is_err() {
@@ -90,26 +68,6 @@ fn serve_desk<R: Files + Net + Clock + RandomSource + Alloc + Clone + Drop, P: R
     }
     desk.run(visitors, recording);
     Ending::Common(end_desk(rt, desk, recording))
-}
-
-// What a gateway that is set up so will be, who may speak to it, and its sockets.
-fn setup_text(
-    alloc: Global,
-    settings: &Settings<'_>,
-    setup: &Setup,
-) -> Result<Vec<u8>, AllocError> {
-    let lines = told_setup(alloc, setup)?;
-    let agents = agents_line(alloc, settings.sockets.agents, setup)?;
-    let mut text = Draft::new(alloc);
-    text.put(lines.as_slice());
-    text.put(agents.as_slice());
-    text.put(b"sockets: --listen ");
-    put_peer(&mut text, settings.sockets.listen);
-    text.put(b" --phones ");
-    put_peer(&mut text, settings.sockets.phones);
-    put_behind(&mut text, b" --http ", settings.sockets.http);
-    text.put(b"\n");
-    text.end()
 }
 
 // The file of a capture, if one is asked for; where it is parted its first file, and what is known of the others, in a box: who is lent
@@ -200,11 +158,14 @@ fn serve_configured<R: Files + Net + Clock + RandomSource + Alloc + Clone + Drop
         Err(ending) => return ending,
     };
     if settings.check {
-        let Ok(said) = setup_text(alloc, settings, gateway.setup()) else {
-            return Ending::Common(CommonEnding::OutOfMemory);
-        };
-        recording.outlets.output.say(said.as_slice());
-        return Ending::Checked;
+        let agents = agents_line(alloc, settings.sockets.agents, gateway.setup());
+        return say_setup(
+            alloc,
+            settings,
+            gateway.setup(),
+            agents,
+            &mut recording.outlets.output,
+        );
     }
     serve_with::<R, P>(
         rt,

@@ -2,7 +2,6 @@
 #![tactic(auto)]
 
 mod app;
-mod behind;
 mod opening;
 mod reception;
 mod recording;

@@ -1,8 +1,9 @@
 //! The words of the program `rgwd`: what they ask for, how the program is used, how it ends, and what it says then; what it tells a
-//! gateway that runs, how it replays a trace, and the gateway that is to serve. It serves nothing.
+//! gateway that runs, how it replays a trace, the gateway that is to serve, and what is said before that. It serves nothing.
 #![tactic(auto)]
 
 mod asked;
+mod beginning;
 mod configuring;
 mod ending;
 pub mod examples;
@@ -14,6 +15,7 @@ mod telling;
 mod words;
 
 pub use crate::asked::asked_by;
+pub use crate::beginning::{say_setup, say_start};
 pub use crate::configuring::{Configured, configure};
 pub use crate::ending::{Ending, Said};
 pub use crate::help::USAGE;
