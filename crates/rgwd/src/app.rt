@@ -6,21 +6,18 @@ use crate::opening::{admission_of, desk_settings, open_site, open_sockets};
 use crate::reception::PageReception;
 use crate::recording::Recording;
 use gateway_core::Gateway;
-use live_ends::{CaptureFiles, CommonEnding, Live, begin, end, open_capture};
-use live_gateway::{Desk, agents_line, boxed, end_desk, open_desk};
+use live_ends::{CommonEnding, Live, begin, end};
+use live_gateway::{Desk, agents_line, end_desk, open_desk};
 use live_journal::Trace;
 use live_page::{PageProgram, Reception, run_with_site};
 use rgwd_words::{
-    Begun, Configured, Ending, Said, Settings, asked_by, configure, say_setup, say_start,
+    Begun, Configured, Ending, Said, Settings, asked_by, begin_serving, configure, say_setup,
 };
 use std::alloc::Global;
-use std::io::ErrorKind;
 use std::net::{Net, SocketAddrV4};
 use std::os::fd::AsRawFd;
 use std::random::RandomSource;
 use std::rt::{Clock, Env, Files};
-use std::thread::sleep;
-use std::time::Duration;
 use surroundings::Surroundings;
 
 // Where the page is, if there is one that tells it.
@@ -46,60 +43,21 @@ fn serve_desk<R: Files + Net + Clock + RandomSource + Alloc + Clone + Drop, P: R
     visitors: &mut Option<Box<PageReception<P>>>,
     recording: &mut Recording<R>,
 ) -> Ending {
-    match open_files(rt, alloc, settings, recording) {
-        Ok(()) => {}
-        Err(kind) => return Ending::Common(CommonEnding::unwritable(kind)),
-    }
-    let own = desk.exchange.around.own();
-    let has_page = settings.sockets.http.is_some();
-    say_start(
+    let page = page_address(visitors);
+    let files = match begin_serving(
         alloc,
-        own,
-        has_page,
-        page_address(visitors),
+        settings,
         begun,
+        page,
+        &mut desk.exchange.around,
         &mut recording.outlets,
-    );
-    if let Some(waits) = begun.waits {
-        sleep(rt, Duration::from_millis(waits));
-        if desk.exchange.around.clock.begin_anew().is_err() {
-            return Ending::Common(CommonEnding::Clock);
-        }
-    }
+    ) {
+        Ok(files) => files,
+        Err(ending) => return Ending::Common(ending),
+    };
+    recording.files = files;
     desk.run(visitors, recording);
     Ending::Common(end_desk(rt, desk, recording))
-}
-
-// The file of a capture, if one is asked for; where it is parted its first file, and what is known of the others, in a box: who is lent
-// what is recorded is lent little.
-fn open_files<R: Files + Alloc + Clone + Drop>(
-    rt: &R,
-    alloc: Global,
-    settings: &Settings<'_>,
-    recording: &mut Recording<R>,
-) -> Result<(), ErrorKind> {
-    let (Some(name), Some(parting)) = (settings.capture, settings.parting) else {
-        let capture = match open_capture(rt, alloc, settings.capture) {
-            Ok(capture) => capture,
-            Err(fault) => return Err(fault),
-        };
-        recording.outlets.capture = capture;
-        return Ok(());
-    };
-    let files = match CaptureFiles::find(rt, alloc, name, parting) {
-        Ok(files) => files,
-        Err(fault) => return Err(fault),
-    };
-    let Ok(mut files) = boxed(alloc, files) else {
-        return Err(ErrorKind::OutOfMemory);
-    };
-    let outlet = match files.next(rt) {
-        Ok(outlet) => outlet,
-        Err(kind) => return Err(kind),
-    };
-    recording.outlets.capture = Some(outlet);
-    recording.files = Some(files);
-    Ok(())
 }
 
 // Opens what the settings ask for: sockets, the page's site, and a desk for this gateway over these, whose trace has begun with this

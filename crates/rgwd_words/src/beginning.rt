@@ -1,16 +1,21 @@
-//! What is said before a gateway serves: where its sockets are, and how it starts; or what it will be, where that alone is asked.
+//! What is done and said before a gateway serves: a capture's file is made, and it is said where its sockets are, and how it starts; or
+//! what it will be, where that alone is asked.
 use crate::ending::Ending;
 use crate::starting::Begun;
 use crate::words::Settings;
 use exchange_log::put_peer;
-use live_ends::CommonEnding;
-use live_outlets::{Outlet, Outlets};
+use live_ends::{CaptureFiles, CommonEnding, Live, open_capture};
+use live_outlets::{Outlet, Outlets, boxed};
 use mg_bytes::Draft;
 use plain_machine::Setup;
 use rgw_scenes::told_setup;
 use std::alloc::{AllocError, Global};
-use std::io::Write;
-use std::net::SocketAddrV4;
+use std::io::{ErrorKind, Write};
+use std::net::{Net, SocketAddrV4};
+use std::rt::{Clock, Files};
+use std::thread::sleep;
+use std::time::Duration;
+use surroundings::Surroundings;
 
 // Puts an address behind its word; nothing where there is none.
 fn put_behind(out: &mut Draft, word: &[u8], address: Option<SocketAddrV4>) {
@@ -42,20 +47,67 @@ fn start_line(
     line.end()
 }
 
-/// Says on standard error where the sockets are, and the page, where there is one, and how a gateway starts.
-pub fn say_start<F: Write + Drop>(
+// The file of a capture, if one is asked for, becomes an outlet; where it is parted its first file, and what is known of the others comes
+// in a box: who holds that holds little.
+fn open_files<R: Files + Alloc + Clone + Drop>(
+    rt: &R,
     alloc: Global,
-    own: [SocketAddrV4; 2],
-    has_page: bool,
-    page: Option<SocketAddrV4>,
+    settings: &Settings<'_>,
+    outlets: &mut Outlets<R::File>,
+) -> Result<Option<Box<CaptureFiles>>, ErrorKind> {
+    let (Some(name), Some(parting)) = (settings.capture, settings.parting) else {
+        let capture = match open_capture(rt, alloc, settings.capture) {
+            Ok(capture) => capture,
+            Err(fault) => return Err(fault),
+        };
+        outlets.capture = capture;
+        return Ok(None);
+    };
+    let files = match CaptureFiles::find(rt, alloc, name, parting) {
+        Ok(files) => files,
+        Err(fault) => return Err(fault),
+    };
+    let Ok(mut files) = boxed(alloc, files) else {
+        return Err(ErrorKind::OutOfMemory);
+    };
+    let outlet = match files.next(rt) {
+        Ok(outlet) => outlet,
+        Err(kind) => return Err(kind),
+    };
+    outlets.capture = Some(outlet);
+    Ok(Some(files))
+}
+
+/// Makes the file of a capture, where one is asked for, and says on standard error where the sockets are, and the page, where there is
+/// one, and how a gateway starts. As long as a start waits it waits then, before its clock begins: so what is recorded of the gateway
+/// doesn't tell it. It gives what is known of a capture's files, where that is parted; or how the program ends that can't serve.
+pub fn begin_serving<R: Files + Net + Clock + Alloc + Clone + Drop>(
+    alloc: Global,
+    settings: &Settings<'_>,
     begun: Begun,
-    outlets: &mut Outlets<F>,
-) {
+    page: Option<SocketAddrV4>,
+    live: &mut Live<'_, R>,
+    outlets: &mut Outlets<R::File>,
+) -> Result<Option<Box<CaptureFiles>>, CommonEnding> {
+    let rt = live.rt;
+    let files = match open_files(rt, alloc, settings, outlets) {
+        Ok(files) => files,
+        Err(kind) => return Err(CommonEnding::unwritable(kind)),
+    };
+    let own = live.own();
+    let has_page = settings.sockets.http.is_some();
     // For want of memory that line alone isn't said.
     if let Ok(line) = start_line(alloc, own, has_page, page, begun) {
         outlets.error.say(line.as_slice());
     }
     outlets.offer();
+    if let Some(waits) = begun.waits {
+        sleep(rt, Duration::from_millis(waits));
+        if live.clock.begin_anew().is_err() {
+            return Err(CommonEnding::Clock);
+        }
+    }
+    Ok(files)
 }
 
 // What a gateway that is set up so will be, who may speak to it, as a line that is told here, and its sockets.

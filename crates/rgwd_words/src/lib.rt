@@ -1,5 +1,5 @@
 //! The words of the program `rgwd`: what they ask for, how the program is used, how it ends, and what it says then; what it tells a
-//! gateway that runs, how it replays a trace, the gateway that is to serve, and what is said before that. It serves nothing.
+//! gateway that runs, how it replays a trace, the gateway that is to serve, and what is done and said before that. It serves nothing.
 #![tactic(auto)]
 
 mod asked;
@@ -15,7 +15,7 @@ mod telling;
 mod words;
 
 pub use crate::asked::asked_by;
-pub use crate::beginning::{say_setup, say_start};
+pub use crate::beginning::{begin_serving, say_setup};
 pub use crate::configuring::{Configured, configure};
 pub use crate::ending::{Ending, Said};
 pub use crate::help::USAGE;
