@@ -2,7 +2,7 @@
 ghost use Rattle.std.specs.Prelude.{◌≡◌, IfOk, IfNone, IfSome, None};
 ghost use Rattle.rgwd_words.specs.Names.{name_of, Says};
 
-use crate::opening::{admission_of, desk_settings, open_site, open_sockets};
+use crate::opening::{admission_of, desk_settings, open_site};
 use crate::reception::PageReception;
 use crate::recording::Recording;
 use gateway_core::Gateway;
@@ -11,7 +11,8 @@ use live_gateway::{Desk, agents_line, end_desk, open_desk};
 use live_journal::Trace;
 use live_page::{PageProgram, Reception, run_with_site};
 use rgwd_words::{
-    Begun, Configured, Ending, Said, Settings, asked_by, begin_serving, configure, say_setup,
+    Begun, Configured, Ending, Said, Settings, asked_by, begin_serving, configure, open_sockets,
+    say_setup,
 };
 use std::alloc::Global;
 use std::net::{Net, SocketAddrV4};
