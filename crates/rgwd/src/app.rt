@@ -164,7 +164,6 @@ fn said_by<R: AllocGlobal + Files + Net + Clock + RandomSource + Clone + Drop, P
 }
 
 /// The program, over what its machine gives it.
-#[derive(Drop)]
 struct Program<'r, R> {
     rt: &'r R,
 }
@@ -204,5 +203,7 @@ where
     R::File: AsRawFd,
 {
     let program = Program { rt };
-    run_with_site(&program)
+    let status = run_with_site(&program);
+    let Program { rt: _ } = program;
+    status
 }
