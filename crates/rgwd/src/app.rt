@@ -6,7 +6,7 @@ use crate::opening::{admission_of, desk_settings, open_site};
 use crate::reception::PageReception;
 use crate::recording::Recording;
 use gateway_core::Gateway;
-use live_ends::{CommonEnding, Live, begin, end};
+use live_ends::{CommonEnding, Live, begin};
 use live_gateway::{Desk, agents_line, end_desk, open_desk};
 use live_journal::Trace;
 use live_page::{PageProgram, Reception, run_with_site};
@@ -186,12 +186,11 @@ where
             outlets,
             files: None,
         };
-        let Said { ending, text } = match &words {
+        let said = match &words {
             Ok(words) => said_by::<R, P>(self.rt, words.as_slice(), &mut recording),
             Err(ending) => Ending::Common(*ending).said_of_no_file(self.rt.alloc()),
         };
-        let (status, is_asked) = (ending.status(), ending.is_asked());
-        end(self.rt, &mut recording.outlets, text, status, is_asked)
+        said.end(self.rt, &mut recording.outlets)
     }
 }
 

@@ -1,5 +1,6 @@
 //! How the program ends: its status, and what it says then.
-ghost use Rattle.std.specs.Prelude.{◌≡◌, ◌≢◌, ℕ, true, List, [], ◌++◌, OnOk, IfOk};
+ghost use Rattle.std.specs.Prelude.{◌≡◌, ◌≢◌, ◌⊎◌, ℕ, true, List, [], ◌++◌, OnOk, IfOk};
+ghost use Rattle.live_ends.specs.Ending.{status_of as common_status};
 ghost use Rattle.rgwd_words.specs.Statuses.{status_of, is_asked, fails};
 ghost use Rattle.rgwd_words.specs.Texts.{unanswered_text, ending_text};
 ghost use Rattle.rgwd_words.specs.Names.{HasNames, Says};
@@ -8,12 +9,14 @@ use crate::help::of_program;
 use crate::parted::{MOST_FILES, MOST_MEGABYTES};
 use exchange_log::put_peer;
 use gateway_core::FIRSTS;
-use live_ends::{About, AddressWord, CommonEnding, FileNames, put_around, put_pieces};
+use live_ends::{About, AddressWord, CommonEnding, FileNames, end, put_around, put_pieces};
+use live_outlets::Outlets;
 use mg_bytes::{Draft, OutOfMemory};
 use new_start::LONGEST_SPREAD;
 use std::alloc::Global;
-use std::io::ErrorKind;
+use std::io::{ErrorKind, Write};
 use std::net::SocketAddrV4;
+use std::rt::Clock;
 
 // Why there is no page at any address.
 const ANY_ADDRESS: &str =
@@ -76,6 +79,17 @@ pub enum Ending {
 pub struct Said {
     pub ending: Ending,
     pub text: Result<Vec<u8>, OutOfMemory>,
+}
+
+impl Said {
+    /// Says it, and offers what waits for a second: the exit status of how the program ends, or that of a fault where what its words ask
+    /// isn't taken.
+    pub fn end<R: Clock, F: Write + Drop>(self, rt: &R, outlets: &mut Outlets<F>) -> u8
+        ensures { (result ≡ status_of self.ending) ⊎ (result ≡ common_status CommonEnding.Write) }
+    {
+        let Said { ending, text } = self;
+        end(rt, outlets, text, ending.status(), ending.is_asked())
+    }
 }
 
 impl Ending {
