@@ -150,19 +150,6 @@ fn perform<R: Files + Net + Clock + RandomSource + Alloc + Clone + Drop, P: Rece
     ending.said(alloc, settings.files())
 }
 
-// How the program with these words ends, and what it says then.
-fn said_by<R: AllocGlobal + Files + Net + Clock + RandomSource + Clone + Drop, P: Reception>(
-    rt: &R,
-    words: &[String],
-    recording: &mut Recording<R>,
-) -> Said {
-    let settings = match asked_by(rt, words, &mut recording.outlets) {
-        Ok(settings) => settings,
-        Err(said) => return said,
-    };
-    perform::<R, P>(rt, rt.alloc(), &settings, recording)
-}
-
 /// The program, over what its machine gives it.
 struct Program<'r, R> {
     rt: &'r R,
@@ -186,10 +173,11 @@ where
             outlets,
             files: None,
         };
-        let said = match &words {
-            Ok(words) => said_by::<R, P>(self.rt, words.as_slice(), &mut recording),
-            Err(ending) => Ending::Common(*ending).said_of_no_file(self.rt.alloc()),
+        let settings = match asked_by(self.rt, &words, &mut recording.outlets) {
+            Ok(settings) => settings,
+            Err(said) => return said.end(self.rt, &mut recording.outlets),
         };
+        let said = perform::<R, P>(self.rt, self.rt.alloc(), &settings, &mut recording);
         said.end(self.rt, &mut recording.outlets)
     }
 }

@@ -1,8 +1,9 @@
 //! What a command line asks for: that a gateway serves as its settings say; or what is done here, at once, since it needs none.
-use crate::ending::Said;
+use crate::ending::{Ending, Said};
 use crate::replaying::{REPLAY, replay_trace};
 use crate::telling::{TELL, tell_line};
 use crate::words::{Settings, read_words};
+use live_ends::CommonEnding;
 use live_outlets::Outlets;
 use std::net::Net;
 use std::rt::{Clock, Files};
@@ -16,13 +17,18 @@ fn words_behind<'w>(first: &str, words: &'w [String]) -> Option<&'w [String]> {
 }
 
 /// What these words ask to be served, of which the first is the program's name; or how the program ends that serves nothing, and what it
-/// says then: where they tell a gateway a line, or a trace is replayed, or they are refused. What belongs there these outlets say.
+/// says then: where it has no words, or they tell a gateway a line, or a trace is replayed, or they are refused. What belongs there these
+/// outlets say.
 pub fn asked_by<'w, R: AllocGlobal + Files + Net + Clock>(
     rt: &R,
-    words: &'w [String],
+    words: &'w Result<Vec<String>, CommonEnding>,
     outlets: &mut Outlets<R::File>,
 ) -> Result<Box<Settings<'w>>, Said> {
     let alloc = rt.alloc();
+    let words = match words {
+        Ok(words) => words.as_slice(),
+        Err(ending) => return Err(Ending::Common(*ending).said_of_no_file(alloc)),
+    };
     if let Some(asked) = words_behind(TELL, words) {
         return Err(tell_line(rt, asked, &mut outlets.output).said_of_no_file(alloc));
     }
