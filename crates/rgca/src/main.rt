@@ -1,8 +1,7 @@
-//! The program `rgca`: what it opens, serves, checks, plays and loads.
+//! The program `rgca`: what it opens, serves, plays and loads.
 #![tactic(auto)]
 
 mod app;
-mod checks;
 mod configs;
 mod examples;
 mod loads;

@@ -1,5 +1,6 @@
 pub mod Statuses
 pub mod Endings
+pub mod Checks
 pub mod Texts
 pub mod Names
 pub mod Words

@@ -1,8 +1,10 @@
-//! The words of the program `rgca`: what they ask for, how the program is used, how it ends, and what it says then. It opens nothing,
-//! serves nothing and checks nothing.
+//! The words of the program `rgca`: what they ask for, how the program is used, how it ends, and what it says then; and how it checks a
+//! gateway as they ask. It serves nothing.
 #![tactic(auto)]
 
+pub mod check_examples;
 mod check_words;
+mod checks;
 mod ending;
 pub mod examples;
 mod help;
@@ -11,6 +13,7 @@ mod phone_words;
 mod words;
 
 pub use crate::check_words::{CheckWords, read_check_words};
+pub use crate::checks::checked;
 pub use crate::ending::{
     Abouts, Ending, Named, Said, check_words_ending, load_words_ending, phone_words_said,
     word_ending,

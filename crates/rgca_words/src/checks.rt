@@ -1,13 +1,14 @@
 //! Checks a gateway as words ask, or tells which checks there are.
 ghost use Rattle.std.specs.Prelude.{◌≡◌, [], true, false, IfOk};
-ghost use Rattle.rgca.specs.Endings.{asks_for_list, AskedEnds, CheckEnds, ListEnds, ReportEnds, Unchecked};
+ghost use Rattle.rgca_words.specs.Checks.{asks_for_list, AskedEnds, CheckEnds, ListEnds, ReportEnds, Unchecked};
 ghost use Rattle.rgca_words.specs.Names.{name_of, Says};
 
+use crate::check_words::{CheckWords, read_check_words};
+use crate::ending::{Ending, Named, Said, check_words_ending};
 use live_checks::{CheckFault, Checked, check_gateway, check_list, fault_text};
 use live_ends::{AddressWord, CommonEnding};
 use live_outlets::{Outlet, Outlets};
 use mg_bytes::OutOfMemory;
-use rgca_words::{CheckWords, Ending, Named, Said, check_words_ending, read_check_words};
 use std::alloc::{AllocError, Global};
 use std::fs::File;
 use std::io::{ErrorKind, Write};
@@ -103,7 +104,7 @@ fn reported<R: Files, F: Write + Drop>(
 }
 
 // Checks a gateway as these words ask.
-#[tactic(auto, unfolding(crate::specs::Endings::CheckEnds))]
+#[tactic(auto, unfolding(crate::specs::Checks::CheckEnds))]
 fn check_by<R: AllocGlobal + Files + Net + Clock, F: Write + Drop>(
     rt: &R,
     alloc: Global,
@@ -162,7 +163,7 @@ fn asks_for_list(words: &[String]) -> bool
 }
 
 /// How the program ends by a check with these words, of which the first is `check`, and what it says then.
-#[tactic(auto, unfolding(crate::specs::Endings::AskedEnds))]
+#[tactic(auto, unfolding(crate::specs::Checks::AskedEnds))]
 pub fn checked<R: AllocGlobal + Files + Net + Clock, F: Write + Drop>(
     rt: &R,
     words: &[String],
