@@ -1,12 +1,10 @@
-//! The program `rgca`: what it opens, serves, plays and loads.
+//! The program `rgca`: what it opens, serves and loads.
 #![tactic(auto)]
 
 mod app;
 mod configs;
 mod examples;
 mod loads;
-mod phone_files;
-mod phones;
 
 use std::process::ExitCode;
 

@@ -1,5 +1,5 @@
 //! The words of the program `rgca`: what they ask for, how the program is used, how it ends, and what it says then; and how it checks a
-//! gateway as they ask. It serves nothing.
+//! gateway, or plays a script of telephones, as they ask. It serves nothing.
 #![tactic(auto)]
 
 pub mod check_examples;
@@ -9,7 +9,10 @@ mod ending;
 pub mod examples;
 mod help;
 mod load_words;
+mod phone_files;
 mod phone_words;
+mod phones;
+pub mod play_examples;
 mod words;
 
 pub use crate::check_words::{CheckWords, read_check_words};
@@ -18,7 +21,7 @@ pub use crate::ending::{
     Abouts, Ending, Named, Said, check_words_ending, load_words_ending, phone_words_said,
     word_ending,
 };
-pub use crate::help::of_all;
 pub use crate::load_words::{LoadWordFault, read_load_words};
 pub use crate::phone_words::{PhoneSettings, PhoneWordFault, read_phone_words};
+pub use crate::phones::played;
 pub use crate::words::{Settings, WordFault, read_words};

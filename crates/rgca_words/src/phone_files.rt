@@ -1,14 +1,16 @@
 //! Reads a script of telephones, with all files that it brings.
 ghost use Rattle.std.specs.Prelude.{◌≡◌, ◌≢◌, ℕ, List, [], ◌++◌, IfOk, MatchResult};
 ghost use Rattle.phone_scripts.specs.Wording.{place_text};
-ghost use Rattle.rgca.specs.Endings.{too_long_text, FileEnds};
 ghost use Rattle.rgca_words.specs.Names.{Says};
+ghost use Rattle.rgca_words.specs.Plays.{too_long_text, FileEnds};
 
+use crate::ending::{Ending, Named};
+use crate::help::of_all;
+use crate::phone_words::PhoneSettings;
 use agent_config::copied;
 use live_ends::{CommonEnding, read_file};
 use mg_bytes::{Draft, OutOfMemory, Text};
 use phone_scripts::{Place, Reader, Script, ScriptFault, Wanted, fault_line, put_place};
-use rgca_words::{Ending, Named, PhoneSettings, of_all};
 use rgw_scripts::LIMIT;
 use std::alloc::{AllocError, Global};
 use std::io::ErrorKind;

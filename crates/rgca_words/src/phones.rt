@@ -1,14 +1,15 @@
 //! Plays a script of telephones.
 ghost use Rattle.std.specs.Prelude.{[], IfOk};
-ghost use Rattle.rgca.specs.Endings.{FailureEnds, PlayEnds};
 ghost use Rattle.rgca_words.specs.Names.{Says};
+ghost use Rattle.rgca_words.specs.Plays.{FailureEnds, PlayEnds};
 
+use crate::ending::{Ending, Named, Said, phone_words_said};
 use crate::phone_files::read_script;
+use crate::phone_words::{PhoneSettings, read_phone_words};
 use live_checks::{Played, play_phones};
 use live_ends::{AddressWord, CommonEnding, Live, SocketWanted};
 use mg_bytes::Text;
 use phone_scripts::{Failure, Player, Script, failure_text};
-use rgca_words::{Ending, Named, PhoneSettings, Said, phone_words_said, read_phone_words};
 use std::alloc::Global;
 use std::net::{Ipv4Addr, Net, SocketAddrV4};
 use std::rt::{Clock, Files};

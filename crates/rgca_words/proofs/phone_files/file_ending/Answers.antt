@@ -3,7 +3,7 @@ use Rattle.std.specs.Prelude.{IfOk, MatchResult}
 use Rattle.live_ends.specs.declared.ending.CommonEnding.TheVariants.{OutOfMemory}
 use Rattle.rgca_words.specs.declared.ending.Ending.{Ending}
 use Rattle.rgca_words.specs.declared.ending.Ending.TheVariants.{BadScript, Common}
-use Rattle.rgca.proofs.phone_files.file_ending.Goals as goal
+use Rattle.rgca_words.proofs.phone_files.file_ending.Goals as goal
 
 -- what is said of it is told, or memory was refused for that
 said_so : {E : Type 0} → (said : Result (List ℕ) E) (ending : Ending) (told : List ℕ)
