@@ -38,19 +38,6 @@ fn play_ending(alloc: Global, files: &[Text], names: &[Text], played: &Played) -
     }
 }
 
-// Plays a script with this player, over these sockets.
-fn play_with<R: Net + Clock>(
-    alloc: Global,
-    live: &mut Live<'_, R>,
-    settings: &PhoneSettings<'_>,
-    player: &mut Player,
-) -> Ending {
-    let Ok(played) = play_phones(alloc, live, player, settings.addresses.as_slice()) else {
-        return Ending::Common(CommonEnding::OutOfMemory);
-    };
-    play_ending(alloc, player.files(), settings.names.as_slice(), &played)
-}
-
 // Plays a script, over two sockets, of which the first is used.
 fn play<R: Net + Clock>(
     rt: &R,
@@ -71,7 +58,11 @@ fn play<R: Net + Clock>(
     let Ok(mut player) = Player::new(alloc, script, gateways, 0) else {
         return Ending::Common(CommonEnding::OutOfMemory);
     };
-    play_with(alloc, &mut live, settings, &mut player)
+    let addresses = settings.addresses.as_slice();
+    let Ok(played) = play_phones(alloc, &mut live, &mut player, addresses) else {
+        return Ending::Common(CommonEnding::OutOfMemory);
+    };
+    play_ending(alloc, player.files(), settings.names.as_slice(), &played)
 }
 
 // Reads a script, and plays it: how the program ends then, and what it says, which names the file of the script.
