@@ -1,13 +1,11 @@
--- How the program ends by a configuration that is refused, and by a load.
-use Rattle.agent_config.specs.declared.config_fault.ConfigRefusal.{ConfigRefusal}
-use Rattle.agent_config.specs.declared.config_fault.ConfigRefusal.TheVariants as refusals
+-- How the program ends by a load.
 use Rattle.live_ends.specs.declared.ending.CommonEnding.TheVariants as endings
 use Rattle.live_agent.specs.declared.loading.LoadEnding.{LoadEnding}
 use Rattle.live_agent.specs.declared.loading.LoadEnding.TheVariants as loads
 use Rattle.load_bench.specs.declared.settings.LoadFault.{LoadFault}
 use Rattle.load_bench.specs.declared.settings.LoadFault.TheVariants as load_faults
 use Rattle.rgca_words.specs.declared.ending.Ending.{Ending}
-use Rattle.rgca_words.specs.declared.ending.Ending.TheVariants.{Common, Config, Loaded, NoAnswer, NoLines, Untold}
+use Rattle.rgca_words.specs.declared.ending.Ending.TheVariants.{Common, Loaded, NoAnswer, NoLines, Untold}
 
 -- where no load is made
 abbrev pub unmade_by : LoadFault → Ending
@@ -21,8 +19,3 @@ abbrev pub load_by : LoadEnding → Ending
 load_by (loads.Common ending) = Common ending
 load_by (loads.Made is_enough) = Loaded is_enough
 load_by (loads.Unmade fault) = unmade_by fault
-
--- by the configuration
-abbrev pub config_by : ConfigRefusal → Ending
-config_by refusals.OutOfMemory = Common endings.OutOfMemory
-config_by (refusals.Told line) = Config line

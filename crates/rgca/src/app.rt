@@ -2,13 +2,15 @@
 ghost use Rattle.std.specs.Prelude.{◌≡◌, [], None, is_some, IfOk, IfSome};
 ghost use Rattle.rgca_words.specs.Names.{name_of, Says};
 
-use crate::configs::{config_ending, config_of};
 use crate::loads::loaded;
 use agent_config::AgentConfig;
 use live_agent::{WireSettings, serve_agent};
 use live_ends::{AddressWord, CommonEnding, SocketWanted, begin, end, read_file};
 use live_outlets::Outlets;
-use rgca_words::{Ending, Named, Said, Settings, checked, played, read_words, word_ending};
+use rgca_words::{
+    Ending, Named, Said, Settings, checked, config_ending, config_of, played, read_words,
+    word_ending,
+};
 use rgw_scripts::LIMIT;
 use std::alloc::Global;
 use std::net::Net;

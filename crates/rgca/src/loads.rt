@@ -3,12 +3,14 @@ ghost use Rattle.std.specs.Prelude.{◌≡◌, [], IfOk};
 ghost use Rattle.rgca.specs.Endings.{load_by};
 ghost use Rattle.rgca_words.specs.Names.{Says};
 
-use crate::configs::{bench_refusal, config_ending, config_of};
 use live_agent::{LoadEnding, load_agent};
 use live_ends::{CommonEnding, read_file};
 use live_outlets::Outlets;
 use load_bench::{LoadFault, LoadSettings};
-use rgca_words::{Ending, Named, Said, load_words_ending, read_load_words};
+use rgca_words::{
+    Ending, Named, Said, bench_refusal, config_ending, config_of, load_words_ending,
+    read_load_words,
+};
 use rgw_scripts::LIMIT;
 use std::alloc::Global;
 use std::net::Net;

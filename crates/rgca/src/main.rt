@@ -2,7 +2,6 @@
 #![tactic(auto)]
 
 mod app;
-mod configs;
 mod examples;
 mod loads;
 

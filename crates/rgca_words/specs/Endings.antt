@@ -1,4 +1,7 @@
--- How the program ends by words that are refused.
+-- How the program ends by words, or a configuration, that are refused.
+use Rattle.agent_config.specs.declared.config_fault.ConfigRefusal.{ConfigRefusal}
+use Rattle.agent_config.specs.declared.config_fault.ConfigRefusal.TheVariants as refusals
+use Rattle.live_ends.specs.declared.ending.CommonEnding.TheVariants as endings
 use Rattle.rgca_words.specs.declared.words.WordFault.{WordFault}
 use Rattle.rgca_words.specs.declared.words.WordFault.TheVariants as faults
 use Rattle.rgca_words.specs.declared.phone_words.PhoneWordFault.{PhoneWordFault}
@@ -7,7 +10,7 @@ use Rattle.rgca_words.specs.declared.load_words.LoadWordFault.{LoadWordFault}
 use Rattle.rgca_words.specs.declared.load_words.LoadWordFault.TheVariants as number_faults
 use Rattle.rgca_words.specs.declared.ending.Ending.{Ending}
 use Rattle.rgca_words.specs.declared.ending.Ending.TheVariants.{Common, OfCheck, OfPhones, OfLoads, BadNumber, BadGateway, BadLine}
-use Rattle.rgca_words.specs.declared.ending.Ending.TheVariants.{SameLine, NoCheck}
+use Rattle.rgca_words.specs.declared.ending.Ending.TheVariants.{SameLine, NoCheck, Config}
 
 abbrev pub word_ending : WordFault → Ending
 word_ending (faults.Common ending) = Common ending
@@ -31,3 +34,8 @@ phone_ending (phone_faults.BadGateway word) = BadGateway
 abbrev pub load_word_ending : LoadWordFault → Ending
 load_word_ending (number_faults.Common ending) = OfLoads ending
 load_word_ending (number_faults.BadNumber number) = BadNumber number
+
+-- by the configuration
+abbrev pub config_by : ConfigRefusal → Ending
+config_by refusals.OutOfMemory = Common endings.OutOfMemory
+config_by (refusals.Told line) = Config line

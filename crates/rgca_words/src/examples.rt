@@ -9,6 +9,7 @@ ghost use Rattle.std.specs.Net.Text.{socket_v4_text};
 ghost use Rattle.std.specs.Str.Parse.{digits_value, without_leading_plus};
 ghost use Rattle.std.specs.declared.io.ErrorKind.{ErrorKind};
 ghost use Rattle.std.specs.declared.net.socket_addr.SocketAddrV4.{SocketAddrV4};
+ghost use Rattle.agent_config.specs.declared.config_fault.ConfigRefusal.TheVariants as refusals;
 ghost use Rattle.live_ends.specs.declared.ending.CommonEnding.{CommonEnding};
 ghost use Rattle.live_ends.specs.declared.ending.CommonEnding.TheVariants.{Served, Help, Version, Usage, Unreadable, Unwritable};
 ghost use Rattle.live_ends.specs.Ending.{status_of as common_status, is_asked as is_commonly_asked, ending_text as common_text};
@@ -27,7 +28,7 @@ ghost use Rattle.rgca_words.specs.declared.ending.Ending.TheVariants.{Unexpected
 ghost use Rattle.rgca_words.specs.declared.ending.Ending.TheVariants.{Untold, NoLines, BadLine, SameLine, NoCheck, Config};
 ghost use Rattle.rgca_words.specs.declared.ending.Ending.TheVariants.{NoAnswer, NotServing, NoSuchLine, InUse, System};
 ghost use Rattle.rgca_words.specs.Statuses.{status_of, is_asked, fails};
-ghost use Rattle.rgca_words.specs.Endings.{word_ending, check_ending, phone_ending, load_word_ending};
+ghost use Rattle.rgca_words.specs.Endings.{word_ending, check_ending, phone_ending, load_word_ending, config_by};
 ghost use Rattle.rgca_words.specs.Texts.{ending_text};
 ghost use Rattle.rgca_words.specs.Names.{help_pieces, check_pieces, phone_pieces, load_pieces, version_pieces, name_of, gateway_of, Says};
 ghost use Rattle.rgca_words.specs.Words.{asks_for_help, IsBehind, IsMoment, IsRead, SaysFlag, IsWorked};
@@ -87,6 +88,9 @@ pub fn further_sentences_have_examples()
     ensures a_check_and_a_script_have_their_own_usage_line { (is_other : Bool) → check_ending (faults.BadLine is_other)
         ≡ word_ending (faults.BadLine is_other) }
     ensures gateway { (word : _) → phone_ending (phone_faults.BadGateway word) ≡ BadGateway }
+    // A configuration that is refused is told by its line, unless memory was refused.
+    ensures config { (line : _) → config_by (refusals.Told line) ≡ Config line }
+    ensures config_memory { config_by refusals.OutOfMemory ≡ Common CommonEnding.OutOfMemory }
     // An ending says why, in a line or those that are told; nothing where a gateway was checked, or where all was as a script expects.
     ensures an_ending_says_why_checked { (about : Abouts) (named : Named) → ending_text about named (Checked 0) ≡ [] }
     ensures an_ending_says_why_played { (about : Abouts) (named : Named) → ending_text about named Played ≡ [] }

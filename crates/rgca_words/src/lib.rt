@@ -1,10 +1,11 @@
-//! The words of the program `rgca`: what they ask for, how the program is used, how it ends, and what it says then; and how it checks a
-//! gateway, or plays a script of telephones, as they ask. It serves nothing.
+//! The words of the program `rgca`: what they ask for, how the program is used, how it ends, and what it says then; how it checks a
+//! gateway, or plays a script of telephones, as they ask; and its configuration. It serves nothing.
 #![tactic(auto)]
 
 pub mod check_examples;
 mod check_words;
 mod checks;
+mod configs;
 mod ending;
 pub mod examples;
 mod help;
@@ -17,6 +18,7 @@ mod words;
 
 pub use crate::check_words::{CheckWords, read_check_words};
 pub use crate::checks::checked;
+pub use crate::configs::{bench_refusal, config_ending, config_of};
 pub use crate::ending::{
     Abouts, Ending, Named, Said, check_words_ending, load_words_ending, phone_words_said,
     word_ending,

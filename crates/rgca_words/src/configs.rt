@@ -1,10 +1,10 @@
 //! Reads a configuration, and what is missing there for what is asked.
 ghost use Rattle.std.specs.Prelude.{◌≡◌};
-ghost use Rattle.rgca.specs.Endings.{config_by};
+ghost use Rattle.rgca_words.specs.Endings.{config_by};
 
+use crate::ending::Ending;
 use agent_config::{AgentConfig, ConfigRefusal, Place, missing, read_config, too_long};
 use live_ends::CommonEnding;
-use rgca_words::Ending;
 use rgw_scripts::LIMIT;
 use std::alloc::Global;
 
