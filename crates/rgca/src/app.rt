@@ -5,13 +5,11 @@ ghost use Rattle.rgca_words.specs.Names.{name_of, Says};
 use crate::loads::loaded;
 use agent_config::AgentConfig;
 use live_agent::{WireSettings, serve_agent};
-use live_ends::{AddressWord, CommonEnding, SocketWanted, begin, end, read_file};
+use live_ends::{AddressWord, CommonEnding, SocketWanted, begin, end};
 use live_outlets::Outlets;
 use rgca_words::{
-    Ending, Named, Said, Settings, checked, config_ending, config_of, played, read_words,
-    word_ending,
+    Ending, Named, Said, Settings, checked, config_at, played, read_words, word_ending,
 };
-use rgw_scripts::LIMIT;
 use std::alloc::Global;
 use std::net::Net;
 use std::os::fd::AsRawFd;
@@ -49,24 +47,6 @@ fn wire_settings(settings: &Settings<'_>, config: &AgentConfig) -> WireSettings
     }
 }
 
-// Serves with the configuration in this text: how the program ends then.
-fn serve_with<R: Files + Net + Clock>(
-    rt: &R,
-    alloc: Global,
-    settings: &Settings<'_>,
-    text: &[u8],
-    outlets: &mut Outlets<R::File>,
-) -> Ending {
-    let config = match config_of(alloc, settings.route, text) {
-        Ok(config) => config,
-        Err(refusal) => return config_ending(refusal),
-    };
-    let is_routed = settings.route;
-    let capture = settings.capture;
-    let wire = wire_settings(settings, &config);
-    Ending::Common(serve_agent(rt, alloc, &config, is_routed, wire, capture, outlets))
-}
-
 // Serves as these settings ask: how the program ends then, and what it says, which names the files of the settings.
 fn serve<R: Files + Net + Clock>(
     rt: &R,
@@ -76,9 +56,14 @@ fn serve<R: Files + Net + Clock>(
 ) -> Said
     ensures { IfOk result.text (λ text. Says settings.now.config.now (name_of settings.now.capture) [] result.ending text.items) }
 {
-    let ending = match read_file(rt, alloc, settings.config, LIMIT as u64) {
-        Ok(text) => serve_with(rt, alloc, settings, text.as_slice(), outlets),
-        Err(kind) => Ending::Common(CommonEnding::unreadable(kind)),
+    let ending = match config_at(rt, alloc, settings.config, settings.route) {
+        Ok(config) => {
+            let is_routed = settings.route;
+            let capture = settings.capture;
+            let wire = wire_settings(settings, &config);
+            Ending::Common(serve_agent(rt, alloc, &config, is_routed, wire, capture, outlets))
+        }
+        Err(ending) => ending,
     };
     ending.said(alloc, settings.named())
 }

@@ -4,14 +4,10 @@ ghost use Rattle.rgca.specs.Endings.{load_by};
 ghost use Rattle.rgca_words.specs.Names.{Says};
 
 use live_agent::{LoadEnding, load_agent};
-use live_ends::{CommonEnding, read_file};
+use live_ends::CommonEnding;
 use live_outlets::Outlets;
 use load_bench::{LoadFault, LoadSettings};
-use rgca_words::{
-    Ending, Named, Said, bench_refusal, config_ending, config_of, load_words_ending,
-    read_load_words,
-};
-use rgw_scripts::LIMIT;
+use rgca_words::{Ending, Named, Said, load_config_at, load_words_ending, read_load_words};
 use std::alloc::Global;
 use std::net::Net;
 use std::rt::{Clock, Files};
@@ -32,25 +28,6 @@ fn load_ending(ending: LoadEnding) -> Ending
     }
 }
 
-// Makes a load by the configuration in this text, which a file of this name has.
-fn load_by<R: Files + Net + Clock>(
-    rt: &R,
-    alloc: Global,
-    file: &str,
-    settings: LoadSettings,
-    text: &[u8],
-    outlets: &mut Outlets<R::File>,
-) -> Ending {
-    let config = match config_of(alloc, settings.is_routed, text) {
-        Ok(config) => config,
-        Err(refusal) => return config_ending(refusal),
-    };
-    if let Some(refusal) = bench_refusal(alloc, &config) {
-        return config_ending(refusal);
-    }
-    load_ending(load_agent(rt, alloc, &config, file, settings, outlets))
-}
-
 // Makes a load by the configuration in this file: how the program ends then, and what it says, which names the file.
 fn make_load<R: Files + Net + Clock>(
     rt: &R,
@@ -61,9 +38,9 @@ fn make_load<R: Files + Net + Clock>(
 ) -> Said
     ensures { IfOk result.text (λ text. Says file.now [] [] result.ending text.items) }
 {
-    let ending = match read_file(rt, alloc, file, LIMIT as u64) {
-        Ok(text) => load_by(rt, alloc, file, settings, text.as_slice(), outlets),
-        Err(kind) => Ending::Common(CommonEnding::unreadable(kind)),
+    let ending = match load_config_at(rt, alloc, file, settings.is_routed) {
+        Ok(config) => load_ending(load_agent(rt, alloc, &config, file, settings, outlets)),
+        Err(ending) => ending,
     };
     ending.said(alloc, Named::of_files(file, ""))
 }

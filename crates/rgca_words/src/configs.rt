@@ -4,16 +4,13 @@ ghost use Rattle.rgca_words.specs.Endings.{config_by};
 
 use crate::ending::Ending;
 use agent_config::{AgentConfig, ConfigRefusal, Place, missing, read_config, too_long};
-use live_ends::CommonEnding;
+use live_ends::{CommonEnding, read_file};
 use rgw_scripts::LIMIT;
 use std::alloc::Global;
+use std::rt::Files;
 
-/// The configuration that a text writes; where calls are to be routed it has a digit map.
-pub fn config_of(
-    alloc: Global,
-    is_routed: bool,
-    text: &[u8],
-) -> Result<AgentConfig, ConfigRefusal> {
+// The configuration that a text writes; where calls are to be routed it has a digit map.
+fn config_of(alloc: Global, is_routed: bool, text: &[u8]) -> Result<AgentConfig, ConfigRefusal> {
     if text.len() > LIMIT {
         return Err(too_long(alloc, LIMIT));
     }
@@ -31,8 +28,8 @@ pub fn config_of(
     Ok(config)
 }
 
-/// Why a configuration has no load, if it hasn't: a gateway doesn't say where its telephones are.
-pub fn bench_refusal(alloc: Global, config: &AgentConfig) -> Option<ConfigRefusal> {
+// Why a configuration has no load, if it hasn't: a gateway doesn't say where its telephones are.
+fn bench_refusal(alloc: Global, config: &AgentConfig) -> Option<ConfigRefusal> {
     for gateway in config.gateways.iter() {
         if gateway.phones.is_none() {
             let domain = str::from_utf8(gateway.domain.as_bytes()).unwrap_or("");
@@ -46,12 +43,47 @@ pub fn bench_refusal(alloc: Global, config: &AgentConfig) -> Option<ConfigRefusa
     None
 }
 
-/// How the program ends by a configuration that is refused.
-pub fn config_ending(refusal: ConfigRefusal) -> Ending
+// How the program ends by a configuration that is refused.
+fn config_ending(refusal: ConfigRefusal) -> Ending
     ensures { result ≡ config_by refusal }
 {
     match refusal {
         ConfigRefusal::OutOfMemory => Ending::Common(CommonEnding::OutOfMemory),
         ConfigRefusal::Told { line } => Ending::Config { line },
     }
+}
+
+/// The configuration in this file; where calls are to be routed it has a digit map. Where it can't be read, or is refused, the program ends
+/// so.
+pub fn config_at<R: Files>(
+    rt: &R,
+    alloc: Global,
+    file: &str,
+    is_routed: bool,
+) -> Result<AgentConfig, Ending> {
+    let text = match read_file(rt, alloc, file, LIMIT as u64) {
+        Ok(text) => text,
+        Err(kind) => return Err(Ending::Common(CommonEnding::unreadable(kind))),
+    };
+    match config_of(alloc, is_routed, text.as_slice()) {
+        Ok(config) => Ok(config),
+        Err(refusal) => Err(config_ending(refusal)),
+    }
+}
+
+/// The configuration of a load in this file, likewise: each gateway says where its telephones are.
+pub fn load_config_at<R: Files>(
+    rt: &R,
+    alloc: Global,
+    file: &str,
+    is_routed: bool,
+) -> Result<AgentConfig, Ending> {
+    let config = match config_at(rt, alloc, file, is_routed) {
+        Ok(config) => config,
+        Err(ending) => return Err(ending),
+    };
+    if let Some(refusal) = bench_refusal(alloc, &config) {
+        return Err(config_ending(refusal));
+    }
+    Ok(config)
 }

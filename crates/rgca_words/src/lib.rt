@@ -18,7 +18,7 @@ mod words;
 
 pub use crate::check_words::{CheckWords, read_check_words};
 pub use crate::checks::checked;
-pub use crate::configs::{bench_refusal, config_ending, config_of};
+pub use crate::configs::{config_at, load_config_at};
 pub use crate::ending::{
     Abouts, Ending, Named, Said, check_words_ending, load_words_ending, phone_words_said,
     word_ending,
