@@ -1,15 +1,13 @@
-//! The program: reads its words and its configuration, and serves, checks, plays or makes a load.
+//! The program: reads its configuration, and serves or makes a load, where its words ask that.
 ghost use Rattle.std.specs.Prelude.{◌≡◌, [], None, is_some, IfOk, IfSome};
 ghost use Rattle.rgca_words.specs.Names.{name_of, Says};
 
-use crate::loads::loaded;
+use crate::loads::make_load;
 use agent_config::AgentConfig;
 use live_agent::{WireSettings, serve_agent};
 use live_ends::{AddressWord, CommonEnding, SocketWanted, begin, end};
 use live_outlets::Outlets;
-use rgca_words::{
-    Ending, Named, Said, Settings, checked, config_at, played, read_words, word_ending,
-};
+use rgca_words::{Asked, Ending, Said, Settings, asked_by, config_at};
 use std::alloc::Global;
 use std::net::Net;
 use std::os::fd::AsRawFd;
@@ -68,48 +66,17 @@ fn serve<R: Files + Net + Clock>(
     ending.said(alloc, settings.named())
 }
 
-// Serves as these words ask: how the program ends then, and what it says.
-fn served<R: AllocGlobal + Files + Net + Clock>(
-    rt: &R,
-    words: &[String],
-    outlets: &mut Outlets<R::File>,
-) -> Said {
-    let alloc = rt.alloc();
-    let settings = match read_words(alloc, words, &mut outlets.error) {
-        Ok(settings) => settings,
-        Err(fault) => return word_ending(fault).said(alloc, Named::nothing()),
-    };
-    serve(rt, alloc, &settings, outlets)
-}
-
-// How the program with these words ends, of which the first is its name, and what it says then. Where the word behind that asks for nothing
-// else, it serves.
-fn said_by<R: AllocGlobal + Files + Net + Clock>(
-    rt: &R,
-    words: &[String],
-    outlets: &mut Outlets<R::File>,
-) -> Said {
-    let asked = words.get(1..).unwrap_or(&[]);
-    let Some(word) = asked.first() else {
-        return served(rt, words, outlets);
-    };
-    match word.as_str() {
-        "check" => checked(rt, asked, outlets),
-        "phones" => played(rt, rt.alloc(), asked),
-        "load" => loaded(rt, rt.alloc(), asked, outlets),
-        _ => served(rt, words, outlets),
-    }
-}
-
 // Runs the program with these words, or without them, and gives its exit status.
 fn run_with<R: AllocGlobal + Files + Net + Clock>(
     rt: &R,
     words: &Result<Vec<String>, CommonEnding>,
     outlets: &mut Outlets<R::File>,
 ) -> u8 {
-    let Said { ending, text } = match words {
-        Ok(words) => said_by(rt, words.as_slice(), outlets),
-        Err(ending) => Ending::Common(*ending).said(rt.alloc(), Named::nothing()),
+    let alloc = rt.alloc();
+    let Said { ending, text } = match asked_by(rt, words, outlets) {
+        Asked::Service(settings) => serve(rt, alloc, &settings, outlets),
+        Asked::Load { file, settings } => make_load(rt, alloc, file, settings, outlets),
+        Asked::Nothing(said) => said,
     };
     let status = ending.status();
     let is_asked = ending.is_asked();

@@ -7,7 +7,7 @@ use live_agent::{LoadEnding, load_agent};
 use live_ends::CommonEnding;
 use live_outlets::Outlets;
 use load_bench::{LoadFault, LoadSettings};
-use rgca_words::{Ending, Named, Said, load_config_at, load_words_ending, read_load_words};
+use rgca_words::{Ending, Named, Said, load_config_at};
 use std::alloc::Global;
 use std::net::Net;
 use std::rt::{Clock, Files};
@@ -28,8 +28,8 @@ fn load_ending(ending: LoadEnding) -> Ending
     }
 }
 
-// Makes a load by the configuration in this file: how the program ends then, and what it says, which names the file.
-fn make_load<R: Files + Net + Clock>(
+/// Makes a load by the configuration in this file: how the program ends then, and what it says, which names the file.
+pub fn make_load<R: Files + Net + Clock>(
     rt: &R,
     alloc: Global,
     file: &str,
@@ -43,18 +43,4 @@ fn make_load<R: Files + Net + Clock>(
         Err(ending) => ending,
     };
     ending.said(alloc, Named::of_files(file, ""))
-}
-
-/// How the program ends by a load with these words, of which the first is `load`, and what it says then.
-pub fn loaded<R: Files + Net + Clock>(
-    rt: &R,
-    alloc: Global,
-    words: &[String],
-    outlets: &mut Outlets<R::File>,
-) -> Said {
-    let (file, settings) = match read_load_words(words) {
-        Ok(asked) => asked,
-        Err(fault) => return load_words_ending(fault).said(alloc, Named::nothing()),
-    };
-    make_load(rt, alloc, file, settings, outlets)
 }

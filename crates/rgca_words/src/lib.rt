@@ -2,6 +2,7 @@
 //! gateway, or plays a script of telephones, as they ask; and its configuration. It serves nothing.
 #![tactic(auto)]
 
+mod asking;
 pub mod check_examples;
 mod check_words;
 mod checks;
@@ -16,8 +17,8 @@ mod phones;
 pub mod play_examples;
 mod words;
 
+pub use crate::asking::{Asked, asked_by};
 pub use crate::check_words::{CheckWords, read_check_words};
-pub use crate::checks::checked;
 pub use crate::configs::{config_at, load_config_at};
 pub use crate::ending::{
     Abouts, Ending, Named, Said, check_words_ending, load_words_ending, phone_words_said,
@@ -25,5 +26,4 @@ pub use crate::ending::{
 };
 pub use crate::load_words::{LoadWordFault, read_load_words};
 pub use crate::phone_words::{PhoneSettings, PhoneWordFault, read_phone_words};
-pub use crate::phones::played;
 pub use crate::words::{Settings, WordFault, read_words};
