@@ -5,7 +5,7 @@ ghost use Rattle.rgca_words.specs.Names.{name_of, Says};
 use crate::loads::make_load;
 use agent_config::AgentConfig;
 use live_agent::{WireSettings, serve_agent};
-use live_ends::{AddressWord, CommonEnding, SocketWanted, begin, end};
+use live_ends::{AddressWord, CommonEnding, SocketWanted, begin};
 use live_outlets::Outlets;
 use rgca_words::{Asked, Ending, Said, Settings, asked_by, config_at};
 use std::alloc::Global;
@@ -73,14 +73,12 @@ fn run_with<R: AllocGlobal + Files + Net + Clock>(
     outlets: &mut Outlets<R::File>,
 ) -> u8 {
     let alloc = rt.alloc();
-    let Said { ending, text } = match asked_by(rt, words, outlets) {
+    let said = match asked_by(rt, words, outlets) {
         Asked::Service(settings) => serve(rt, alloc, &settings, outlets),
         Asked::Load { file, settings } => make_load(rt, alloc, file, settings, outlets),
         Asked::Nothing(said) => said,
     };
-    let status = ending.status();
-    let is_asked = ending.is_asked();
-    end(rt, outlets, text, status, is_asked)
+    said.end(rt, outlets)
 }
 
 /// Runs the program, and gives its exit status.

@@ -1,6 +1,7 @@
 //! How the program ends: its status, and what it says then.
-ghost use Rattle.std.specs.Prelude.{◌≡◌, ℕ, List, ◌++◌, ◌∷◌, [], codes, OnOk, IfOk};
+ghost use Rattle.std.specs.Prelude.{◌≡◌, ◌⊎◌, ℕ, List, ◌++◌, ◌∷◌, [], codes, OnOk, IfOk};
 ghost use Rattle.std.specs.Net.Text.{socket_v4_text};
+ghost use Rattle.live_ends.specs.Ending.{status_of as common_status};
 ghost use Rattle.live_ends.specs.Wording.{joined};
 ghost use Rattle.rgca_words.specs.Statuses.{load_status, status_of, is_asked};
 ghost use Rattle.rgca_words.specs.Endings.{word_ending, check_ending, phone_ending, load_word_ending};
@@ -12,11 +13,14 @@ use crate::load_words::LoadWordFault;
 use crate::phone_words::PhoneWordFault;
 use crate::words::WordFault;
 use exchange_log::peer_text;
-use live_ends::{About, CommonEnding, FileNames, put_pieces};
+use live_ends::{About, CommonEnding, FileNames, end, put_pieces};
+use live_outlets::Outlets;
 use load_bench::LoadNumber;
 use mg_bytes::{OutOfMemory, Text};
 use std::alloc::Global;
+use std::io::Write;
 use std::net::SocketAddrV4;
+use std::rt::Clock;
 
 // What a text is that doesn't name one line.
 const NO_LINE: &str =
@@ -156,6 +160,18 @@ fn load_status(is_enough: bool) -> u8
 pub struct Said {
     pub ending: Ending,
     pub text: Result<Vec<u8>, OutOfMemory>,
+}
+
+impl Said {
+    /// Says this at the program's end, and gives its exit status: that of a fault where what its words ask isn't taken.
+    pub fn end<R: Clock, F: Write + Drop>(self, rt: &R, outlets: &mut Outlets<F>) -> u8
+        ensures { (result ≡ status_of self.ending) ⊎ (result ≡ common_status CommonEnding.Write) }
+    {
+        let Said { ending, text } = self;
+        let status = ending.status();
+        let is_asked = ending.is_asked();
+        end(rt, outlets, text, status, is_asked)
+    }
 }
 
 impl Ending {
