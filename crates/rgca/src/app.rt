@@ -66,28 +66,19 @@ fn serve<R: Files + Net + Clock>(
     ending.said(alloc, settings.named())
 }
 
-// Runs the program with these words, or without them, and gives its exit status.
-fn run_with<R: AllocGlobal + Files + Net + Clock>(
-    rt: &R,
-    words: &Result<Vec<String>, CommonEnding>,
-    outlets: &mut Outlets<R::File>,
-) -> u8 {
-    let alloc = rt.alloc();
-    let said = match asked_by(rt, words, outlets) {
-        Asked::Service(settings) => serve(rt, alloc, &settings, outlets),
-        Asked::Load { file, settings } => make_load(rt, alloc, file, settings, outlets),
-        Asked::Nothing(said) => said,
-    };
-    said.end(rt, outlets)
-}
-
 /// Runs the program, and gives its exit status.
 pub fn run<R: AllocGlobal + Env + Files + Net + Clock>(rt: &R) -> u8
 where
     R::File: AsRawFd,
 {
-    match begin(rt) {
-        Some(mut begun) => run_with(rt, &begun.words, &mut begun.outlets),
-        None => CommonEnding::OutOfMemory.status(),
-    }
+    let Some(mut begun) = begin(rt) else {
+        return CommonEnding::OutOfMemory.status();
+    };
+    let alloc = rt.alloc();
+    let said = match asked_by(rt, &begun.words, &mut begun.outlets) {
+        Asked::Service(settings) => serve(rt, alloc, &settings, &mut begun.outlets),
+        Asked::Load { file, settings } => make_load(rt, alloc, file, settings, &mut begun.outlets),
+        Asked::Nothing(said) => said,
+    };
+    said.end(rt, &mut begun.outlets)
 }
