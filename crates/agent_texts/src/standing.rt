@@ -1,7 +1,7 @@
 //! How lines stand, as it is told to people.
 ghost use Rattle.std.specs.Prelude.{◌≡◌};
 ghost use Rattle.call_routing.specs.Exchange.{line_of};
-ghost use Rattle.agent_texts.specs.Telling.{is_caller_in, words_of, call_line, end_told, standing_told, change_told, Tells};
+ghost use Rattle.agent_texts.specs.Telling.{is_caller_in, words_of, call_line, line_line, end_told, standing_told, change_told, Tells};
 ghost use Rattle.agent_texts.specs.Standings.{stands_for, is_joined, progress_of, standing_of, with_rest, with_change};
 
 use crate::journal::Journal;
@@ -195,6 +195,15 @@ fn tell_call(
     ]);
 }
 
+// Tells how a line stands that is in no call.
+#[tactic(auto, unfolding(crate::specs::Telling::line_line, crate::specs::Telling::line_of_pieces))]
+fn tell_line(journal: &mut Journal, number: &[u8], words: &[u8])
+    ensures tells { Tells (line_line number.now words.now) journal.old.told journal.new.told }
+    ensures rest { journal.new ≡ record journal.old { told = journal.new.told } }
+{
+    journal.tell(&[b"line ".as_slice(), number, words]);
+}
+
 // Tells that a call of a line is over that stood so, where it is in that no longer.
 #[tactic(auto, using(crate::proofs::TellingLemmas::tells_none))]
 fn tell_end(
@@ -216,7 +225,7 @@ fn tell_end(
 }
 
 // Tells how a line stands now.
-#[tactic(auto, unfolding(crate::specs::Telling::line_line, crate::specs::Telling::line_of_pieces), using(crate::proofs::TellingLemmas::tells_none))]
+#[tactic(auto, using(crate::proofs::TellingLemmas::tells_none))]
 fn tell_standing(
     alloc: Global,
     journal: &mut Journal,
@@ -232,10 +241,7 @@ fn tell_standing(
             tell_call(alloc, journal, stations, call, line, other, words_of(is));
         }
         Standing::Called => {}
-        _ => {
-            let number = number_at(stations, line);
-            journal.tell(&[b"line ".as_slice(), number, words_of(is)]);
-        }
+        _ => tell_line(journal, number_at(stations, line), words_of(is)),
     }
 }
 
