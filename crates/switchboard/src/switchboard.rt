@@ -68,23 +68,15 @@ fn put_stations(
     let mut line: u16 = 0;
     for number in numbers {
         line = line.saturating_add(1);
-        // By hand, as below: all lines are held here.
-        let Ok(name) = write_name(alloc, Pattern::One(line), domain) else {
-            return Err(AllocError);
-        };
-        let Ok(number) = copied(alloc, number.as_bytes()) else {
-            return Err(AllocError);
-        };
-        let station = Station {
+        let name = write_name(alloc, Pattern::One(line), domain)?;
+        let number = copied(alloc, number.as_bytes())?;
+        stations.push(Station {
             gateway,
             line,
             name,
             number,
             taken: 0,
-        };
-        let Ok(()) = stations.push(station) else {
-            return Err(AllocError);
-        };
+        })?;
     }
     Ok(())
 }

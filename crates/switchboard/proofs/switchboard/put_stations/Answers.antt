@@ -5,8 +5,8 @@ pub loop-number-preserved : goal.loop-number-preserved
 loop-number-preserved c =
     put_one c.args.gateway c.args.domain.now c.loop-number.line c.saturating_add-line.result c.args.numbers.now c.loop-number.number-index _ _
     _ _ _ c.saturating_add-line.ensures c.loop-number-test.true c.number-item.is c.as_bytes.ensures
-    (station_more c.args.gateway c.args.domain.now c.saturating_add-line.result _ _ _ _ _ c.in-Ok.ensures c.in-Ok-copied.ensures
-    c.in-Ok-push.ensures.items)
+    (station_more c.args.gateway c.args.domain.now c.saturating_add-line.result _ _ _ _ _ c.in_ok-name.ensures c.in_ok-number.ensures
+    c.in_ok-push.ensures.items)
     c.loop-number.invariant
 
 pub returns : goal.returns
