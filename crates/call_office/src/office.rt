@@ -458,12 +458,9 @@ impl Office {
             let _ = change_at(&mut self.cares, line, Change::Land);
             return Ok(None);
         };
-        let Ok(rest) = self.exchange.parameters(alloc, line, map) else {
-            return Err(AllocError);
-        };
         Ok(Some(Order {
             verb: command.verb(),
-            rest,
+            rest: self.exchange.parameters(alloc, line, map)?,
         }))
     }
 
