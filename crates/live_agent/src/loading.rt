@@ -1,7 +1,6 @@
 //! Makes a load: calls at a rate between the telephones of gateways, which another call agent serves, or this program's own exchange.
-ghost use Rattle.std.specs.Prelude.{◌≡◌, ◌++◌, true, false, is_some, vec_len, IfOk, OnOk};
+ghost use Rattle.std.specs.Prelude.{◌≡◌, true, false, is_some, vec_len, IfOk};
 ghost use Rattle.load_bench.specs.declared.settings.LoadFault.TheVariants.{OutOfMemory};
-ghost use Rattle.load_bench.specs.Opening.{unfailed};
 ghost use Rattle.load_bench.specs.Over.{bench_over};
 ghost use Rattle.load_bench.specs.Telephones.{CountsCame, CountsSent};
 ghost use Rattle.live_agent.specs.Clock.{milliseconds};
@@ -9,7 +8,7 @@ ghost use Rattle.live_agent.specs.Handing.{HandsTo};
 ghost use Rattle.live_agent.specs.Serving.{LoadsOver, Serves, TurnsOnce};
 ghost use Rattle.live_agent.specs.declared.loading.LoadEnding.TheVariants.{Unmade};
 ghost use Rattle.live_agent.specs.declared.loading.TheConstants.{ROOM};
-ghost use Rattle.live_agent.specs.Telephones.{end_of, lines_of, load_ending, BeginsLoad, CountsFor, EndsLoad};
+ghost use Rattle.live_agent.specs.Telephones.{end_of, load_ending, BeginsLoad, CountsFor, EndsLoad};
 ghost use Rattle.live_agent.specs.Telephones.{HearsOnce, HearsTelephones, KeepsRoom, PassesLoad};
 ghost use Rattle.live_agent.specs.Telephones.{SaysAll, SaysAndReports, SaysEach, SaysPassed};
 ghost use Rattle.live_agent.specs.Wiring.{due_of, with_read, FallsDueOver};
@@ -269,22 +268,6 @@ impl<S: Surroundings + Drop> Wire<S> {
     }
 }
 
-// Adds the gateways of a configuration that have telephones, and asks these at this moment, in ms.
-fn fill(bench: &mut Bench, config: &AgentConfig, now: u64) -> Result<(), OutOfMemory>
-    ensures lines { OnOk result (bench.new.lines.items ≡ bench.old.lines.items ++ lines_of config.now.gateways.items) }
-    ensures course { OnOk result (unfailed bench.new.course.value ≡ unfailed bench.old.course.value) }
-    ensures tally { OnOk result (bench.new.tally ≡ bench.old.tally) }
-{
-    for gateway in config.gateways.iter() {
-        let Some(telephones) = gateway.phones else {
-            continue;
-        };
-        bench.add_gateway(gateway.address, telephones, gateway.numbers.as_slice())?;
-    }
-    bench.ask(now);
-    Ok(())
-}
-
 // The room for what telephones say.
 fn room_of(alloc: Global) -> Result<Vec<u8>, OutOfMemory>
     ensures { IfOk result (λ room. vec_len room ≡ ROOM) }
@@ -292,7 +275,7 @@ fn room_of(alloc: Global) -> Result<Vec<u8>, OutOfMemory>
     vec![in alloc; 0u8; ROOM]
 }
 
-// Begins a load over a wire, of which nothing else is told: how it ends, if it does at once.
+// Begins a load over a wire with the gateways of a configuration, of which nothing else is told: how it ends, if it does at once.
 fn begin<S: Surroundings + Drop>(
     alloc: Global,
     config: &AgentConfig,
@@ -304,17 +287,25 @@ fn begin<S: Surroundings + Drop>(
     let Ok(now) = wire.around.moment() else {
         return Some(CommonEnding::Clock);
     };
-    let Ok(mut bench) = Bench::new(alloc, settings, now) else {
+    let Ok(made) = Bench::new(alloc, settings, now) else {
         return Some(CommonEnding::OutOfMemory);
     };
-    let Ok(()) = fill(&mut *bench, config, now) else {
-        return Some(CommonEnding::OutOfMemory);
-    };
-    say_all(alloc, &mut wire.around, &mut *bench);
+    let mut bench = Box::into_inner(made);
+    // Those that have telephones, which are asked then.
+    for gateway in config.gateways.iter() {
+        let Some(telephones) = gateway.phones else {
+            continue;
+        };
+        let numbers = gateway.numbers.as_slice();
+        let Ok(()) = bench.add_gateway(gateway.address, telephones, numbers) else {
+            return Some(CommonEnding::OutOfMemory);
+        };
+    }
+    bench.ask(now);
+    say_all(alloc, &mut wire.around, &mut bench);
     let Ok(room) = room_of(alloc) else {
         return Some(CommonEnding::OutOfMemory);
     };
-    let bench = Box::into_inner(bench);
     let Ok(load) = boxed(alloc, Load { bench, room }) else {
         return Some(CommonEnding::OutOfMemory);
     };
