@@ -15,7 +15,7 @@ ghost use Rattle.call_office.specs.Hooks.{notified};
 ghost use Rattle.call_office.specs.Orders.{shown, duty_of, flight_of, was_found_off, is_outlived, has_told, again_of, is_put_off_in, cared, ordered};
 ghost use Rattle.call_office.specs.Responses.{is_creation};
 ghost use Rattle.call_office.specs.Showing.{shown_in, Shows, ShowsLine};
-ghost use Rattle.call_office.specs.Turns.{forsaken, heard_by, announced_by, outcome_with, told_by_audit, kept_behind, cleared_by, Routes, TakesAudit, AnswersAudit, TakesResponse, TakesAnswer};
+ghost use Rattle.call_office.specs.Turns.{forsaken, heard_by, announced_by, outcome_with, told_by_audit, kept_behind, cleared_by, Routes, AnswersAudit, TakesResponse, TakesAnswer};
 ghost use Rattle.call_office.specs.Steps.{Begins, Hears};
 ghost use Rattle.call_office.specs.Waiting.{waits, settling, settled_at, IsWaiting, Settles, Touches, WaitOn};
 
@@ -238,25 +238,6 @@ fn tell_hook(alloc: Global, exchange: &mut Exchange, line: usize, text: &[u8]) -
     }
 }
 
-// The line was audited. What it told since then is newer.
-fn take_audit(
-    alloc: Global,
-    exchange: &mut Exchange,
-    cares: &mut Vec<Care>,
-    line: usize,
-    text: &[u8],
-)
-    ensures { TakesAudit (has_told (slice_get cares.old.items line)) line text.now exchange.old cares.old.items
-        exchange.new cares.new.items }
-{
-    if has_told(care_at(cares.as_slice(), line)) {
-        return;
-    }
-    let told = tell_hook(alloc, exchange, line, text);
-    let is_off = is_off_hook(Some(told));
-    let _ = change_at(cares, line, Change::Find { is_off });
-}
-
 // The line's audit was answered: it is put off, or taken.
 fn audit_answered(
     alloc: Global,
@@ -275,7 +256,13 @@ fn audit_answered(
     if is_put_off(was, code) {
         return;
     }
-    take_audit(alloc, exchange, cares, line, text);
+    // What the line told since it was audited is newer.
+    if has_told(care_at(cares.as_slice(), line)) {
+        return;
+    }
+    let told = tell_hook(alloc, exchange, line, text);
+    let is_off = is_off_hook(Some(told));
+    let _ = change_at(cares, line, Change::Find { is_off });
 }
 
 // A final response came at this moment to a command to the line that was for this, which has landed.
