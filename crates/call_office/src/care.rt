@@ -1,6 +1,6 @@
 //! What is kept of a line beside what the exchange knows: which command is next, and what the one in flight is for.
 ghost use Rattle.std.specs.Prelude.{◌≡◌, option_map};
-ghost use Rattle.call_office.specs.Duties.{is_held, begun, owed_behind, owed, lost, outlived, announced, held_from, is_due_at, woken, is_put_off, duty_answered, duty_behind, routed_by, changed_by, fixed_order};
+ghost use Rattle.call_office.specs.Duties.{is_held, begun, owed_behind, owed, lost, announced, held_from, woken, is_put_off, duty_answered, duty_behind, routed_by, changed_by, fixed_order};
 
 use agent_texts::{Refusals, Standing};
 use call_routing::{Cause, MOST_PUT_OFF, PutOff, may_pass};

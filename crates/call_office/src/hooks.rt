@@ -3,11 +3,11 @@ ghost use Rattle.std.specs.Prelude.{◌≡◌, ◌||◌, IfOk};
 ghost use Rattle.mg_bytes.specs.Case.{same_but_case};
 ghost use Rattle.mg_bytes.specs.Items.{items_of};
 ghost use Rattle.mgcp_text.specs.Reading.{read_text};
-ghost use Rattle.call_office.specs.Hooks.{hook_of, hook_among, hook_told, hook_by, was_off, told_by_hook, is_off_hook, notified};
+ghost use Rattle.call_office.specs.Hooks.{hook_among, hook_by, was_off, told_by_hook, is_off_hook, notified};
 
 use call_routing::{Phase, Side, Told};
 use mg_bytes::{OutOfMemory, list_items, same_no_case};
-use mgcp_text::{Param, TextFault, param_at, read_message};
+use mgcp_text::{TextFault, param_at, read_message};
 use std::alloc::{AllocError, Global};
 
 // Whether a text is one of these two, but for the case of letters.

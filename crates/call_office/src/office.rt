@@ -1,7 +1,7 @@
 //! The exchange in the program's hands: which command each line is sent, and what its answer means for the line's calls.
 //!
 //! Nothing goes over all lines but the opening: those to which something has happened wait, and are settled.
-ghost use Rattle.std.specs.Prelude.{◌≡◌, ◌≢◌, ◌⊎◌, ◌↔◌, ℕ, true, false, length, replicate, Some, IfOk, IfSome, IsTrue, is_none, OnOk, OnErr, option_map, slice_get};
+ghost use Rattle.std.specs.Prelude.{◌≡◌, ◌≢◌, ◌⊎◌, ◌↔◌, ℕ, true, false, length, replicate, Some, IfOk, IfSome, IsTrue, option_map, slice_get};
 ghost use Rattle.call_routing.specs.Phases.{named_by};
 ghost use Rattle.call_routing.specs.declared.told.Told.TheVariants.{Flash};
 ghost use Rattle.call_routing.specs.declared.command.Outcome.TheVariants.{GivenUp};
@@ -9,13 +9,12 @@ ghost use Rattle.call_routing.specs.Exchange.{opening, phase_of, flight_in, line
 ghost use Rattle.call_routing.specs.Numbers.{told_in, tells_digits};
 ghost use Rattle.agent_texts.specs.Standings.{with_change};
 ghost use Rattle.agent_texts.specs.Telling.{change_told, Tells};
-ghost use Rattle.call_office.specs.declared.care.Duty.TheVariants.{Clear, Audit};
+ghost use Rattle.call_office.specs.declared.care.Duty.TheVariants.{Audit};
 ghost use Rattle.call_office.specs.Duties.{new_care, landed, lost, announced, told_of, woken, changed_by};
-ghost use Rattle.call_office.specs.Hooks.{notified};
-ghost use Rattle.call_office.specs.Orders.{shown, duty_of, flight_of, was_found_off, is_outlived, has_told, again_of, is_put_off_in, cared, ordered};
+ghost use Rattle.call_office.specs.Orders.{shown, flight_of, was_found_off, is_outlived, has_told, again_of, is_put_off_in, cared, ordered};
 ghost use Rattle.call_office.specs.Responses.{is_creation};
 ghost use Rattle.call_office.specs.Showing.{shown_in, Shows, ShowsLine};
-ghost use Rattle.call_office.specs.Turns.{forsaken, heard_by, announced_by, outcome_with, told_by_audit, kept_behind, cleared_by, Routes, AnswersAudit, TakesResponse, TakesAnswer};
+ghost use Rattle.call_office.specs.Turns.{forsaken, announced_by, outcome_with, told_by_audit, kept_behind, Routes, AnswersAudit, TakesResponse, TakesAnswer};
 ghost use Rattle.call_office.specs.Steps.{Begins, Hears};
 ghost use Rattle.call_office.specs.Waiting.{waits, settling, settled_at, IsWaiting, Settles, Touches, WaitOn};
 
