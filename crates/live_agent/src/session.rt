@@ -1,5 +1,5 @@
 //! Serves gateways and whoever types commands, a turn at a time, as a schedule says what comes next.
-ghost use Rattle.std.specs.Prelude.{◌≡◌, ◌||◌, [], true, false, Option, Err, IfOk, IfErr};
+ghost use Rattle.std.specs.Prelude.{◌≡◌, ◌||◌, [], Err, IfOk, IfErr};
 ghost use Rattle.live_agent.specs.Clock.{is_behind};
 ghost use Rattle.live_agent.specs.Datagrams.{HearsDatagram, HearsTexts, TakesDatagram, TakesEach, TakesOver};
 ghost use Rattle.live_agent.specs.Handing.{HandsTo};
