@@ -1,6 +1,5 @@
 //! The lines of a gateway that a name means are announced: they have started again, or lost their agent.
 ghost use Rattle.std.specs.Prelude.{◌≡◌};
-ghost use Rattle.endpoint_names.specs.declared.name.Pattern.TheVariants.{One};
 ghost use Rattle.switchboard.specs.Steps.{cares_if, exchange_if, has_line, Announces, TouchesIf, TouchesMeant};
 
 use crate::naming::{is_meant, line_behind};

@@ -1,5 +1,5 @@
 //! What a board hears from its gateways: answers, announcements, notifications; and what lines have told is taken of them.
-ghost use Rattle.std.specs.Prelude.{◌≡◌, true, false, IfSome, slice_get};
+ghost use Rattle.std.specs.Prelude.{◌≡◌, true, IfSome, slice_get};
 ghost use Rattle.agent_texts.specs.Counts.{with_notification, with_strange_name};
 ghost use Rattle.switchboard.specs.Boards.{taking_in};
 ghost use Rattle.switchboard.specs.Hearing.{is_strange, AnswersAt};
