@@ -2,8 +2,11 @@
 ghost use Rattle.std.specs.Prelude.{◌≡◌, ◌≢◌, ◌++◌, Ok, Err, Some, None, OnOk, IfOk, IfErr, IfSome};
 ghost use Rattle.std.specs.Net.Grammar.{IsSocketV4Text};
 ghost use Rattle.bad_network.specs.Parts.{spoiling_of};
+ghost use Rattle.live_outlets.specs.Reasons.{reason_of};
 ghost use Rattle.live_outlets.specs.Written.{faults_in};
-ghost use Rattle.live_ends.specs.Ending.{status_of, is_asked, served_ending, refused_text, ending_text};
+ghost use Rattle.live_ends.specs.AddressWords.{word_text};
+ghost use Rattle.live_ends.specs.Ending.{status_of, is_asked, served_ending, refused_text};
+ghost use Rattle.live_ends.specs.Ending.{unbound_text, ending_text};
 
 use crate::address_words::AddressWord;
 use crate::network_faults::wanted_by;
@@ -218,20 +221,7 @@ impl CommonEnding {
                 word,
                 address,
                 kind,
-            } => {
-                let address = address.to_string(alloc)?;
-                put_pieces(
-                    out,
-                    &[
-                        word.text(),
-                        " ",
-                        address.as_str(),
-                        ": no socket",
-                        reason_of(kind),
-                        "\n",
-                    ],
-                )
-            }
+            } => put_unbound(alloc, out, word, address, kind),
             CommonEnding::Clock => put_pieces(out, &["clock fault\n"]),
             CommonEnding::OutOfMemory => put_pieces(out, &["out of memory\n"]),
         }
@@ -275,4 +265,28 @@ fn put_refused<'t>(
     ensures { OnOk result (out.new.items ≡ out.old.items ++ refused_text name.now fault.now reason.now) }
 {
     put_pieces(out, &[name, fault, reason, "\n"])
+}
+
+// No socket can be had at the address that this word asks for, by an error of this kind.
+fn put_unbound(
+    alloc: Global,
+    out: &mut Vec<u8>,
+    word: AddressWord,
+    address: SocketAddrV4,
+    kind: ErrorKind,
+) -> Result<(), OutOfMemory>
+    ensures { OnOk result (out.new.items ≡ out.old.items ++ unbound_text (word_text word) address (reason_of kind)) }
+{
+    let address = peer_text(alloc, address)?;
+    put_pieces(
+        out,
+        &[
+            word.text(),
+            " ",
+            address.as_str(),
+            ": no socket",
+            reason_of(kind),
+            "\n",
+        ],
+    )
 }

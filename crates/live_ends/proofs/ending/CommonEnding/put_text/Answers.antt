@@ -1,8 +1,7 @@
-use Rattle.std.proofs.Common.{◌≡◌, ℕ, codes, List, [], ◌∷◌, ◌++◌, ◌∙◌, subst}
+use Rattle.std.proofs.Common.{◌≡◌, ℕ, codes, List, [], ◌∷◌, ◌++◌, subst}
 use Rattle.std.specs.Prelude.{OnOk}
 use Rattle.live_ends.specs.Ending.{ending_text}
 use Rattle.live_ends.specs.Wording.{joined}
-use Rattle.live_ends.proofs.PuttingLemmas.{put_so}
 use Rattle.live_ends.proofs.ending.CommonEnding.put_text.Goals as goal
 
 pub returns-in-Unreadable : goal.returns-in-Unreadable
@@ -15,12 +14,7 @@ returns-in-Unwritable c = rw (c.in-Unwritable.is) (rw (c.reason_of-in-Unwritable
 
 pub returns-in-Unbound : goal.returns-in-Unbound
 unfolding ending_text
-returns-in-Unbound c =
-    rw (c.in-Unbound.is)
-    (put_so
-    (λ (text : List ℕ). OnOk c.put_pieces-in-Unbound.result (c.put_pieces-in-Unbound.new.out.items ≡ c.args.out.now.items ++ text)) _ _ _ _ _ _
-    c.text-in-Unbound.ensures (c.as_str.ensures.value ∙ c.in_ok-address-in-Unbound.ensures.ok) c.reason_of-in-Unbound.ensures
-    c.put_pieces-in-Unbound.ensures)
+returns-in-Unbound c = rw (c.in-Unbound.is) c.put_unbound.ensures
 
 pub returns-in-Help : goal.returns-in-Help
 unfolding ending_text
