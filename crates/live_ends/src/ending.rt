@@ -277,7 +277,7 @@ fn put_unbound(
 ) -> Result<(), OutOfMemory>
     ensures { OnOk result (out.new.items ≡ out.old.items ++ unbound_text (word_text word) address (reason_of kind)) }
 {
-    let address = peer_text(alloc, address)?;
+    let address = address.to_string(alloc)?;
     put_pieces(
         out,
         &[
