@@ -77,15 +77,15 @@ sent_alone line was ordering issuing is rest alone same =
 -- so it is of the line that is settled
 pub issues_at : (found : Option ℕ) (line : ℕ) (fails : Bool) (was is : Option (Box Office)) → found ≡ Some line → Issues fails line was is
     → WaitsBehind fails line was is → IssuesAt found fails was is
-issues_at found line fails was is settled issues waits =
-    subst (λ (one : Option ℕ). IssuesAt one fails was is) (sym settled) (issues, waits)
+issues_at found line fails was is settled goes waits =
+    subst (λ (one : Option ℕ). IssuesAt one fails was is) (sym settled) (goes, waits)
 
 pub settled_so : (found : Option ℕ) (line : ℕ) (result : Result (Option Issued) IssueFault) (was is : Switchboard) → found ≡ Some line
     → IssuesOrder line (ordered_in line was.dialling.value.map was.office) result (slice_get was.stations.items line) was.gateways.items
     is.gateways.items
     → IssuesSettled found result was is
-settled_so found line result was is settled issues =
-    subst (λ (one : Option ℕ). IssuesSettled one result was is) (sym settled) issues
+settled_so found line result was is settled goes =
+    subst (λ (one : Option ℕ). IssuesSettled one result was is) (sym settled) goes
 
 pub at_most : (found : Option ℕ) (line : ℕ) (was is : Switchboard) → found ≡ Some line
     → SendsAlone (slice_get was.stations.items line) was.gateways.items is.gateways.items → SendsAtMost found was is

@@ -1,4 +1,5 @@
-use Rattle.std.proofs.Common.{◌≡◌, ◌<◌, ◌≤◌, ◌+◌, List, Option, Some, length, refl, ap, ◌∙◌, arith, rules}
+use Rattle.std.proofs.Common.{◌≡◌, ◌<◌, ◌≤◌, ◌+◌, List, Option, Some, length, refl, sym, ap, ◌∙◌, arith}
+use Rattle.std.proofs.lemmas.Option.{slice_get_read}
 use Rattle.std.specs.Prelude.{slice_get}
 use Rattle.switchboard.specs.declared.flight.Flight.{Flight}
 use Rattle.switchboard.specs.declared.gateway.Gateway.{Gateway}
@@ -31,7 +32,8 @@ returns-then-is_ended_at c =
     (slice_get c.loop-place.self.flights.items c.loop-place.place) c.is_ended_at.ensures.flights in
     let within : c.loop-place.place < length c.is_ended_at.new.flights.items
     = omega (arith, c.loop-place-test.true, c.len-place-end.ensures, c.loop-place.invariant.count, many) in
-    let there : Some c.remove.result ≡ slice_get c.is_ended_at.new.flights.items c.loop-place.place = search rules in
+    let there : Some c.remove.result ≡ slice_get c.is_ended_at.new.flights.items c.loop-place.place
+    = sym (slice_get_read c.is_ended_at.new.flights.items (length c.is_ended_at.new.flights.items) c.loop-place.place c.remove.result refl within c.remove.ensures.value) in
     let all = taken_at c.args.response c.args.self.now.ticked c.loop-place.place c.loop-place.self.flights.items c.is_ended_at.new.flights.items _
     (slice_get c.loop-place.self.flights.items c.loop-place.place) _ _ refl
     c.is_ended_at.ensures.over c.if-is_ended_at.true c.is_ended_at.ensures.flights there c.remove.ensures.items

@@ -52,18 +52,3 @@ pub returns-in-Ok-clause-alone : goal.returns-in-Ok-clause-alone
 returns-in-Ok-clause-alone c =
     let found : settled_in c.args.index c.args.self.now.office ≡ Some c.in-Some-settled_at.line = search rules in
     at_most _ c.in-Some-settled_at.line _ _ found (sent_alone c.in-Some-settled_at.line c.args.self.now c.order.new.self c.issue.new.self c.issue.new.self c.order.ensures.rest c.issue.ensures.alone refl)
-
-pub returns-in-Err-issue-clause-office : goal.returns-in-Err-issue-clause-office
-returns-in-Err-issue-clause-office c =
-    let found : settled_in c.args.index c.args.self.now.office ≡ Some c.in-Some-settled_at.line = search rules in
-    issues_at _ c.in-Some-settled_at.line _ _ _ found (search rules) (search rules)
-
-pub returns-in-Err-issue-clause-issued : goal.returns-in-Err-issue-clause-issued
-returns-in-Err-issue-clause-issued c =
-    let found : settled_in c.args.index c.args.self.now.office ≡ Some c.in-Some-settled_at.line = search rules in
-    settled_so _ c.in-Some-settled_at.line _ _ _ found (search rules)
-
-pub returns-in-Err-issue-clause-alone : goal.returns-in-Err-issue-clause-alone
-returns-in-Err-issue-clause-alone c =
-    let found : settled_in c.args.index c.args.self.now.office ≡ Some c.in-Some-settled_at.line = search rules in
-    at_most _ c.in-Some-settled_at.line _ _ found (search rules)
