@@ -5,7 +5,7 @@ ghost use Rattle.page_access.specs.Naming.{names_of};
 ghost use Rattle.page_access.specs.Places.{place_for};
 ghost use Rattle.live_page.specs.Receiving.{host_of, seat_in, visitor_in, noted_each, with_place};
 ghost use Rattle.live_page.specs.Receiving.{SeatsAt, LetsIn, ServesPlace, ServesNext};
-ghost use Rattle.live_page.specs.Waiting.{stays_at, turn_from, next_turn};
+ghost use Rattle.live_page.specs.Waiting.{stays_at, is_behind, turn_from, next_turn};
 
 use crate::desk::Desk;
 use crate::reception::Reception;
@@ -74,17 +74,22 @@ fn host_of(source: SocketAddr) -> Ipv4Addr
     }
 }
 
+fn is_behind(last: Option<usize>, place: usize) -> bool
+    ensures { result ≡ is_behind last place }
+{
+    match last {
+        Some(last) => last < place,
+        None => true,
+    }
+}
+
 // The first place behind this one, where one is meant, whose visitor has more to do.
 #[tactic(auto, unfolding(crate::specs::Waiting::turn_from))]
 fn turn_behind(places: &[Option<Box<Visitor>>], last: Option<usize>) -> Option<usize>
     ensures { result ≡ turn_from last 0 places.now }
 {
     for (place, held) in places.iter().enumerate() {
-        let is_behind = match last {
-            Some(before) => before < place,
-            None => true,
-        };
-        if is_behind
+        if is_behind(last, place)
             && let Some(visitor) = held
             && visitor.has_turn
         {
