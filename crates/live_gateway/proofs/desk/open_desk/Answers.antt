@@ -11,7 +11,7 @@ returns-clause-around g c =
 
 pub returns-clause-gateway : goal.returns-clause-gateway
 returns-clause-gateway g c =
-    held_so (λ desk. desk.play.gateway ≡ c.args.gateway) _ c.boxed.result c.boxed.ensures c.new-desk.ensures.gateway
+    held_so (λ desk. desk.play.gateway ≡ c.args.gateway) _ c.boxed.result c.boxed.ensures c.new-2.ensures.gateway
 
 pub returns-clause-admission : goal.returns-clause-admission
 returns-clause-admission g c = held_so (λ desk. desk.admission ≡ c.args.admission) _ c.boxed.result c.boxed.ensures refl
@@ -30,7 +30,7 @@ returns-clause-unused g c =
 
 pub returns-clause-unplayed : goal.returns-clause-unplayed
 returns-clause-unplayed g c =
-    held_so (λ desk. IsUnplayed desk.play) _ c.boxed.result c.boxed.ensures (c.new-desk.ensures.script, c.new-desk.ensures.printed)
+    held_so (λ desk. IsUnplayed desk.play) _ c.boxed.result c.boxed.ensures (c.new-2.ensures.script, c.new-2.ensures.printed)
 
 pub returns-clause-untyped : goal.returns-clause-untyped
 returns-clause-untyped g c =
@@ -44,4 +44,4 @@ returns-clause-counted g c =
 pub returns-clause-begins : goal.returns-clause-begins
 returns-clause-begins g c =
     held_so (λ desk. (desk.is_of_page ≡ false) × (desk.schedule ≡ opening 0) × IsUnwatched desk.watch) _ c.boxed.result c.boxed.ensures
-    (refl, c.starting_at-desk.ensures, c.new-desk-2.ensures)
+    (refl, c.starting_at.ensures, c.new-3.ensures)

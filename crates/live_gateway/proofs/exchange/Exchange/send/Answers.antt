@@ -33,7 +33,7 @@ pub returns-in-Ok-clause-faults : goal.returns-in-Ok-clause-faults
 returns-in-Ok-clause-faults g c = refl
 
 pub returns-in-Ok-clause-rest : goal.returns-in-Ok-clause-rest
-returns-in-Ok-clause-rest g c = (refl, refl, refl)
+returns-in-Ok-clause-rest g c = (refl, (refl, refl))
 
 pub returns-in-Ok-clause-journal : goal.returns-in-Ok-clause-journal
 returns-in-Ok-clause-journal g c = refl
@@ -42,7 +42,7 @@ pub returns-in-Err-clause-faults : goal.returns-in-Err-clause-faults
 returns-in-Err-clause-faults g c = refl
 
 pub returns-in-Err-clause-rest : goal.returns-in-Err-clause-rest
-returns-in-Err-clause-rest g c = (refl, refl, refl)
+returns-in-Err-clause-rest g c = (refl, (refl, refl))
 
 pub returns-in-Err-clause-journal : goal.returns-in-Err-clause-journal
 returns-in-Err-clause-journal g c = refl
@@ -51,7 +51,7 @@ pub returns-in_err-send-clause-faults : goal.returns-in_err-send-clause-faults
 returns-in_err-send-clause-faults g c = refl
 
 pub returns-in_err-send-clause-rest : goal.returns-in_err-send-clause-rest
-returns-in_err-send-clause-rest g c = (refl, refl, refl)
+returns-in_err-send-clause-rest g c = (refl, (refl, refl))
 
 pub returns-in_err-send-clause-journal : goal.returns-in_err-send-clause-journal
 returns-in_err-send-clause-journal g c = refl
@@ -60,7 +60,7 @@ pub returns-clause-faults : goal.returns-clause-faults
 returns-clause-faults g c = refl
 
 pub returns-clause-rest : goal.returns-clause-rest
-returns-clause-rest g c = (refl, refl, refl)
+returns-clause-rest g c = (refl, (refl, refl))
 
 pub returns-clause-journal : goal.returns-clause-journal
 returns-clause-journal g c = refl
