@@ -59,7 +59,7 @@ fn play<R: Net + Clock>(
         return Ending::Common(CommonEnding::OutOfMemory);
     };
     let addresses = settings.addresses.as_slice();
-    let Ok(played) = play_phones(alloc, &mut live, &mut player, addresses) else {
+    let Ok(played) = play_phones(alloc, &mut *live, &mut player, addresses) else {
         return Ending::Common(CommonEnding::OutOfMemory);
     };
     play_ending(alloc, player.files(), settings.names.as_slice(), &played)
