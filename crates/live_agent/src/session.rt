@@ -4,7 +4,7 @@ ghost use Rattle.live_agent.specs.Clock.{is_behind};
 ghost use Rattle.live_agent.specs.Datagrams.{HearsDatagram, HearsTexts, TakesDatagram, TakesEach, TakesOver};
 ghost use Rattle.live_agent.specs.Handing.{HandsTo};
 ghost use Rattle.live_agent.specs.Sending.{SendsCommand, SendsOutputs};
-ghost use Rattle.live_agent.specs.Settling.{SendsEach, SettlesAll, ShowsEach};
+ghost use Rattle.live_agent.specs.Settling.{SendsEach, SendsIssued, SettlesAll, ShowsEach};
 ghost use Rattle.live_agent.specs.Ticking.{GivesUpAll, GivesUpEach, TicksEach, WakesAll, WakesEach};
 ghost use Rattle.live_agent.specs.Serving.{Serves, TurnsOnce};
 ghost use Rattle.transmission.specs.Texts.{texts_of};
@@ -19,7 +19,7 @@ use crate::recorder::Recorder;
 use crate::wire::{MOST_AT_ONCE, Wire, log_pause};
 use agent_texts::count;
 use bad_network::Way;
-use call_agent::Issued;
+use call_agent::{IssueFault, Issued};
 use live_outlets::{DONE, NO_MEMORY, STOP_FROM_AFAR};
 use mg_bytes::{OutOfMemory, put_decimal};
 use plain_machine::{Outputs, Refusal};
@@ -63,17 +63,27 @@ fn show_each<S: Surroundings + Drop>(board: &mut Switchboard, wire: &mut Wire<S>
     }
 }
 
-// Sends so many lines that are settled what they are to be sent, if anything is, one behind another. What couldn't be issued counts.
+// Sends what was issued to a line, if anything was. What couldn't be issued counts.
+fn send_if_issued<S: Surroundings + Drop>(
+    wire: &mut Wire<S>,
+    issued: Result<Option<Issued>, IssueFault>,
+)
+    ensures { SendsIssued (HandsTo S.sends S.traffic) issued wire.old wire.new }
+{
+    match issued {
+        Ok(Some(issued)) => send_issued(wire, &issued),
+        Ok(None) => {}
+        Err(_) => count(&mut wire.journal.tally.refused),
+    }
+}
+
+// Sends so many lines that are settled what they are to be sent, one behind another.
 fn send_each<S: Surroundings + Drop>(board: &mut Switchboard, wire: &mut Wire<S>, lines: usize)
     ensures { SendsEach (HandsTo S.sends S.traffic) lines board.old wire.old board.new wire.new }
 {
     for index in 0..lines {
         let issued = board.issue_next(index);
-        match issued {
-            Ok(Some(issued)) => send_issued(wire, &issued),
-            Ok(None) => {}
-            Err(_) => count(&mut wire.journal.tally.refused),
-        }
+        send_if_issued(wire, issued);
     }
 }
 
