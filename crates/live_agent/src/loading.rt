@@ -58,6 +58,22 @@ fn milliseconds(time: u64) -> u64
     time / MICROSECONDS
 }
 
+// That a datagram is sent, for the first time or again, at this moment, in ms, counts for a load.
+fn count_sent_in(load: &mut Load, to: SocketAddrV4, bytes: &[u8], is_repeat: bool, now: u64)
+    ensures counts { CountsSent to bytes.now is_repeat now load.old.bench load.new.bench }
+    ensures room { KeepsRoom load.old load.new }
+{
+    load.bench.sent(to, bytes, is_repeat, now);
+}
+
+// So does that one came.
+fn count_came_in(load: &mut Load, source: SocketAddrV4, bytes: &[u8], now: u64)
+    ensures counts { CountsCame source bytes.now now load.old.bench load.new.bench }
+    ensures room { KeepsRoom load.old load.new }
+{
+    load.bench.came(source, bytes, now);
+}
+
 /// A datagram is sent at this time, in microseconds, for the first time or again: that is counted, where a load is made.
 pub(crate) fn count_sent(
     load: &mut Option<Box<Load>>,
@@ -73,7 +89,7 @@ pub(crate) fn count_sent(
         return;
     };
     let now = milliseconds(time);
-    load.bench.sent(to, bytes, is_repeat, now);
+    count_sent_in(&mut **load, to, bytes, is_repeat, now);
 }
 
 /// A datagram came at this time, in microseconds: that is counted, where a load is made.
@@ -90,7 +106,7 @@ pub(crate) fn count_came(
         return;
     };
     let now = milliseconds(time);
-    load.bench.came(source, bytes, now);
+    count_came_in(&mut **load, source, bytes, now);
 }
 
 // These are said, one behind another, to the telephones for which they are: whether memory was there for all their texts.
@@ -124,17 +140,18 @@ fn say_all<S: Surroundings>(alloc: Global, around: &mut S, bench: &mut Bench)
 fn pass<S: Surroundings>(
     alloc: Global,
     around: &mut S,
-    bench: &mut Bench,
+    load: &mut Load,
     out: &mut Vec<u8>,
     moment: u64,
 ) -> bool
-    ensures over { result ≡ bench_over moment bench.new }
-    ensures says { SaysPassed S.answers moment around.old around.new bench.old bench.new }
+    ensures over { result ≡ bench_over moment load.new.bench }
+    ensures says { SaysPassed S.answers moment around.old around.new load.old.bench load.new.bench }
+    ensures room { KeepsRoom load.old load.new }
 {
-    bench.pass(moment);
-    bench.tell_progress(out, moment);
-    say_all(alloc, around, bench);
-    bench.is_over(moment)
+    load.bench.pass(moment);
+    load.bench.tell_progress(out, moment);
+    say_all(alloc, around, &mut load.bench);
+    load.bench.is_over(moment)
 }
 
 // What came of a look at what telephones say: whether they said anything, and whether the load is over then.
@@ -185,22 +202,23 @@ fn end_of(is_over: bool, end: Option<u64>) -> Option<u64>
 fn end_and_report<S: Surroundings>(
     alloc: Global,
     around: &mut S,
-    bench: &mut Bench,
+    load: &mut Load,
     now: u64,
     out: &mut Vec<u8>,
     file: &str,
     agent: &str,
 ) -> LoadEnding
-    ensures ending { result ≡ load_ending bench.new }
-    ensures says { SaysAndReports S.answers now around.old around.new bench.old bench.new }
+    ensures ending { result ≡ load_ending load.new.bench }
+    ensures says { SaysAndReports S.answers now around.old around.new load.old.bench load.new.bench }
+    ensures room { KeepsRoom load.old load.new }
 {
-    bench.end(now);
-    say_all(alloc, around, bench);
-    bench.put_report(out, file, agent);
-    match bench.fault() {
+    load.bench.end(now);
+    say_all(alloc, around, &mut load.bench);
+    load.bench.put_report(out, file, agent);
+    match load.bench.fault() {
         Some(fault) => LoadEnding::Unmade(fault),
         None => LoadEnding::Made {
-            is_enough: bench.is_enough(),
+            is_enough: load.bench.is_enough(),
         },
     }
 }
@@ -225,7 +243,7 @@ impl<S: Surroundings + Drop> Wire<S> {
             return;
         };
         let out = &mut self.journal.log.out;
-        let is_over = pass(alloc, &mut self.around, &mut load.bench, out, moment);
+        let is_over = pass(alloc, &mut self.around, &mut **load, out, moment);
         self.end = end_of(is_over, self.end);
     }
 
@@ -256,15 +274,7 @@ impl<S: Surroundings + Drop> Wire<S> {
         };
         let now = milliseconds(self.now.time);
         let out = &mut self.journal.told.out;
-        end_and_report(
-            alloc,
-            &mut self.around,
-            &mut load.bench,
-            now,
-            out,
-            file,
-            agent,
-        )
+        end_and_report(alloc, &mut self.around, &mut **load, now, out, file, agent)
     }
 }
 

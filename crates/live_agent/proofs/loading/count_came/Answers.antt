@@ -1,8 +1,5 @@
-use Rattle.std.proofs.Common.{ap}
-use Rattle.std.specs.Prelude.{vec_len}
 use Rattle.load_bench.specs.Telephones.{CountsCame}
 use Rattle.live_agent.specs.Clock.{milliseconds}
-use Rattle.live_agent.specs.declared.loading.Load.{Load}
 use Rattle.live_agent.proofs.TelephoneLemmas.{counts_for, counts_none}
 use Rattle.live_agent.proofs.loading.count_came.Goals as goal
 
@@ -12,5 +9,4 @@ returns-in_default-clause-counts c = counts_none (CountsCame c.args.source c.arg
 pub returns-clause-counts : goal.returns-clause-counts
 returns-clause-counts c =
     counts_for (CountsCame c.args.source c.args.bytes.now (milliseconds c.args.time)) c.args.load.now c.in-Some.load _ c.in-Some.is
-    (rw (c.deref_mut.ensures.value, c.milliseconds-now.ensures) at c.came.ensures)
-    (ap (λ (load : Load). vec_len load.room) c.deref_mut.ensures.value)
+    (rw (c.deref_mut.ensures.value, c.milliseconds-now.ensures) at c.count_came_in.ensures.counts) (rw (c.deref_mut.ensures.value) at c.count_came_in.ensures.room)
