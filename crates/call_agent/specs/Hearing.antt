@@ -10,7 +10,7 @@ use Rattle.plain_machine.specs.Event.{GatewayEvent, datagram, phone, tick}
 use Rattle.transmission.specs.Texts.{largest_datagram, texts_of}
 use Rattle.transmission.specs.Hearing.{response_as}
 use Rattle.plain_machine.specs.Refusing.{tick_refusal, ends}
-use Rattle.machine_laws.specs.Saying.{Begun}
+use Rattle.plain_machine.specs.Message.{Begun}
 use Rattle.call_agent.specs.declared.setup.AgentSetup.{AgentSetup}
 use Rattle.call_agent.specs.Agent.{AgentMachine, AgentEffect, agent_opening, idle}
 use Rattle.call_agent.specs.Issuing.{command_text, issued, IssueRefusal, issue_refusal}

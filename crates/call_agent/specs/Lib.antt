@@ -2,6 +2,7 @@ pub mod Agent
 pub mod Issuing
 pub mod Flying
 pub mod Responding
+pub mod Notified
 pub mod Taking
 pub mod Hearing
 pub mod AgentAlike

@@ -17,7 +17,7 @@ use Rattle.history.specs.Kept.{first_entry}
 use Rattle.history.specs.Looking.{Looked, look_of}
 use Rattle.transmission.specs.Confirming.{spans_of}
 use Rattle.plain_machine.specs.Answering.{line_meant}
-use Rattle.machine_laws.specs.Notified.{observed_with}
+use Rattle.call_agent.specs.Notified.{observed_with}
 use Rattle.transmission.specs.Hearing.{command_as}
 use Rattle.transmission.specs.Transacting.{message_to, transacted_as}
 use Rattle.call_agent.specs.Growing.{told_at}

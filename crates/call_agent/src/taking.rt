@@ -6,7 +6,7 @@ ghost use Rattle.mgcp_text.specs.Confirmation.{k_of};
 ghost use Rattle.endpoint_names.specs.Name.{name_of};
 ghost use Rattle.transmission.specs.Confirming.{spans_of};
 ghost use Rattle.plain_machine.specs.Answering.{line_meant};
-ghost use Rattle.machine_laws.specs.Notified.{observed_with};
+ghost use Rattle.call_agent.specs.Notified.{observed_with};
 ghost use Rattle.call_agent.specs.Taking.{code_for, taken_on, taken_of, with_taken, executed};
 ghost use Rattle.call_agent.specs.State.{kept_in, Does};
 

@@ -5,7 +5,7 @@
 //! command is to be sent to a line, and its parameters, comes out. The state says what each line should be, and the next
 //! command of a line is the first difference to what its gateway was told, so nothing is queued. A command that is refused for a
 //! cause that may pass is such a difference still; there may be so many in a row, then what couldn't be had is on record. `specs/`
-//! says what is meant, and the crate `call_laws` what follows for every list of events.
+//! says what is meant, and the crate `live_laws` what follows for every list of events.
 #![tactic(auto)]
 
 mod asked;

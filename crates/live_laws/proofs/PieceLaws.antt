@@ -10,21 +10,19 @@ use Rattle.std.specs.Fmt.{decimal}
 use Rattle.std.specs.declared.net.socket_addr.SocketAddrV4.{SocketAddrV4}
 use Rattle.std.proofs.lemmas.Slice.Eq.{bytes_eq-Decides}
 use Rattle.std.proofs.lemmas.List.{take_at, length_push, get_or_push}
-use Rattle.mg_bytes.specs.Lines.{is_line_feed, cut}
+use Rattle.mg_bytes.specs.Lines.{is_line_feed, cut, without_end, line_of, lines_of}
 use Rattle.mg_bytes.specs.Words.{words}
 use Rattle.plain_machine.specs.declared.setup.Setup.{Setup}
 use Rattle.plain_machine.specs.Event.{GatewayEvent, datagram}
 use Rattle.rgw_scripts.specs.declared.step.ScriptLine.{ScriptLine}
 use Rattle.rgw_scripts.specs.declared.step.ScriptLine.TheVariants.{From, Whole}
 use Rattle.rgw_scripts.specs.declared.step.ScriptStep.{ScriptStep}
-use Rattle.rgw_scripts.specs.Moves.{Move, Shown, give, move_went}
+use Rattle.rgw_scripts.specs.Moves.{Move, Shown, give, move_went, sends, refuses, tells as tells_status}
 use Rattle.rgw_scripts.specs.Script.{line_in}
 use Rattle.mg_bytes.specs.Blanks.{is_blank, trimmed_start, trimmed_end, trimmed}
-use Rattle.mg_bytes.specs.Lines.{without_end, line_of, lines_of}
 use Rattle.std.specs.Str.Lines.{strip_carriage_return}
 use Rattle.std.specs.Net.Text.{dotted_text, socket_v4_text}
 use Rattle.transmission.specs.declared.output.OutDatagram.{OutDatagram}
-use Rattle.rgw_scripts.specs.Moves.{sends, refuses, tells as tells_status}
 use Rattle.rgw_scripts.specs.Printing.{printed_line, refusal_line, shown_line}
 use Rattle.traces.specs.declared.telling.Mark.{Mark}
 use Rattle.traces.specs.declared.telling.Mark.TheVariants.{Unsent, Lost}
@@ -40,12 +38,6 @@ use Rattle.live_laws.proofs.ReadingLaws.{never_append, never_decimal}
 -- it reads these pieces, and is the other run then
 abbrev pub Reads : Setup → Run → List (List ℕ) → Run → Type 0
 Reads setup run pieces end = (rest : List (List ℕ)) → run_from setup run (pieces ++ rest) ≡ run_from setup end rest
-
-pub reads_nothing : (setup : Setup) (run : Run) → Reads setup run [] run
-reads_nothing setup run rest = refl
-
-pub reads_on : (setup : Setup) (run mid end : Run) (a b : List (List ℕ)) → Reads setup run a mid → Reads setup mid b end → Reads setup run (a ++ b) end
-reads_on setup run mid end a b p q rest = ap (run_from setup run) (append_assoc a b rest) ∙ p (b ++ rest) ∙ q rest
 
 reads_one : (setup : Setup) (run end : Run) (piece : List ℕ) → with_line run piece (next setup run.at piece) ≡ Some end → Reads setup run (piece ∷ []) end
 unfolding run_from

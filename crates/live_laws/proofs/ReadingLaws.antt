@@ -14,10 +14,9 @@ use Rattle.std.specs.declared.net.ipv4_addr.Ipv4Addr.{Ipv4Addr}
 use Rattle.std.specs.declared.net.socket_addr.SocketAddrV4.{SocketAddrV4}
 use Rattle.mg_bytes.specs.Address.{octet_of, ipv4_of, port_of}
 use Rattle.mg_bytes.specs.Blanks.{is_blank}
-use Rattle.mg_bytes.specs.Lines.{is_line_feed}
 use Rattle.mg_bytes.specs.Numbers.{decimal_of}
 use Rattle.mg_bytes.specs.Words.{words, split_once}
-use Rattle.mg_bytes.proofs.TextLaws.{IsPlain, HasNoFeed, words_more, words_last}
+use Rattle.mg_bytes.proofs.TextLaws.{IsPlain, words_more, words_last}
 use Rattle.sdp_subset.proofs.DecimalLemmas.{decimal_digits, decimal_some, decimal_full, decimal_split}
 use Rattle.rgw_scripts.specs.declared.step.ScriptLine.{ScriptLine}
 use Rattle.rgw_scripts.specs.declared.step.ScriptLine.TheVariants.{From, Whole}
@@ -43,10 +42,6 @@ never_decimal p other n = never_digits p other (decimal n) (decimal_digits n)
 pub never_blank : (text : List ℕ) → Never is_blank text → IsPlain text
 never_blank [] h = tt
 never_blank (b ∷ bs) h = (h.0, never_blank bs h.1)
-
-pub never_feed : (text : List ℕ) → Never is_line_feed text → HasNoFeed text
-never_feed [] h = tt
-never_feed (b ∷ bs) h = (h.0, never_feed bs h.1)
 
 -- a text ends at the first such byte
 split_there : (c : ℕ) (front back : List ℕ) → Never (λ b. eqb b c) front → split_once c (front ++ (c ∷ back)) ≡ Some (front, back)

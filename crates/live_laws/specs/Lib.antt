@@ -3,3 +3,5 @@ pub mod Example
 pub mod Handed
 pub mod TurnExample
 pub mod WayExample
+pub mod CallTurns
+pub mod CallExample

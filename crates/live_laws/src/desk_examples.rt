@@ -2,8 +2,7 @@
 //! whom a gateway knows.
 #![tactic(auto, unfolding(crate::proofs::Computing::on_examples))]
 
-ghost use Rattle.std.specs.Prelude.{◌≡◌, ◌⊎◌, ⊤, ℕ, Bool, true, false, not, codes, List, [], ◌∷◌};
-ghost use Rattle.std.specs.Prelude.{Option, Some, None, Ok, Err, IsTrue};
+ghost use Rattle.std.specs.Prelude.{◌≡◌, ◌⊎◌, ⊤, ℕ, Bool, true, false, not, codes, List, [], ◌∷◌, Option, Some, None, Ok, Err, IsTrue};
 ghost use Rattle.std.specs.Global.{Box};
 ghost use Rattle.std.specs.declared.net.socket_addr.SocketAddrV4.{SocketAddrV4};
 ghost use Rattle.bad_network.specs.declared.fate.Fate.TheVariants.{Once};
@@ -40,11 +39,9 @@ ghost use Rattle.live_gateway.specs.declared.desk.Desk.{Desk};
 ghost use Rattle.live_gateway.specs.declared.exchange.Exchange.{Exchange};
 ghost use Rattle.live_gateway.specs.declared.spoilt_way.SpoiltWay.{SpoiltWay};
 ghost use Rattle.live_gateway.specs.Admitting.{hosts_of, known_to, with_hosts, with_named};
-ghost use Rattle.live_gateway.specs.Answering.{AnswersLine, AnswersRequest, AsksToWatch, DoesLine, IsFirst, IsPut};
-ghost use Rattle.live_gateway.specs.Answering.{IsRequest, IsTypist, WatchesFor};
+ghost use Rattle.live_gateway.specs.Answering.{AnswersLine, AnswersRequest, AsksToWatch, DoesLine, IsFirst, IsPut, IsRequest, IsTypist, WatchesFor};
 ghost use Rattle.live_gateway.specs.Ending.{is_stop, AsksForEnd, EndsAt, WroteTimes};
-ghost use Rattle.live_gateway.specs.Exchanging.{faults_at, moment_at, next_due, with_read, with_unreceived};
-ghost use Rattle.live_gateway.specs.Exchanging.{CountsReceived, IsSentSo, LooksHere, LooksOnce, NotesFate};
+ghost use Rattle.live_gateway.specs.Exchanging.{faults_at, moment_at, next_due, with_read, with_unreceived, CountsReceived, IsSentSo, LooksHere, LooksOnce, NotesFate};
 ghost use Rattle.live_gateway.specs.Naming.{agents_line, agents_word, known_word, no_word, with_all};
 ghost use Rattle.live_gateway.specs.Noting.{NotesStranger, NotesUnsent};
 ghost use Rattle.live_gateway.specs.Turning.{ready_at, IsSituation};

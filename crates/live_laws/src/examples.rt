@@ -56,8 +56,7 @@ ghost use Rattle.page_board.specs.Showing.{BoardState};
 ghost use Rattle.surroundings.specs.Typing.{left_of};
 ghost use Rattle.surroundings.specs.declared.lines.Lines.{Lines};
 ghost use Rattle.live_play.specs.declared.play.LivePlay.{LivePlay};
-ghost use Rattle.live_gateway.specs.Opening.{CountsNothing, BeginsBoard, BeginsNetwork, BeginsLog, BeginsCapture, BeginsRecords};
-ghost use Rattle.live_gateway.specs.Opening.{IsUnused, IsUnplayed, IsUntyped};
+ghost use Rattle.live_gateway.specs.Opening.{CountsNothing, BeginsBoard, BeginsNetwork, BeginsLog, BeginsCapture, BeginsRecords, IsUnused, IsUnplayed, IsUntyped};
 ghost use Rattle.live_gateway.specs.Noting.{TurnsAway, NotesArrival, NotesLate, with_strangers, with_found, CountsFound};
 
 /// Each sentence at an example.

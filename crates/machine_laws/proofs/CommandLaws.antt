@@ -45,11 +45,10 @@ use Rattle.endpoint_names.specs.declared.entity.Entity.{Entity}
 use Rattle.piggyback.specs.Packing.{is_joinable}
 use Rattle.transmission.proofs.PackingLaws.{IsMessage}
 use Rattle.machine_laws.proofs.FlightLaws.{next_below, repeated_same, heard_same}
-use Rattle.machine_laws.proofs.AnnouncementLemmas.{announcement_goes}
+use Rattle.machine_laws.proofs.NotificationLemmas.{announcement_goes, notification_goes}
 use Rattle.plain_machine.proofs.IdLemmas.{next_some}
 use Rattle.machine_laws.proofs.MapLemmas.{read_change, requested_spelled}
 use Rattle.machine_laws.proofs.NoticeLemmas.{IsFine, IsTold, IsDone, opening_is_fine, phoned_done, asked_done, answered_done, opened_done, fired_done}
-use Rattle.machine_laws.proofs.NotificationLemmas.{notification_goes}
 use Rattle.machine_laws.proofs.AllLemmas.{Gives}
 use Rattle.machine_laws.proofs.TurnLemmas.{Good, Always, Turns, OwnTurns, Holds, on_made}
 

@@ -1,44 +1,23 @@
 -- What a command does on the lines that it is for.
-use Rattle.std.proofs.Common.{◌≡◌, ◌≢◌, ℕ, zero, suc, ◌+◌, ◌-◌, ◌<◌, Bool, true, false, ◌==◌, if◌then◌else◌, List, [], ◌∷◌, length, map, filter, Option, Some, None, Result, Ok, Err, inl, inr, refl, sym, ap, ◌∙◌, subst, arith}
-use Rattle.std.specs.Prelude.{◌⊎◌, ◌≤◌, is_some, All, slice_get, flat_map, option_map, option_and_then}
+use Rattle.std.proofs.Common.{◌≡◌, ◌≢◌, ℕ, zero, suc, ◌+◌, ◌-◌, ◌<◌, Bool, true, false, ◌==◌, if◌then◌else◌, List, [], ◌∷◌, length, map, filter, Option, Some, None, inl, inr, refl, sym, ap, ◌∙◌, subst, arith}
+use Rattle.std.specs.Prelude.{◌⊎◌, All, slice_get, flat_map, option_map, option_and_then}
 use Rattle.std.specs.List.{enumerate_from}
 use Rattle.std.proofs.lemmas.Bool.Decides.{Decides-eqb}
 use Rattle.std.proofs.lemmas.List.Elements.{filter_passes}
 use Rattle.std.proofs.lemmas.Option.{none-some}
 use Rattle.mg_bytes.specs.Checks.{first_fault}
-use Rattle.mgcp_text.specs.Answer.{AnswerContent, plain_code}
-use Rattle.mgcp_text.specs.declared.confirmation.KValue.{KValue}
+use Rattle.mgcp_text.specs.Answer.{plain_code}
 use Rattle.mgcp_text.specs.declared.message.Param.{Param}
-use Rattle.command_forms.specs.Codes.{AreOf}
-use Rattle.command_forms.specs.Command.{Command}
 use Rattle.command_forms.specs.Meaning.{is_for}
-use Rattle.command_forms.specs.Order.{form_while}
-use Rattle.command_forms.specs.declared.forms.Asks.{Asks}
-use Rattle.command_forms.specs.declared.forms.Asks.TheVariants.{Reports, Does}
-use Rattle.command_forms.specs.declared.forms.Audit.{Audit}
-use Rattle.command_forms.specs.declared.forms.AuditTarget.{AuditTarget}
-use Rattle.command_forms.specs.declared.forms.AuditTarget.TheVariants as audits
-use Rattle.command_forms.specs.declared.forms.ConnectionDeed.{ConnectionDeed}
-use Rattle.command_forms.specs.declared.forms.ConnectionDeed.TheVariants.{Keep}
 use Rattle.command_forms.specs.declared.forms.Deed.{Deed}
 use Rattle.command_forms.specs.declared.forms.Target.{Target}
-use Rattle.command_forms.specs.declared.forms.Target.TheVariants.{One, All as AllLines, Any as AnyLine}
 use Rattle.plain_machine.specs.declared.setup.Setup.{Setup}
 use Rattle.plain_machine.specs.declared.endpoint.Endpoint.{Endpoint}
-use Rattle.plain_machine.specs.Effect.{silently}
-use Rattle.plain_machine.specs.Connecting.{Shown, nothing_shown, done_code, connected}
-use Rattle.plain_machine.specs.Commanding.{done_by, commanded}
 use Rattle.plain_machine.specs.Done.{Done, only_answer}
-use Rattle.plain_machine.specs.Event.{GatewayEvent}
-use Rattle.plain_machine.specs.Lists.{plain}
-use Rattle.plain_machine.specs.Machine.{serves, Endpoints, opening, endpoint_at, numbered}
-use Rattle.plain_machine.specs.Reporting.{name_of_line}
-use Rattle.plain_machine.specs.Requesting.{refusal_on, refused_by, lines_meant, encoding_with, deed_on, deed_on_all, shown_by, shown_on, shown_of, answer_with, unless_refused, deed_done, line_with_place, done_there, done_for}
-use Rattle.command_forms.proofs.FormLemmas.{form_lines}
-use Rattle.command_forms.proofs.RestartLemmas.{while_taken}
-use Rattle.plain_machine.proofs.ListLaws.{lines_after, lines_of_opening}
+use Rattle.plain_machine.specs.Machine.{Endpoints, endpoint_at, numbered}
+use Rattle.plain_machine.specs.Requesting.{refusal_on, refused_by, lines_meant, deed_on, deed_on_all, shown_of, answer_with, unless_refused, deed_done}
 use Rattle.machine_laws.specs.Refusals.{refusal_at, IsRefused, NoneRefuses}
-use Rattle.machine_laws.proofs.LineLemmas.{own_stays, not_among, among_from, none_stays, sent_from_each, passing_from, place_of, all_there}
+use Rattle.machine_laws.proofs.OwningLemmas.{own_stays, not_among, among_from, none_stays, sent_from_each, passing_from, place_of, all_there}
 
 -- what a deed does and is answered where no line refuses it
 abbrev done_whole : Setup → Endpoints → Target → List Param → Deed → ℕ → Done
@@ -161,24 +140,6 @@ pub done_answer : (setup : Setup) (endpoints : Endpoints) (lines : Target) (more
     → (deed_done setup endpoints lines more deed moment).answer ≡ answer_with more deed (shown_of endpoints lines deed)
 done_answer setup endpoints lines more deed moment none = ap (λ (x : Done). x.answer) (all_done setup endpoints lines more deed moment none)
 
--- where connections stay there is nothing to be told
-none_shown : (endpoints : Endpoints) (lines : Target) (deed : Deed) → deed.connections ≡ Keep → shown_of endpoints lines deed ≡ nothing_shown
-unfolding shown_of connected
-none_shown endpoints AllLines deed keeps = refl
-none_shown endpoints AnyLine deed keeps = refl
-none_shown endpoints (One line) deed keeps = by_endpoint (endpoint_at endpoints line) where
-  by_endpoint : (found : Option Endpoint) → shown_on found deed ≡ nothing_shown
-  by_endpoint None = refl
-  by_endpoint (Some endpoint) =
-      ap (λ (connections : ConnectionDeed). shown_by (connected connections (encoding_with deed endpoint) endpoint.connections)) keeps
-
-pub done_keeping : (setup : Setup) (endpoints : Endpoints) (lines : Target) (deed : Deed) (moment : ℕ) → NoneRefuses endpoints lines deed → deed.connections ≡ Keep
-    → (deed_done setup endpoints lines [] deed moment).answer ≡ plain_code 200
-done_keeping setup endpoints lines deed moment none keeps =
-    done_answer setup endpoints lines [] deed moment none
-    ∙ ap (λ (shown : Shown). answer_with [] deed shown) (none_shown endpoints lines deed keeps)
-    ∙ ap (λ (connections : ConnectionDeed). let answer : AnswerContent = record { code = done_code connections; params = []; body = [] } in answer) keeps
-
 apart_from_passing : (p : ℕ → Bool) (n line : ℕ) (list : List Endpoint) → p line ≡ false → All (λ (one : ℕ). line ≢ one) (passing_from p n list)
 apart_from_passing p n line list fails k d within same =
     let passes = filter_passes p (map (λ (one : ℕ × Endpoint). one.0) (enumerate_from n list)) k d within in
@@ -219,22 +180,6 @@ done_sent setup endpoints lines more deed moment none =
 
 -- One line
 
-pub one_line_alone : (setup : Setup) (endpoints : Endpoints) (more : List Param) (deed : Deed) (moment line other : ℕ) → other ≢ line
-    → endpoint_at (deed_done setup endpoints (One line) more deed moment).told.value other ≡ endpoint_at endpoints other
-one_line_alone setup endpoints more deed moment line other apart = by_refusal (refused_by endpoints (One line) deed) where
-  not_meant : is_for (One line) other ≡ false
-  not_meant = by_test (line == other) refl where
-    by_test : (b : Bool) → (line == other) ≡ b → b ≡ false
-    by_test true e = absurd (apart (sym ((Decides-eqb line other).0 e)))
-    by_test false e = refl
-
-  by_refusal : (refusal : Option ℕ)
-      → endpoint_at (unless_refused refusal endpoints (done_whole setup endpoints (One line) more deed moment)).told.value other
-      ≡ endpoint_at endpoints other
-  by_refusal None =
-      not_among (lines_meant endpoints (One line)) endpoints (deed_on setup deed moment) other (apart_from_passing (is_for (One line)) 1 other endpoints.list not_meant)
-  by_refusal (Some code) = refl
-
 pub own_alone : (setup : Setup) (endpoints : Endpoints) (lines : Target) (more : List Param) (deed : Deed) (moment : ℕ)
     → (deed_done setup endpoints lines more deed moment).told.value.own ≡ endpoints.own
 own_alone setup endpoints lines more deed moment = by_refusal (refused_by endpoints lines deed) where
@@ -242,58 +187,3 @@ own_alone setup endpoints lines more deed moment = by_refusal (refused_by endpoi
       → (unless_refused refusal endpoints (done_whole setup endpoints lines more deed moment)).told.value.own ≡ endpoints.own
   by_refusal None = own_stays (lines_meant endpoints lines) endpoints (deed_on setup deed moment)
   by_refusal (Some code) = refl
-
--- A command
-
-pub deed_of_command : (setup : Setup) (endpoints : Endpoints) (moment id : ℕ) (command : Command) (confirms : KValue) (lines : Target) (deed : Deed)
-    → form_while (serves endpoints) command confirms setup.names ≡ Ok (Does lines deed)
-    → commanded setup endpoints moment id command confirms ≡ done_for setup endpoints lines deed moment
-deed_of_command setup endpoints moment id command confirms lines deed is = ap (λ (x : Result Asks ℕ). done_by x setup endpoints moment id) is
-
--- for which lines a deed is
-
-pub deed_on_one : (setup : Setup) (endpoints : Endpoints) (deed : Deed) (moment line : ℕ)
-    → done_for setup endpoints (One line) deed moment ≡ deed_done setup endpoints (One line) [] deed moment
-deed_on_one setup endpoints deed moment line = refl
-
-pub deed_on_each : (setup : Setup) (endpoints : Endpoints) (deed : Deed) (moment : ℕ)
-    → done_for setup endpoints AllLines deed moment ≡ deed_done setup endpoints AllLines [] deed moment
-deed_on_each setup endpoints deed moment = refl
-
-pub deed_on_any : (setup : Setup) (endpoints : Endpoints) (deed : Deed) (moment line : ℕ) → line_with_place endpoints ≡ Some line
-    → done_for setup endpoints AnyLine deed moment ≡ deed_done setup endpoints (One line) (name_of_line setup line ∷ []) deed moment
-deed_on_any setup endpoints deed moment line is = ap (λ (found : Option ℕ). done_there found setup endpoints deed moment) is
-
-pub deed_on_no_line : (setup : Setup) (endpoints : Endpoints) (deed : Deed) (moment : ℕ) → line_with_place endpoints ≡ None
-    → done_for setup endpoints AnyLine deed moment ≡ only_answer endpoints (plain_code 410)
-deed_on_no_line setup endpoints deed moment is = ap (λ (found : Option ℕ). done_there found setup endpoints deed moment) is
-
--- a line from 1 to the number of endpoints has one
-get_within : (list : List Endpoint) (n : ℕ) → n < length list → is_some (slice_get list n) ≡ true
-get_within [] n less = absurd (omega (arith, less))
-get_within (endpoint ∷ rest) zero less = refl
-get_within (endpoint ∷ rest) (suc n) less = get_within rest n (omega (arith, less))
-
-endpoint_there : (endpoints : Endpoints) (line : ℕ) → 1 ≤ line → line ≤ length endpoints.list → is_some (endpoint_at endpoints line) ≡ true
-endpoint_there endpoints line first last = by_zero (line == 0) refl where
-  by_zero : (b : Bool) → (line == 0) ≡ b → is_some (if b then None else slice_get endpoints.list (line - 1)) ≡ true
-  by_zero true e = absurd (let no : line ≡ 0 = (Decides-eqb line 0).0 e in omega (arith, no, first))
-  by_zero false e = get_within endpoints.list (line - 1) (omega (arith, first, last))
-
-pub audit_finds : (setup : Setup) (events : List GatewayEvent) (command : Command) (confirms : KValue) (line : ℕ) (audit : Audit)
-    → form_while (serves (plain setup events).endpoints) command confirms setup.names ≡ Ok (Reports (audits.One line) audit)
-    → is_some (endpoint_at (plain setup events).endpoints line) ≡ true
-audit_finds setup events command confirms line audit is =
-    let asks : Asks = Reports (audits.One line) audit in
-    let serving : Bool = serves (plain setup events).endpoints in
-    let known : AreOf setup.names.lines (One line) = form_lines command confirms setup.names asks (while_taken serving command confirms setup.names asks is) in
-    let lines : length (plain setup events).endpoints.list ≡ setup.names.lines = lines_after setup (opening setup) events ∙ lines_of_opening setup in
-    endpoint_there (plain setup events).endpoints line (known.0) (omega (arith, known.1, lines))
-
-pub audit_stays : (setup : Setup) (endpoints : Endpoints) (moment id : ℕ) (command : Command) (confirms : KValue) (lines : AuditTarget) (audit : Audit)
-    → form_while (serves endpoints) command confirms setup.names ≡ Ok (Reports lines audit) → (commanded setup endpoints moment id command confirms).told ≡ silently endpoints
-audit_stays setup endpoints moment id command confirms lines audit is = ap (λ (x : Result Asks ℕ). (done_by x setup endpoints moment id).told) is
-
-pub fault_stays : (setup : Setup) (endpoints : Endpoints) (moment id code : ℕ) (command : Command) (confirms : KValue) → form_while (serves endpoints) command confirms setup.names ≡ Err code
-    → commanded setup endpoints moment id command confirms ≡ only_answer endpoints (plain_code code)
-fault_stays setup endpoints moment id code command confirms is = ap (λ (x : Result Asks ℕ). done_by x setup endpoints moment id) is

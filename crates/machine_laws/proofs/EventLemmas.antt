@@ -13,7 +13,7 @@ use Rattle.mgcp_text.specs.Reading.{read_text}
 use Rattle.mg_line.specs.declared.phone.Act.{Act}
 use Rattle.plain_machine.specs.declared.setup.Setup.{Setup}
 use Rattle.plain_machine.specs.declared.endpoint.Endpoint.{Endpoint}
-use Rattle.plain_machine.specs.Effect.{Effect, silently}
+use Rattle.plain_machine.specs.Effect.{Effect, silently, afterwards}
 use Rattle.plain_machine.specs.Event.{GatewayEvent, datagram, phone, tick}
 use Rattle.plain_machine.specs.Message.{Sent}
 use Rattle.plain_machine.specs.Machine.{Machine, told_in, endpoint_at, opening}
@@ -29,7 +29,7 @@ use Rattle.machine_laws.specs.Belonging.{of_line}
 use Rattle.machine_laws.specs.OwnEvents.{is_of_another, own_part, own_events}
 use Rattle.machine_laws.specs.Isolation.{AsUnderItsOwn}
 use Rattle.machine_laws.proofs.OwningLemmas.{of_both}
-use Rattle.machine_laws.proofs.AlikeLemmas.{AreAlike, ToldAlike, acted_alike, acted_elsewhere, pass_alike}
+use Rattle.machine_laws.proofs.AnnouncementLaws.{AreAlike, ToldAlike, acted_alike, acted_elsewhere, pass_alike}
 use Rattle.machine_laws.proofs.ThinningLemmas.{none}
 use Rattle.machine_laws.proofs.FittingWords.{Agree, Matches, Fits, TextsFit, EventFits, EventsFit}
 use Rattle.machine_laws.proofs.TextLemmas.{in_machine, own_handled, other_handled}
@@ -269,3 +269,30 @@ module _ (setup : Setup) (keep : ℕ → Bool) (line : ℕ) where
         sent = h.sent_same;
         taken = λ fine. all_taken (opening setup) (opening setup) events opens fits fine;
       }
+
+-- What each text of a datagram does, and to the history.
+
+-- Texts in their order
+
+-- one thing after another, put together in another way
+after_after : (first : Effect Machine) (f : Machine → Effect Machine) (g : Machine → Effect Machine) → afterwards (afterwards first f) g ≡ afterwards first (λ (m : Machine). afterwards (f m) g)
+after_after first f g =
+    ap (λ (x : List Sent). let e : Effect Machine = record { value = (g (f first.value).value).value; sent = x } in e)
+    (append_assoc first.sent (f first.value).sent (g (f first.value).value).sent)
+
+pub texts_at : (setup : Setup) (m : Machine) (source : SocketAddrV4) (before behind : List (List ℕ)) (text : List ℕ)
+    → took_all setup m source (before ++ text ∷ behind)
+    ≡ afterwards (took_all setup m source before) (λ (now : Machine). afterwards (handled setup now source (read_text text)) (λ (next : Machine). took_all setup next source behind))
+unfolding took_all
+texts_at setup m source [] behind text = refl
+texts_at setup m source (first ∷ before) behind text =
+    ap (λ (rest : Effect Machine). afterwards (handled setup m source (read_text first)) (λ (next : Machine). rest))
+    (texts_at setup (handled setup m source (read_text first)).value source before behind text)
+    ∙ sym (after_after (handled setup m source (read_text first)) (λ (next : Machine). took_all setup next source before)
+    (λ (now : Machine). afterwards (handled setup now source (read_text text)) (λ (next : Machine). took_all setup next source behind)))
+
+-- Events
+
+pub datagram_does : (setup : Setup) (m : Machine) (source : SocketAddrV4) (bytes : List ℕ) → effect setup m (datagram source bytes) ≡ took_all setup m source (texts_of bytes)
+unfolding effect
+datagram_does setup m source bytes = refl

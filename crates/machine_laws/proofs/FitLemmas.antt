@@ -1,8 +1,9 @@
 -- Commands of lines that keep apart fit each line.
-use Rattle.std.proofs.Common.{◌≡◌, ℕ, Bool, true, false, ◌==◌, ◌&&◌, ◌||◌, List, [], ◌∷◌, ◌++◌, map, Option, Some, None, refl, sym, ap, subst, ◌∙◌}
+use Rattle.std.proofs.Common.{◌≡◌, Bool, true, false, ◌&&◌, List, [], ◌∷◌, ℕ, ◌==◌, ◌||◌, ◌++◌, map, Option, Some, None, refl, sym, ap, subst, ◌∙◌}
+use Rattle.std.specs.List.{list_all, list_any}
+use Rattle.std.proofs.lemmas.Bool.{and_parts, eqb-true, both_ways}
+use Rattle.machine_laws.proofs.EachLemmas.{Each, each_weaker, each_unflat, each_unmapped}
 use Rattle.std.specs.Prelude.{not, flat_map}
-use Rattle.std.specs.List.{list_any, list_all}
-use Rattle.std.proofs.lemmas.Bool.{eqb-true, both_ways}
 use Rattle.std.proofs.lemmas.Bool.Decides.{Decides-eqb}
 use Rattle.mgcp_text.specs.Confirmation.{k_of}
 use Rattle.mgcp_text.specs.declared.message.Message.TheVariants as messages
@@ -16,14 +17,18 @@ use Rattle.plain_machine.specs.Machine.{opening}
 use Rattle.plain_machine.specs.Arriving.{TextArrival, arrivals_of}
 use Rattle.plain_machine.specs.Answering.{line_of_name}
 use Rattle.plain_machine.specs.Transactions.{Asked, asked_as, commands_of}
-use Rattle.machine_laws.proofs.EachLemmas.{Each, each_weaker, each_unflat, each_unmapped}
 use Rattle.machine_laws.specs.Apart.{is_for_one, ReadCommand, read_as, commands_at, commands_read, has_to_do_with, same_line, keeps_apart, LinesKeepApart}
 use Rattle.machine_laws.specs.Isolation.{AsUnderItsOwn}
 use Rattle.machine_laws.specs.OwnEvents.{line_read, is_another}
-use Rattle.machine_laws.proofs.EachTests.{each_passes}
 use Rattle.machine_laws.proofs.EventLemmas.{as_under_its_own}
 use Rattle.machine_laws.proofs.FittingWords.{IsApart, Fits}
 use Rattle.machine_laws.proofs.WalkLemmas.{events_fit}
+
+-- What a test says of each.
+
+pub each_passes : {X : Type 0} (p : X → Bool) (xs : List X) → list_all p xs ≡ true → Each (λ x. p x ≡ true) xs
+each_passes p [] all = tt
+each_passes p (x ∷ xs) all = let both = and_parts (p x) (list_all p xs) all in (both.0, each_passes p xs both.1)
 
 -- Tests
 

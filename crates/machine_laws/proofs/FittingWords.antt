@@ -21,7 +21,7 @@ use Rattle.plain_machine.specs.Happening.{effect}
 use Rattle.machine_laws.specs.Apart.{is_single}
 use Rattle.machine_laws.specs.Belonging.{of_line}
 use Rattle.machine_laws.specs.OwnEvents.{is_another}
-use Rattle.machine_laws.proofs.AlikeLemmas.{AreAlike}
+use Rattle.machine_laws.proofs.AnnouncementLaws.{AreAlike}
 use Rattle.machine_laws.proofs.ThinningLemmas.{Thins}
 
 -- two machines agree on a line, on what they keep for themselves, and on the transactions that are kept

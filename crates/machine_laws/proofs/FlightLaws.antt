@@ -1,7 +1,7 @@
 -- The commands of lines, and of the gateway itself: one at a time, each under an id of its own, each the same whenever it is
 -- sent.
 use Rattle.std.proofs.Common.{◌≡◌, ◌≢◌, ℕ, ◌+◌, ◌-◌, ◌<◌, ◌≤◌, Bool, true, false, ◌==◌, if◌then◌else◌, List, [], ◌∷◌, Option, Some, None, inl, inr, refl, sym, ap, ◌∙◌, subst, arith}
-use Rattle.std.specs.Prelude.{◌⊎◌, All, IfSome, option_map, slice_get, slice_set}
+use Rattle.std.specs.Prelude.{◌⊎◌, All, IfSome, option_map}
 use Rattle.std.specs.Option.{unwrap_or}
 use Rattle.std.specs.declared.net.socket_addr.SocketAddrV4.{SocketAddrV4}
 use Rattle.std.proofs.lemmas.Bool.Decides.{Decides-eqb}
@@ -68,8 +68,7 @@ use Rattle.plain_machine.specs.Falling.{happened_on, happened_under, happened, p
 use Rattle.plain_machine.specs.Responding.{responded_as, responded_on, redirected_on, opened_on, lines_told, own_heard, responded}
 use Rattle.plain_machine.specs.Happening.{effect}
 use Rattle.plain_machine.specs.Lists.{machine_after}
-use Rattle.plain_machine.specs.Flights.{Waits, HasOwnId, IsWith, InOrderBy, OwnInOrderBy, OwnIsInOrder, InOrderWhile, AreInOrder, BeginsNothing, IsSame, Carries}
-use Rattle.plain_machine.proofs.EffectLaws.{other_endpoint, some_line, on_still}
+use Rattle.plain_machine.specs.Flights.{Waits, IsWith, InOrderBy, OwnInOrderBy, OwnIsInOrder, InOrderWhile, AreInOrder, BeginsNothing, IsSame, Carries}
 use Rattle.mgcp_text.specs.Reading.{Outcome}
 use Rattle.timers.specs.declared.due_item.DueItem.{DueItem}
 use Rattle.plain_machine.specs.Answering.{handled}
@@ -510,21 +509,6 @@ pub waits_for_the_answer : (setup : Setup) (events : List GatewayEvent) (line : 
 waits_for_the_answer setup events line endpoint at =
     order_waits (serves (machine_after setup (opening setup) events).endpoints) line endpoint ((posts_in_order setup events).lines line endpoint at)
 
-own_order_has : (own : Post) → OwnIsInOrder own → HasOwnId own
-unfolding same_with
-own_order_has own order = by_pending own.pending order where
-  by_restart : (restart : Restart) (message : InFlight) → OwnInOrderBy restart (Some message) → line_of_id message.id ≡ 0
-  by_restart (Waiting until) message order = absurd (none-some message (sym order))
-  by_restart Announced message order = (same_with 0 message message (Some message) refl refl order).own
-  by_restart Serving message order = absurd (none-some message (sym order))
-
-  by_pending : (pending : Option InFlight) → OwnInOrderBy own.restart pending → IfSome pending (λ message. line_of_id message.id ≡ 0)
-  by_pending None order = tt
-  by_pending (Some message) order = by_restart own.restart message order
-
-pub has_own_id : (setup : Setup) (events : List GatewayEvent) → HasOwnId (machine_after setup (opening setup) events).endpoints.own
-has_own_id setup events = own_order_has (machine_after setup (opening setup) events).endpoints.own (posts_in_order setup events).own
-
 -- It has one command in flight
 
 pub noted_begins_nothing : (setup : Setup) (line moment : ℕ) (endpoint : Endpoint) (done : LineDone) → done.notice ≡ None → BeginsNothing endpoint (noted setup line moment endpoint done)
@@ -556,10 +540,6 @@ unfolding happened_on
 no_command_when_due setup due line moment endpoint message waits pending =
     noted_begins_nothing setup line moment endpoint (fired endpoint.line due moment)
     (fired_waits endpoint.line due moment (it_waits line endpoint message waits pending)).silent
-
--- a response that isn't the answer leaves the message in flight
-abbrev LeavesIt : InFlight → Effect Post → Type 0
-LeavesIt message turn = (turn.sent ≡ []) × IfSome turn.value.pending (IsSame message)
 
 abbrev IsPutOff : Heard → Type 0
 IsPutOff Nothing = Unit {0}
@@ -671,28 +651,6 @@ is_own setup endpoints moment response none =
     ap (λ (b : Bool). if b then own_heard setup endpoints moment response else on_line endpoints (line_of_id response.id) (responded_on setup (line_of_id response.id) moment response))
     ((Decides-eqb (line_of_id response.id) 0).1 none)
 
-pub line_stays : (endpoints : Endpoints) (line other : ℕ) (turn : Endpoint → Effect Endpoint) → other ≢ line → endpoint_at (on_line endpoints line turn).value other ≡ endpoint_at endpoints other
-unfolding on_line
-line_stays endpoints line other turn apart = by_endpoint (endpoint_at endpoints line) refl where
-  by_zero : (endpoint : Endpoint) (b c : Bool) → (line == 0) ≡ b → (other == 0) ≡ c → (if b then None else slice_get endpoints.list (line - 1)) ≡ Some endpoint
-      → (now : Endpoint) → (if c then None else slice_get (slice_set endpoints.list (line - 1) now) (other - 1)) ≡ (if c then None else slice_get endpoints.list (other - 1))
-  by_zero endpoint true c zero_line e at now = absurd cc
-  by_zero endpoint false true some e at now = refl
-  by_zero endpoint false false some more at now =
-      let one : line ≢ 0 = λ same. absurd (let b : (line == 0) ≡ true = (Decides-eqb line 0).1 same in cc) in
-      let two : other ≢ 0 = λ same. absurd (let b : (other == 0) ≡ true = (Decides-eqb other 0).1 same in cc) in
-      other_endpoint endpoints.list (line - 1) (other - 1) now (λ same. apart (omega (arith, same, one, two)))
-
-  by_endpoint : (found : Option Endpoint) → endpoint_at endpoints line ≡ found → endpoint_at (turned_at found endpoints line turn).value other ≡ endpoint_at endpoints other
-  by_endpoint None e = refl
-  by_endpoint (Some endpoint) e = by_zero endpoint (line == 0) (other == 0) refl refl e _
-
-pub others_stay : (setup : Setup) (endpoints : Endpoints) (moment : ℕ) (response : Response) (other : ℕ) → line_of_id response.id ≢ 0 → other ≢ line_of_id response.id
-    → endpoint_at (responded setup endpoints moment response).value other ≡ endpoint_at endpoints other
-others_stay setup endpoints moment response other some apart =
-    subst (λ (told : Effect Endpoints). endpoint_at told.value other ≡ endpoint_at endpoints other) (sym (is_of_line setup endpoints moment response some))
-    (line_stays endpoints (line_of_id response.id) other (responded_on setup (line_of_id response.id) moment response) apart)
-
 pub own_stays_at : (endpoints : Endpoints) (line : ℕ) (turn : Endpoint → Effect Endpoint) → (on_line endpoints line turn).value.own ≡ endpoints.own
 unfolding on_line
 own_stays_at endpoints line turn = by_endpoint (endpoint_at endpoints line) where
@@ -721,16 +679,6 @@ no_reply post response stranger = by_pending post.pending stranger where
   by_pending None stranger = refl
   by_pending (Some flight) apart = ap (λ (reply : Reply). heard_of post.restart reply response.code response.entity) (strange flight apart)
 
-pub a_stranger_does_nothing : (setup : Setup) (endpoints : Endpoints) (moment : ℕ) (response : Response) (endpoint : Endpoint) → endpoint_at endpoints (line_of_id response.id) ≡ Some endpoint
-    → IfSome endpoint.post.pending (λ message. message.id ≢ response.id) → responded setup endpoints moment response ≡ silently endpoints
-unfolding responded_on
-a_stranger_does_nothing setup endpoints moment response endpoint at stranger =
-    let some : line_of_id response.id ≢ 0 = λ none. absurd (let yes : (line_of_id response.id == 0) ≡ true = (Decides-eqb (line_of_id response.id) 0).1 none in
-    let no = some_line endpoints (line_of_id response.id) endpoint at in cc) in
-    is_of_line setup endpoints moment response some
-    ∙ on_still endpoints (line_of_id response.id) endpoint (responded_on setup (line_of_id response.id) moment response) at
-    (ap (λ (heard : Heard). responded_as heard setup (line_of_id response.id) moment response endpoint) (no_reply endpoint.post response stranger))
-
 -- what is heard by the gateway itself
 pub nothing_heard : (setup : Setup) (endpoints : Endpoints) (moment : ℕ) (response : Response) → line_of_id response.id ≡ 0 → heard_on endpoints.own response ≡ Nothing
     → responded setup endpoints moment response ≡ silently endpoints
@@ -743,13 +691,6 @@ pub a_stranger_to_itself : (setup : Setup) (endpoints : Endpoints) (moment : ℕ
     → IfSome endpoints.own.pending (λ message. message.id ≢ response.id) → responded setup endpoints moment response ≡ silently endpoints
 a_stranger_to_itself setup endpoints moment response none stranger =
     nothing_heard setup endpoints moment response none (no_reply endpoints.own response stranger)
-
-pub lines_keep : (setup : Setup) (endpoints : Endpoints) (moment : ℕ) (response : Response) → line_of_id response.id ≡ 0 → heard_on endpoints.own response ≡ PutOff
-    → (responded setup endpoints moment response).value.list ≡ endpoints.list
-unfolding replied_on replied
-lines_keep setup endpoints moment response none is =
-    ap (λ (t : Effect Endpoints). t.value.list) (is_own setup endpoints moment response none
-    ∙ ap (λ (heard : Heard). afterwards (effect_map (with_own endpoints) (replied heard setup 0 moment response endpoints.own)) (λ next. lines_told heard setup moment next)) is)
 
 -- once it serves nothing is heard any more
 pub a_served_gateway_hears_nothing : (setup : Setup) (endpoints : Endpoints) (moment : ℕ) (response : Response) → line_of_id response.id ≡ 0 → AreInOrder endpoints → serves endpoints ≡ true

@@ -1,7 +1,7 @@
 -- A command in flight is one that was issued.
 use Rattle.std.proofs.Common.{◌≡◌}
 use Rattle.outbound.specs.Flight.{InFlight}
-use Rattle.machine_laws.specs.Saying.{Begun}
+use Rattle.plain_machine.specs.Message.{Begun}
 
 -- it is this command that was issued
 pub record IsSame (flight : InFlight) (one : Begun) : Type 0 where

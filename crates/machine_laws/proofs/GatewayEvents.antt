@@ -1,31 +1,35 @@
 -- What a gateway sends at an event: commands of its own, answers to the firsts that it keeps, and acknowledgements.
-use Rattle.std.proofs.Common.{◌≡◌, ℕ, ◌+◌, ◌≤◌, Bool, true, false, ◌||◌, if◌then◌else◌, List, [], ◌∷◌, ◌++◌, Option, Some, None, inl, inr, refl, sym, ap, ◌∙◌, subst, arith, append-nil, append_assoc}
-use Rattle.std.specs.Prelude.{IfSome, nat_le, nat_lt, ◌^◌}
-use Rattle.std.proofs.lemmas.Bool.{ltb-false}
-use Rattle.std.proofs.lemmas.Option.{none-some}
-use Rattle.std.specs.declared.net.socket_addr.SocketAddrV4.{SocketAddrV4}
-use Rattle.mgcp_text.specs.declared.message.Message.TheVariants as messages
+use Rattle.std.proofs.Common.{◌≡◌, ℕ, ◌+◌, ◌<◌, ◌≤◌, true, List, ◌++◌, inl, inr, sym, ap, ◌∙◌, arith, ◌-◌, ◌==◌, ◌&&◌, if◌then◌else◌, Bool, false, [], ◌∷◌, length, Option, Some, None, refl, subst, ◌||◌, append-nil, append_assoc, ◌≢◌}
 use Rattle.mgcp_text.specs.declared.message.Param.{Param}
-use Rattle.mgcp_text.specs.Reading.{Outcome, message, no_header, bad_version, bad_body, id_in, read_text}
+use Rattle.mgcp_text.specs.declared.message.Message.TheVariants as messages
+use Rattle.mgcp_text.specs.Reading.{Outcome, message, no_header, bad_version, bad_body, read_text, id_in}
+use Rattle.history.specs.KeptFirst.{KeptFirst}
+use Rattle.history.specs.Memory.{memory_time, is_young, most_firsts}
+use Rattle.machine_laws.proofs.EachLemmas.{Each, one_before, one_of_each, one_to, one_weaker, each_both, each_weaker, one_behind, is_none-None}
+use Rattle.outbound.specs.Issued.{is_command_as}
+use Rattle.plain_machine.specs.Message.{Begun, of_none, again, acknowledgement, Sent, text_of}
+use Rattle.machine_laws.specs.Saying.{Carries, Gives, IsAnswerTo, OneOf, Tells, begun_in, HasNumbersLeft}
+use Rattle.std.specs.Prelude.{nat_lt, option_map, IfSome, nat_le, ◌^◌, AllPairs, is_none}
+use Rattle.std.specs.Option.{option_or}
+use Rattle.std.proofs.lemmas.Bool.{and_parts, eqb-true, ltb-true, ltb-false}
+use Rattle.std.proofs.lemmas.Option.{none-some}
+use Rattle.history.specs.Entry.{Entry}
+use Rattle.history.specs.Entry.TheVariants.{First, Confirmation}
+use Rattle.history.specs.Kept.{firsts_in, young_firsts}
+use Rattle.history.specs.Looking.{Found, Looked, confirmed, full, latest, look_of, new, recalled_from, repeat, repeated, told_by}
+use Rattle.std.specs.declared.net.socket_addr.SocketAddrV4.{SocketAddrV4}
 use Rattle.mgcp_text.specs.Answer.{IsAnswer, plain_code, response_of}
 use Rattle.mgcp_text.specs.Confirmation.{k_of}
 use Rattle.mgcp_text.proofs.AnswerLemmas.{answer_writable}
 use Rattle.mgcp_text.proofs.IdLemmas.{IsId, read_id}
 use Rattle.mgcp_text.proofs.RoundLaws.{read_again}
 use Rattle.command_forms.specs.Command.{Command}
-use Rattle.history.specs.KeptFirst.{KeptFirst}
-use Rattle.history.specs.Entry.{Entry}
-use Rattle.history.specs.Entry.TheVariants.{First, Confirmation}
-use Rattle.history.specs.Memory.{most_firsts}
-use Rattle.history.specs.Kept.{firsts_in}
-use Rattle.history.specs.Looking.{Looked, new, repeat, confirmed, full, look_of}
 use Rattle.outbound.specs.Flight.{InFlight}
 use Rattle.plain_machine.specs.declared.setup.Setup.{Setup}
 use Rattle.gateway_rules.specs.declared.refusal.Refusal.TheVariants.{ClockBack, TickTooFar}
 use Rattle.plain_machine.specs.Effect.{Effect, silently}
 use Rattle.plain_machine.specs.Setup.{IsSetUp, most_lines}
 use Rattle.plain_machine.specs.Event.{GatewayEvent, datagram, phone, tick}
-use Rattle.plain_machine.specs.Message.{of_none, again, acknowledgement, Sent, text_of}
 use Rattle.plain_machine.specs.Machine.{Endpoints, Machine, opening, opening_endpoint}
 use Rattle.transmission.specs.Texts.{texts_of}
 use Rattle.plain_machine.specs.Arriving.{clock_after}
@@ -40,14 +44,125 @@ use Rattle.machine_laws.proofs.CommandLaws.{opening_is_sound}
 use Rattle.machine_laws.proofs.NoticeLemmas.{opening_is_fine}
 use Rattle.machine_laws.proofs.MessageLaws.{nothing_kept, opening_fits, Fits, code_is, command_answered, handled_fits, event_fits, AreKept, event_goes}
 use Rattle.plain_machine.proofs.EffectLaws.{handled_now, effect_now}
-use Rattle.machine_laws.proofs.EachLemmas.{Each, each_both, each_weaker, one_behind}
 use Rattle.machine_laws.proofs.GatewayTurns.{OwnStands, LineStands, log_turns}
-use Rattle.machine_laws.proofs.GoingRound.{begins_there, own_begins_there}
+use Rattle.machine_laws.proofs.PostLogs.{begins_there, own_begins_there, InLog, Logged, Own, WasBegun}
 use Rattle.machine_laws.proofs.LogTurns.{Goes, Stands, acted_goes, command_goes, log_both, on_later, pass_goes, responded_goes}
-use Rattle.machine_laws.proofs.PostLogs.{InLog, Logged, Own, WasBegun}
-use Rattle.machine_laws.proofs.TellsLemmas.{AreAnswers, tells_on}
-use Rattle.machine_laws.specs.Saying.{Gives, IsAnswerTo, Begun, OneOf, Tells, begun_in}
-use Rattle.machine_laws.proofs.YoungLemmas.{repeat_gives}
+use Rattle.plain_machine.specs.Lists.{machine_after, sent_from, sent_of, are_taken, plain}
+
+-- What an end says: commands of its own, answers to the firsts that it keeps, and acknowledgements.
+
+abbrev pub AreAnswers : List KeptFirst → Type 0
+AreAnswers firsts = Each (λ (first : KeptFirst). IsAnswerTo first.id first.answer) firsts
+
+pub tells_on : (log more : List Begun) (firsts later : List KeptFirst) (text : List ℕ) (moment : ℕ) → Tells log firsts text moment → Tells (log ++ more) (firsts ++ later) text moment
+tells_on log more firsts later text moment (inl one) = inl (one_before (Carries text moment) log more one)
+tells_on log more firsts later text moment (inr (inl one)) = inr (inl (one_before (Gives text moment) firsts later one))
+tells_on log more firsts later text moment (inr (inr is)) = inr (inr is)
+
+-- a command that is read as one, with its id
+pub record IsCommand (one : Begun) : Type 0 where
+  pub name : List ℕ
+  pub reads : is_command_as one.id name (read_text one.text) ≡ true
+
+no_response : (id : ℕ) (name : List ℕ) (outcome : Outcome) (code other : ℕ) (params : List Param) (body : List ℕ) → is_command_as id name outcome ≡ true
+    → outcome ≡ message (messages.Response code other params body) → ⊥
+no_response id name outcome code other params body is reads = absurd (let e : is_command_as id name (message (messages.Response code other params body)) ≡ true = ap (is_command_as id name) (sym reads) ∙ is in cc)
+
+abbrev pub code_of : Outcome → ℕ
+code_of (message (messages.Response code id params body)) = code
+code_of (message (messages.Command verb id name params body)) = 0
+code_of no_header = 0
+code_of (bad_version id) = 0
+code_of (bad_body id) = 0
+
+abbrev pub id_of : Outcome → ℕ
+id_of (message (messages.Response code id params body)) = id
+id_of (message (messages.Command verb id name params body)) = 0
+id_of no_header = 0
+id_of (bad_version id) = 0
+id_of (bad_body id) = 0
+
+-- a first with this id, whose answer is this text
+abbrev pub IsAnsweredBy : ℕ → List ℕ → KeptFirst → Type 0
+IsAnsweredBy id text first = (first.id ≡ id) × (first.answer ≡ text)
+
+-- which came less than 30,000 ms before
+abbrev pub IsGivenBy : ℕ → List ℕ → ℕ → KeptFirst → Type 0
+IsGivenBy id text moment first = IsAnsweredBy id text first × (moment < first.moment + memory_time)
+
+-- a final response that an end says is the answer to a first with its id
+pub final_gives : (log : List Begun) (firsts : List KeptFirst) (text : List ℕ) (moment code id : ℕ) (params : List Param) (body : List ℕ) → Each IsCommand log → AreAnswers firsts
+    → Tells log firsts text moment → read_text text ≡ message (messages.Response code id params body) → 200 ≤ code → OneOf (IsGivenBy id text moment) firsts
+final_gives log firsts text moment code id params body commands answers (inl carried) reads high =
+    one_to (λ (b : Begun). IsCommand b × Carries text moment b) (OneOf (IsGivenBy id text moment) firsts)
+    (λ b both. absurd (no_response b.id both.0.name (read_text b.text) code id params body both.0.reads (sym (ap read_text both.1.text) ∙ reads)))
+    log (one_of_each IsCommand (Carries text moment) log commands carried)
+final_gives log firsts text moment code id params body commands answers (inr (inl answered)) reads high =
+    one_weaker (λ (first : KeptFirst). IsAnswerTo first.id first.answer × Gives text moment first) (IsGivenBy id text moment)
+    (λ first both. ((ap id_of (sym both.0.reads ∙ ap read_text both.1.0 ∙ reads), both.1.0), both.1.1))
+    firsts (one_of_each (λ (first : KeptFirst). IsAnswerTo first.id first.answer) (Gives text moment) firsts answers answered)
+final_gives log firsts text moment code id params body commands answers (inr (inr is)) reads high =
+    absurd (let none : 0 ≡ code = ap code_of (sym is.reads ∙ reads) in omega (arith, none, high))
+
+pub final_answers : (log : List Begun) (firsts : List KeptFirst) (text : List ℕ) (moment code id : ℕ) (params : List Param) (body : List ℕ) → Each IsCommand log → AreAnswers firsts
+    → Tells log firsts text moment → read_text text ≡ message (messages.Response code id params body) → 200 ≤ code → OneOf (IsAnsweredBy id text) firsts
+final_answers log firsts text moment code id params body commands answers tells reads high =
+    one_weaker (IsGivenBy id text moment) (IsAnsweredBy id text) (λ first given. given.0) firsts (final_gives log firsts text moment code id params body commands answers tells reads high)
+
+-- What is told again is the answer to a first with its id that is remembered.
+
+abbrev first_of : KeptFirst → Option Found → KeptFirst
+first_of other None = other
+first_of other (Some found) = found.first
+
+still_young : (now moment : ℕ) → is_young now moment ≡ true → now < moment + memory_time
+still_young now moment young = (let few = ltb-true (now - moment) memory_time young in omega (arith, few))
+
+gives_here : (first : KeptFirst) (entries : List Entry) (id now : ℕ) (found : Found) (b : Bool) → (first.id == id && is_young now first.moment) ≡ b
+    → option_map (λ (x : KeptFirst). let f : Found = record { first = x; after = entries } in f) (if b then Some first else None) ≡ Some found → IsGivenBy id found.first.answer now first
+gives_here first entries id now found false young is = absurd (none-some found is)
+gives_here first entries id now found true young is =
+    let both = and_parts (first.id == id) (is_young now first.moment) young in
+    ((eqb-true first.id id both.0, ap (λ (x : KeptFirst). x.answer) (ap (first_of first) is)), still_young now first.moment both.1)
+
+found_gives : (entries : List Entry) (id now : ℕ) (found : Found) → latest entries id now ≡ Some found → OneOf (IsGivenBy id found.first.answer now) (firsts_in entries)
+unfolding latest
+found_gives [] id now found is = absurd (none-some found is)
+found_gives (First first ∷ entries) id now found is = by_rest (latest entries id now) refl is (found_gives entries id now) where
+  by_rest : (rest : Option Found) → latest entries id now ≡ rest
+      → option_or rest (option_map (λ (x : KeptFirst). let f : Found = record { first = x; after = entries } in f) (repeated (First first) id now)) ≡ Some found
+      → ((other : Found) → latest entries id now ≡ Some other → OneOf (IsGivenBy id other.first.answer now) (firsts_in entries)) → OneOf (IsGivenBy id found.first.answer now) (firsts_in (First first ∷ entries))
+  by_rest None none is more = inl (gives_here first entries id now found (first.id == id && is_young now first.moment) refl is)
+  by_rest (Some other) some is more = inr (more found (some ∙ is))
+found_gives (Confirmation spans ∷ entries) id now found is = by_rest (latest entries id now) refl is (found_gives entries id now) where
+  by_rest : (rest : Option Found) → latest entries id now ≡ rest
+      → option_or rest (option_map (λ (x : KeptFirst). let f : Found = record { first = x; after = entries } in f) (repeated (Confirmation spans) id now)) ≡ Some found
+      → ((other : Found) → latest entries id now ≡ Some other → OneOf (IsGivenBy id other.first.answer now) (firsts_in entries)) → OneOf (IsGivenBy id found.first.answer now) (firsts_in entries)
+  by_rest None none is more = absurd (none-some found is)
+  by_rest (Some other) some is more = more found (some ∙ is)
+
+abbrev answer_told : List ℕ → Looked → List ℕ
+answer_told other new = other
+answer_told other (repeat answer) = answer
+answer_told other confirmed = other
+answer_told other full = other
+
+told_gives : (entries : List Entry) (id now : ℕ) (found : Option Found) (has_room : Bool) (answer : List ℕ) → latest entries id now ≡ found
+    → told_by (option_map (recalled_from id) found) has_room ≡ repeat answer → OneOf (IsGivenBy id answer now) (firsts_in entries)
+told_gives entries id now None true answer is e = absurd cc
+told_gives entries id now None false answer is e = absurd cc
+told_gives entries id now (Some found) has_room answer is e = by_test (recalled_from id found).confirmed e where
+  by_test : (b : Bool) → (if b then confirmed else repeat found.first.answer) ≡ repeat answer → OneOf (IsGivenBy id answer now) (firsts_in entries)
+  by_test true told = absurd cc
+  by_test false told = subst (λ (text : List ℕ). OneOf (IsGivenBy id text now) (firsts_in entries)) (ap (answer_told answer) told) (found_gives entries id now found is)
+
+pub repeat_gives_its_own : (limit : ℕ) (entries : List Entry) (id now : ℕ) (answer : List ℕ) → look_of limit entries id now ≡ repeat answer → OneOf (IsGivenBy id answer now) (firsts_in entries)
+unfolding look_of
+repeat_gives_its_own limit entries id now answer e = told_gives entries id now (latest entries id now) (nat_lt (length (young_firsts now entries)) limit) answer refl e
+
+pub repeat_gives : (limit : ℕ) (entries : List Entry) (id now : ℕ) (answer : List ℕ) → look_of limit entries id now ≡ repeat answer → OneOf (Gives answer now) (firsts_in entries)
+repeat_gives limit entries id now answer e =
+    one_weaker (IsGivenBy id answer now) (Gives answer now) (λ first given. (given.0.1, given.1)) (firsts_in entries) (repeat_gives_its_own limit entries id now answer e)
 
 -- what is sent by this moment
 abbrev pub Said : List Begun → List KeptFirst → ℕ → Sent → Type 0
@@ -323,3 +438,50 @@ pub gateway_forward : (m : Machine) (event : GatewayEvent) → refusal_of m even
 gateway_forward m (datagram source bytes) taken = omega arith
 gateway_forward m (phone line act) taken = omega arith
 gateway_forward m (tick moment) taken = tick_on m moment taken
+
+-- What a gateway sends with a whole list of events.
+
+pub record ListGoes (setup : Setup) (log : List Begun) (m n : Machine) (sent : List Sent) : Type 0 where
+  pub holds : GatewayHolds setup (log ++ begun_in sent) n
+  pub more : List KeptFirst
+  pub grown : firsts_in n.history ≡ firsts_in m.history ++ more
+  pub time : m.now ≤ n.now
+  pub says : Each (Said (log ++ begun_in sent) (firsts_in n.history) n.now) sent
+
+said_later : (log : List Begun) (firsts : List KeptFirst) (now later : ℕ) → now ≤ later → (sent : Sent) → Said log firsts now sent → Said log firsts later sent
+said_later log firsts now later past sent s = (s.0, omega (arith, past, s.1))
+
+events_hold : (setup : Setup) (log : List Begun) (m : Machine) (es : List GatewayEvent) → GatewayHolds setup log m → are_taken setup m es ≡ true → ListGoes setup log m (machine_after setup m es) (sent_from setup m es)
+unfolding are_taken machine_after sent_from
+events_hold setup log m [] h taken =
+    record { holds = subst (λ (x : List Begun). GatewayHolds setup x m) (sym (append-nil log)) h; more = []; grown = sym (append-nil (firsts_in m.history)); time = omega arith; says = tt }
+events_hold setup log m (e ∷ es) h taken =
+    let both = and_parts (is_none (refusal_of m e)) (are_taken setup (effect setup m e).value es) taken in
+    let may = is_none-None (refusal_of m e) both.0 in
+    let next = (effect setup m e).value in
+    let first = event_holds setup log m e h may in
+    let here = (effect setup m e).sent in
+    let log' = log ++ begun_in here in
+    let rest = events_hold setup log' next es first.holds both.1 in
+    let more = sent_from setup next es in
+    let last = machine_after setup next es in
+    let is = sym (log_both log here more) in
+    record {
+      holds = subst (λ (x : List Begun). GatewayHolds setup x last) is rest.holds;
+      more = first.more ++ rest.more;
+      grown = rest.grown ∙ ap (λ (x : List KeptFirst). x ++ rest.more) first.grown ∙ append_assoc (firsts_in m.history) first.more rest.more;
+      time = (let past = gateway_forward m e may in let now = effect_now setup m e in omega (arith, past, now, rest.time));
+      says = subst (λ (x : List Begun). Each (Said x (firsts_in last.history) last.now) (here ++ more)) is
+          (each_both (Said (log' ++ begun_in more) (firsts_in last.history) last.now) here more
+          (subst (λ (f : List KeptFirst). Each (Said (log' ++ begun_in more) f last.now) here) (sym rest.grown)
+          (each_weaker (Said log' (firsts_in next.history) next.now) (Said (log' ++ begun_in more) (firsts_in next.history ++ rest.more) last.now)
+          (λ sent s. said_later (log' ++ begun_in more) (firsts_in next.history ++ rest.more) next.now last.now rest.time sent (said_on log' (begun_in more) (firsts_in next.history) rest.more next.now sent s)) here first.sent_says))
+          rest.says);
+    }
+
+pub all_hold : (setup : Setup) (es : List GatewayEvent) → IsSetUp setup → are_taken setup (opening setup) es ≡ true → ListGoes setup [] (opening setup) (plain setup es) (sent_of setup es)
+all_hold setup es set_up taken = events_hold setup [] (opening setup) es (opening_gateway setup set_up) taken
+
+pub all_apart : (setup : Setup) (es : List GatewayEvent) → IsSetUp setup → are_taken setup (opening setup) es ≡ true → HasNumbersLeft (begun_in (sent_of setup es))
+    → AllPairs (λ (a b : Begun). a.id ≢ b.id) (begun_in (sent_of setup es))
+all_apart setup es set_up taken few = (all_hold setup es set_up taken).holds.stands.logged.apart few

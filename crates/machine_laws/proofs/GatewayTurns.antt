@@ -1,7 +1,7 @@
 -- What a gateway sends of its own: the commands of each line, and of the gateway itself, under ids of their own, and again for
 -- less than 20,000 ms.
 use Rattle.std.proofs.Common.{◌≡◌, ◌≢◌, ℕ, ◌≤◌, true, List, [], ◌∷◌, ◌++◌, Option, Some, None, Ok, inl, inr, refl, ap, subst, arith}
-use Rattle.std.specs.Prelude.{◌⊎◌, IfSome}
+use Rattle.std.specs.Prelude.{◌⊎◌, IfSome, codes}
 use Rattle.std.specs.Option.{unwrap_or}
 use Rattle.mgcp_text.specs.declared.confirmation.KValue.{KValue}
 use Rattle.mgcp_text.specs.declared.message.Verb.TheVariants.{Ntfy}
@@ -9,7 +9,6 @@ use Rattle.endpoint_names.specs.declared.entity.Entity.{Entity}
 use Rattle.endpoint_names.specs.declared.name.Pattern.TheVariants.{One}
 use Rattle.endpoint_names.specs.Name.{name_text}
 use Rattle.event_values.specs.Observed.{observed_text}
-use Rattle.std.specs.Prelude.{codes}
 use Rattle.command_forms.specs.declared.forms.Asks.TheVariants.{Does}
 use Rattle.command_forms.specs.declared.forms.Deed.{Deed}
 use Rattle.command_forms.specs.declared.forms.Target.{Target}
@@ -46,10 +45,10 @@ use Rattle.machine_laws.proofs.NoticeLemmas.{IsDone, IsTold, phoned_done, answer
 use Rattle.machine_laws.proofs.NotificationLemmas.{told_writable}
 use Rattle.plain_machine.proofs.FirstLemmas.{OfItsLine, OfItsCommand, OfItsAnnouncement, due_cases, post_cases}
 use Rattle.machine_laws.proofs.EachLemmas.{Each}
-use Rattle.machine_laws.proofs.LogTurns.{Good, LogTurns, OwnGood}
-use Rattle.machine_laws.proofs.KeepLemmas.{silent_keeps, whole_keeps}
+use Rattle.machine_laws.proofs.LogTurns.{Good, LogTurns, OwnGood, silent_keeps, whole_keeps}
 use Rattle.machine_laws.proofs.PostLogs.{InLog, Logged, Own, PostGood, Posted, announcing_good, command_good, others_stay, own_more, post_still, replied_good, resent_good}
-use Rattle.machine_laws.specs.Saying.{Begun, begun_in}
+use Rattle.plain_machine.specs.Message.{Begun}
+use Rattle.machine_laws.specs.Saying.{begun_in}
 
 pub record LineStands (setup : Setup) (until : ℕ) (log : List Begun) (line : ℕ) (endpoint : Endpoint) : Type 0 where
   pub sound : Sound line endpoint

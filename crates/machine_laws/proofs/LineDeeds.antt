@@ -1,6 +1,6 @@
 -- What a deed does on the lines that it is for, and what decides whether it is done.
-use Rattle.std.proofs.Common.{◌≡◌, ◌≢◌, ℕ, zero, suc, ◌+◌, ◌-◌, ◌<◌, ◌≤◌, Bool, true, false, ◌==◌, if◌then◌else◌, List, [], ◌∷◌, length, get_or, map, filter, Option, Some, None, Result, Ok, Err, inl, inr, refl, sym, ap, ◌∙◌, subst, arith, ⊎_elim}
-use Rattle.std.specs.Prelude.{◌⊎◌, find, slice_get, slice_set, option_map, option_and_then}
+use Rattle.std.proofs.Common.{◌≡◌, ◌≢◌, ℕ, zero, suc, ◌+◌, ◌-◌, ◌<◌, ◌≤◌, Bool, true, false, ◌==◌, if◌then◌else◌, List, [], ◌∷◌, get_or, map, Option, Some, None, Result, Ok, Err, inl, inr, refl, sym, ap, ◌∙◌, subst, arith, ⊎_elim}
+use Rattle.std.specs.Prelude.{◌⊎◌, find, slice_get, option_map, option_and_then}
 use Rattle.std.specs.List.{enumerate_from}
 use Rattle.std.specs.Result.{result_err}
 use Rattle.std.specs.declared.net.socket_addr.SocketAddrV4.{SocketAddrV4}
@@ -28,21 +28,18 @@ use Rattle.command_forms.specs.declared.forms.ConnectionDeed.TheVariants.{Keep, 
 use Rattle.command_forms.specs.declared.forms.Target.{Target}
 use Rattle.command_forms.specs.declared.forms.Target.TheVariants.{One, All, Any}
 use Rattle.command_forms.specs.Command.{Command}
-use Rattle.command_forms.specs.Meaning.{is_for}
 use Rattle.command_forms.specs.Order.{form_while}
 use Rattle.mg_line.specs.Requesting.{refusal_of}
 use Rattle.command_forms.specs.declared.forms.Deed.{Deed}
 use Rattle.plain_machine.specs.declared.setup.Setup.{Setup}
 use Rattle.plain_machine.specs.declared.endpoint.Endpoint.{Endpoint}
 use Rattle.plain_machine.specs.Effect.{Effect, silently}
-use Rattle.plain_machine.specs.Machine.{Endpoints, Machine, serves, endpoint_at, with_turn, on_line, on_lines}
+use Rattle.plain_machine.specs.Machine.{Endpoints, Machine, serves, endpoint_at}
 use Rattle.plain_machine.specs.Answering.{Transaction, executed, refusing, command_with, transaction_of, transacted_by, handled_as, handled}
 use Rattle.plain_machine.specs.Done.{Done, only_answer}
 use Rattle.plain_machine.specs.Connecting.{deleted_shown, showing_what, done_code, connected}
-use Rattle.plain_machine.specs.Requesting.{encoding_with, refusal_by, refusal_on, refused_by, lines_meant, deed_on, deed_on_all, shown_of, answer_with, unless_refused, deed_done, has_place, line_with_place, done_there, done_for}
+use Rattle.plain_machine.specs.Requesting.{encoding_with, refusal_by, refusal_on, refused_by, deed_on, deed_on_all, shown_of, answer_with, unless_refused, deed_done, has_place, line_with_place, done_there, done_for}
 use Rattle.plain_machine.specs.Commanding.{done_by, commanded}
-use Rattle.plain_machine.proofs.EffectLaws.{on_this}
-use Rattle.machine_laws.proofs.FlightLaws.{line_stays}
 use Rattle.machine_laws.proofs.StandingLemmas.{happenings, deed_connections}
 
 -- A command that is refused
@@ -272,102 +269,6 @@ none_decides setup endpoints more deed moment each =
     let none : first_fault (map (refusal_on All deed) (enumerate_from 1 endpoints.list)) ≡ None =
     none_refuses deed 1 endpoints.list (λ place endpoint at. each (1 + place) endpoint (stands_at endpoints (1 + place) place endpoint refl at)) in
     ap (λ (refusal : Option ℕ). (unless_refused refusal endpoints (all_done setup endpoints more deed moment)).told) none
-
--- On which lines it is done
-
-abbrev Apart : ℕ → List ℕ → Type 0
-Apart line [] = Unit {0}
-Apart line (one ∷ more) = (line ≢ one) × Apart line more
-
-others_on : (lines : List ℕ) (endpoints : Endpoints) (turn : ℕ → Endpoint → Effect Endpoint) (line : ℕ) → Apart line lines → endpoint_at (on_lines lines endpoints turn).value line ≡ endpoint_at endpoints line
-unfolding on_lines
-others_on [] endpoints turn line apart = refl
-others_on (one ∷ more) endpoints turn line apart =
-    others_on more (on_line endpoints one (turn one)).value turn line apart.1 ∙ line_stays endpoints one line (turn one) apart.0
-
--- the lines that pass a test
-abbrev Passing : (ℕ → Bool) → ℕ → List Endpoint → List ℕ
-Passing test n list = filter test (map (λ (one : ℕ × Endpoint). one.0) (enumerate_from n list))
-
-passing_apart : (test : ℕ → Bool) (line n : ℕ) (list : List Endpoint) → test line ≡ false → Apart line (Passing test n list)
-passing_apart test line n [] fails = tt
-passing_apart test line n (endpoint ∷ more) fails = ⊎_elim
-    (λ (h : test n ≡ true). rw h ((λ (same : line ≡ n). absurd (let no : test n ≡ false = ap test (sym same) ∙ fails in cc)), passing_apart test line (n + 1) more fails))
-    (λ (h : test n ≡ false). rw h (passing_apart test line (n + 1) more fails))
-    (cases_Bool (test n))
-
-later_apart : (test : ℕ → Bool) (line n : ℕ) (list : List Endpoint) → line < n → Apart line (Passing test n list)
-later_apart test line n [] less = tt
-later_apart test line n (endpoint ∷ more) less = ⊎_elim
-    (λ (h : test n ≡ true). rw h ((λ (same : line ≡ n). omega (arith, same, less)), later_apart test line (n + 1) more (omega (arith, less))))
-    (λ (h : test n ≡ false). rw h (later_apart test line (n + 1) more (omega (arith, less))))
-    (cases_Bool (test n))
-
-put_here : (list : List Endpoint) (place : ℕ) (was is : Endpoint) → slice_get list place ≡ Some was → slice_get (slice_set list place is) place ≡ Some is
-put_here [] place was is at = absurd (none-some was at)
-put_here (first ∷ list) zero was is at = refl
-put_here (first ∷ list) (suc place) was is at = put_here list place was is at
-
-pub turned_here : (endpoints : Endpoints) (line : ℕ) (endpoint : Endpoint) (turn : Endpoint → Effect Endpoint) → endpoint_at endpoints line ≡ Some endpoint
-    → endpoint_at (on_line endpoints line turn).value line ≡ Some (turn endpoint).value
-turned_here endpoints line endpoint turn at =
-    let is = is_at endpoints line endpoint at in
-    let some : 1 ≤ line = is.some in
-    ap (λ told. endpoint_at told.value line) (on_this endpoints line endpoint turn at)
-    ∙ stands_at (with_turn endpoints line (turn endpoint)).value line (line - 1) (turn endpoint).value (omega arith)
-    (put_here endpoints.list (line - 1) endpoint (turn endpoint).value is.here)
-
-same_line : (m n : ℕ) → (m == n) ≡ true → m ≡ n
-same_line m n h = grind (arith, nat_tests)
-
-other_line : (m n : ℕ) → (m == n) ≡ false → m ≢ n
-other_line m n h = grind (arith, nat_tests)
-
-each_on : (test : ℕ → Bool) (n : ℕ) (list : List Endpoint) (endpoints : Endpoints) (turn : ℕ → Endpoint → Effect Endpoint) (line : ℕ) (endpoint : Endpoint) → test line ≡ true → n ≤ line
-    → line < n + length list → endpoint_at endpoints line ≡ Some endpoint → endpoint_at (on_lines (Passing test n list) endpoints turn).value line ≡ Some (turn line endpoint).value
-unfolding on_lines
-each_on test n [] endpoints turn line endpoint passes low high at = absurd (omega arith)
-each_on test n (first ∷ more) endpoints turn line endpoint passes low high at =
-    by_first (λ (becomes : Endpoints) (apart : line ≢ n) (there : endpoint_at becomes line ≡ Some endpoint).
-    each_on test (n + 1) more becomes turn line endpoint passes (omega (arith, low, apart)) (omega (arith, high)) there) (test n) refl where
-      by_line : ((becomes : Endpoints) → line ≢ n → endpoint_at becomes line ≡ Some endpoint
-          → endpoint_at (on_lines (Passing test (n + 1) more) becomes turn).value line ≡ Some (turn line endpoint).value)
-          → (b : Bool) → (line == n) ≡ b → endpoint_at (on_lines (Passing test (n + 1) more) (on_line endpoints n (turn n)).value turn).value line ≡ Some (turn line endpoint).value
-      by_line later true e =
-          let same : line ≡ n = same_line line n e in
-          let here : endpoint_at endpoints n ≡ Some endpoint = ap (endpoint_at endpoints) (sym same) ∙ at in
-          others_on (Passing test (n + 1) more) (on_line endpoints n (turn n)).value turn line (later_apart test line (n + 1) more (omega (arith, same)))
-          ∙ ap (endpoint_at (on_line endpoints n (turn n)).value) same ∙ turned_here endpoints n endpoint (turn n) here
-          ∙ ap (λ (i : ℕ). Some (turn i endpoint).value) (sym same)
-      by_line later false e =
-          let apart : line ≢ n = other_line line n e in
-          later (on_line endpoints n (turn n)).value apart (line_stays endpoints n line (turn n) apart ∙ at)
-
-      by_first : ((becomes : Endpoints) → line ≢ n → endpoint_at becomes line ≡ Some endpoint
-          → endpoint_at (on_lines (Passing test (n + 1) more) becomes turn).value line ≡ Some (turn line endpoint).value)
-          → (b : Bool) → test n ≡ b → endpoint_at (on_lines (Passing test n (first ∷ more)) endpoints turn).value line ≡ Some (turn line endpoint).value
-      by_first later true h = rw h (by_line later (line == n) refl)
-      by_first later false h =
-          let apart : line ≢ n = λ same. absurd (let no : test n ≡ true = ap test (sym same) ∙ passes in cc) in
-          rw h (later endpoints apart at)
-
-inside : (list : List Endpoint) (place : ℕ) (endpoint : Endpoint) → slice_get list place ≡ Some endpoint → place < length list
-inside [] place endpoint at = absurd (none-some endpoint at)
-inside (first ∷ more) zero endpoint at = omega arith
-inside (first ∷ more) (suc place) endpoint at = omega (arith, inside more place endpoint at)
-
-pub done_on_each : (setup : Setup) (endpoints : Endpoints) (target : Target) (deed : Deed) (moment line : ℕ) (endpoint : Endpoint) → is_for target line ≡ true
-    → endpoint_at endpoints line ≡ Some endpoint → endpoint_at (deed_on_all setup endpoints target deed moment).value line ≡ Some (deed_on setup deed moment line endpoint).value
-done_on_each setup endpoints target deed moment line endpoint for at =
-    let is = is_at endpoints line endpoint at in
-    let some : 1 ≤ line = is.some in
-    each_on (is_for target) 1 endpoints.list endpoints (deed_on setup deed moment) line endpoint for some
-    (omega (arith, some, inside endpoints.list (line - 1) endpoint is.here)) at
-
-pub others_are_left : (setup : Setup) (endpoints : Endpoints) (target : Target) (deed : Deed) (moment line : ℕ) → is_for target line ≡ false
-    → endpoint_at (deed_on_all setup endpoints target deed moment).value line ≡ endpoint_at endpoints line
-others_are_left setup endpoints target deed moment line for =
-    others_on (lines_meant endpoints target) endpoints (deed_on setup deed moment) line (passing_apart (is_for target) line 1 endpoints.list for)
 
 -- The line that is chosen
 

@@ -1,6 +1,11 @@
 -- What holds of each endpoint and of the gateway itself beside the commands that began so far, and of all that they send: what
 -- does at each turn.
-use Rattle.std.proofs.Common.{◌≡◌, ◌≢◌, ℕ, zero, suc, ◌+◌, ◌-◌, ◌≤◌, Bool, true, false, ◌==◌, if◌then◌else◌, List, [], ◌∷◌, ◌++◌, Option, Some, None, Result, Ok, Err, inl, inr, refl, sym, ap, ◌∙◌, subst, arith, append-nil, append_assoc}
+use Rattle.std.proofs.Common.{◌≡◌, ℕ, List, ◌++◌, sym, subst, append-nil, ◌≢◌, zero, suc, ◌+◌, ◌-◌, ◌≤◌, Bool, true, false, ◌==◌, if◌then◌else◌, [], ◌∷◌, Option, Some, None, Result, Ok, Err, inl, inr, refl, ap, ◌∙◌, arith, append_assoc}
+use Rattle.plain_machine.specs.Message.{Begun, Sent}
+use Rattle.plain_machine.specs.Effect.{Effect, silently, effect_map, behind}
+use Rattle.plain_machine.specs.Posting.{line_of_id}
+use Rattle.machine_laws.specs.Saying.{begun_in, begun_at}
+use Rattle.machine_laws.proofs.EachLemmas.{Each, each_both, each_weaker}
 use Rattle.std.specs.Prelude.{◌⊎◌, slice_get, slice_set}
 use Rattle.std.proofs.lemmas.Bool.Decides.{Decides-eqb, nat_tests}
 use Rattle.std.proofs.lemmas.Grind.{flat_map-append}
@@ -24,9 +29,6 @@ use Rattle.plain_machine.specs.declared.post.Post.{Post}
 use Rattle.plain_machine.specs.declared.response.Response.{Response}
 use Rattle.plain_machine.specs.declared.setup.Setup.{Setup}
 use Rattle.plain_machine.specs.declared.endpoint.Endpoint.{Endpoint}
-use Rattle.plain_machine.specs.Effect.{Effect, silently, behind}
-use Rattle.plain_machine.specs.Message.{Sent}
-use Rattle.plain_machine.specs.Posting.{line_of_id}
 use Rattle.plain_machine.specs.Announcing.{heard_on, replied_on}
 use Rattle.plain_machine.specs.Machine.{Endpoints, serves, endpoint_at, with_turn, turned_at, on_line, on_own, on_lines}
 use Rattle.plain_machine.specs.Acting.{acted_on, acted}
@@ -38,9 +40,32 @@ use Rattle.plain_machine.specs.Responding.{responded_on, redirected_on, opened_o
 use Rattle.machine_laws.proofs.AllLemmas.{OnAll}
 use Rattle.machine_laws.proofs.TurnLemmas.{of_line}
 use Rattle.plain_machine.proofs.FirstLemmas.{IsDueOn, first_on, by_moment, endpoint_is, post_line, endpoint_line}
-use Rattle.machine_laws.proofs.EachLemmas.{Each, each_both, each_weaker}
-use Rattle.machine_laws.proofs.KeepLemmas.{EffectKeeps}
-use Rattle.machine_laws.specs.Saying.{Begun, begun_at, begun_in}
+
+-- What an effect keeps, beside the commands that began.
+
+-- P of what it is of, Q of what is sent, and L of all that began; what begins with it is under ids of this line
+pub record EffectKeeps {A : Type 0} (P : List Begun → A → Type 0) (Q : List Begun → Sent → Type 0) (L : List Begun → Type 0) (log : List Begun) (line : ℕ) (effect : Effect A) : Type 0 where
+  pub log_holds : L (log ++ begun_in effect.sent)
+  pub of : Each (λ (b : Begun). line_of_id b.id ≡ line) (begun_in effect.sent)
+  pub holds : P (log ++ begun_in effect.sent) effect.value
+  pub sent_holds : Each (Q (log ++ begun_in effect.sent)) effect.sent
+
+-- nothing is sent
+pub silent_keeps : {A : Type 0} (P : List Begun → A → Type 0) (Q : List Begun → Sent → Type 0) (L : List Begun → Type 0) (log : List Begun) (line : ℕ) (value : A)
+    → L log → P log value → EffectKeeps P Q L log line (silently value)
+silent_keeps P Q L log line value logged holds = record {
+  log_holds = subst L (sym (append-nil log)) logged;
+  of = tt;
+  holds = subst (λ (x : List Begun). P x value) (sym (append-nil log)) holds;
+  sent_holds = tt;
+}
+
+-- so is the whole, where it is so by what becomes of its part
+pub whole_keeps : {A B : Type 0} (P : List Begun → A → Type 0) (R : List Begun → B → Type 0) (Q : List Begun → Sent → Type 0) (L : List Begun → Type 0) (log : List Begun) (line : ℕ)
+    (whole : A → B) (effect : Effect A) → (P (log ++ begun_in effect.sent) effect.value → R (log ++ begun_in effect.sent) (whole effect.value)) → EffectKeeps P Q L log line effect
+    → EffectKeeps R Q L log line (effect_map whole effect)
+whole_keeps P R Q L log line whole effect becomes keeps =
+    record { log_holds = keeps.log_holds; of = keeps.of; holds = becomes keeps.holds; sent_holds = keeps.sent_holds }
 
 -- Of all endpoints from this line on
 

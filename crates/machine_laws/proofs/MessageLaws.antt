@@ -1,9 +1,18 @@
 -- Every message that is sent ends in a line end, has no dot line, and is no longer than a datagram may be.
-use Rattle.std.proofs.Common.{◌≡◌, ℕ, ◌+◌, ◌<◌, ◌≤◌, ◌^◌, Bool, true, false, ◌||◌, ◌==◌, if◌then◌else◌, List, [], ◌∷◌, ◌++◌, length, map, codes, Option, Some, None, Result, Ok, Err, refl, sym, ap, ◌∙◌, arith, lit<, ⊎_elim}
-use Rattle.std.specs.Prelude.{All, Any, IfSome, flat_map}
+use Rattle.std.proofs.Common.{◌≡◌, ℕ, ◌<◌, ◌^◌, true, List, [], ◌∷◌, Option, Some, None, refl, arith, ◌+◌, ◌≤◌, Bool, false, ◌||◌, ◌==◌, if◌then◌else◌, ◌++◌, length, map, codes, Result, Ok, Err, sym, ap, ◌∙◌, lit<, ⊎_elim}
+use Rattle.std.specs.Prelude.{is_none, All, Any, IfSome, flat_map}
+use Rattle.std.proofs.lemmas.Bool.{and_parts}
+use Rattle.std.proofs.lemmas.Bool.Decides.{nat_tests}
+use Rattle.gateway_rules.specs.declared.refusal.Refusal.{Refusal}
+use Rattle.plain_machine.specs.declared.setup.Setup.{Setup}
+use Rattle.plain_machine.specs.Event.{GatewayEvent, datagram, phone, tick}
+use Rattle.plain_machine.specs.Machine.{Machine, serves, Endpoints, opening, endpoint_at, numbered}
+use Rattle.plain_machine.specs.Happening.{effect}
+use Rattle.plain_machine.specs.Refusing.{refusal_of, tick_refusal}
+use Rattle.plain_machine.specs.Lists.{machine_after, are_taken, outputs_from, sent_from}
+use Rattle.plain_machine.proofs.EffectLaws.{effect_now, effect_lines, handled_lines}
 use Rattle.std.specs.Fmt.{decimal}
 use Rattle.std.specs.List.{list_all, slice_index_or}
-use Rattle.std.proofs.lemmas.Bool.Decides.{nat_tests}
 use Rattle.std.proofs.lemmas.Fmt.{length-decimal-le}
 use Rattle.std.proofs.lemmas.Grind.{flat_map-append}
 use Rattle.std.specs.Cmp.Derive.{both_true}
@@ -36,13 +45,10 @@ use Rattle.command_forms.specs.declared.forms.AuditTarget.{AuditTarget}
 use Rattle.command_forms.specs.declared.forms.AuditTarget.TheVariants as audits
 use Rattle.command_forms.specs.declared.forms.Target.{Target}
 use Rattle.command_forms.specs.declared.forms.Target.TheVariants.{One, All as AllLines, Any as AnyLine}
-use Rattle.plain_machine.specs.declared.setup.Setup.{Setup}
 use Rattle.plain_machine.specs.declared.endpoint.Endpoint.{Endpoint}
 use Rattle.transmission.specs.declared.output.OutDatagram.{OutDatagram}
 use Rattle.plain_machine.specs.Effect.{Effect}
-use Rattle.plain_machine.specs.Event.{GatewayEvent, datagram, phone, tick}
 use Rattle.plain_machine.specs.Message.{Sent, of_none, answer as answers, again, acknowledgement, datagram_of, datagrams_of}
-use Rattle.plain_machine.specs.Machine.{serves, Endpoints, Machine, opening, endpoint_at, numbered}
 use Rattle.transmission.specs.Texts.{largest_datagram, texts_of}
 use Rattle.transmission.specs.Packing.{messages_in}
 use Rattle.plain_machine.specs.Packing.{put_out}
@@ -72,7 +78,6 @@ use Rattle.plain_machine.specs.Requesting.{encoding_with, refused_by, shown_on, 
 use Rattle.plain_machine.specs.Commanding.{reported, audited, answer_by, done_by, commanded}
 use Rattle.machine_laws.proofs.CommandLaws.{Goes, IsOut, Sound, OwnSound, sound_turns, sound_own_turns, opening_is_sound}
 use Rattle.machine_laws.proofs.TurnLemmas.{Always, Holds, response_read, of_line, acted_goes, responded_goes, pass_goes, command_goes, handled_on_all, event_on_all}
-use Rattle.plain_machine.proofs.EffectLaws.{effect_lines, handled_lines}
 use Rattle.plain_machine.proofs.ListLaws.{lines_of_opening}
 use Rattle.plain_machine.proofs.CodeLemmas.{IsCode, refusal_code}
 use Rattle.plain_machine.proofs.NameLemmas.{line_writable, names_writable}
@@ -83,9 +88,29 @@ use Rattle.machine_laws.proofs.ShownLimits.{IsShown, nothing_is, connected_is, l
 use Rattle.plain_machine.specs.Answering.{Transaction, response_to, answer_text, reply, executed, transacted_by, refusing, handled, took_all}
 use Rattle.transmission.specs.Acknowledging.{asks_for_acknowledgement}
 use Rattle.plain_machine.specs.Responding.{response_with, acknowledged}
-use Rattle.plain_machine.specs.Happening.{effect}
-use Rattle.plain_machine.specs.Lists.{outputs_from, sent_from}
 use Rattle.transmission.proofs.PackingLaws.{IsMessage, IsWithin, packed_messages, packed_within}
+
+-- Moments stay below the end of time.
+
+pub ticks_below : (now moment : ℕ) → tick_refusal now moment ≡ None → moment < 2 ^ 62
+ticks_below now moment none = grind (arith, nat_tests)
+
+pub none_there : (o : Option Refusal) → is_none o ≡ true → o ≡ None
+none_there None is = refl
+none_there (Some refusal) is = absurd cc
+
+now_below : (setup : Setup) (m : Machine) (event : GatewayEvent) → m.now < 2 ^ 62 → refusal_of m event ≡ None → (effect setup m event).value.now < 2 ^ 62
+unfolding refusal_of
+now_below setup m (datagram source bytes) lt none = rw (effect_now setup m (datagram source bytes)) lt
+now_below setup m (phone line act) lt none = rw (effect_now setup m (phone line act)) lt
+now_below setup m (tick moment) lt none = rw (effect_now setup m (tick moment)) (ticks_below m.now moment none)
+
+pub clock_below : (setup : Setup) (m : Machine) (events : List GatewayEvent) → m.now < 2 ^ 62 → are_taken setup m events ≡ true → (machine_after setup m events).now < 2 ^ 62
+unfolding machine_after are_taken
+clock_below setup m [] lt taken = lt
+clock_below setup m (event ∷ events) lt taken =
+    let parts = and_parts (is_none (refusal_of m event)) (are_taken setup (effect setup m event).value events) taken in
+    clock_below setup (effect setup m event).value events (now_below setup m event lt (none_there (refusal_of m event) parts.0)) parts.1
 
 -- An answer
 

@@ -14,11 +14,10 @@ use Rattle.plain_machine.specs.Falling.{due_on, post_due, due_at, due_by, if_by,
 use Rattle.plain_machine.proofs.EffectLaws.{either_own, either_line, on_this, on_nothing}
 use Rattle.plain_machine.proofs.FirstLemmas.{item_same, first_at, none_by}
 use Rattle.plain_machine.proofs.FallingLaws.{left, left_falls, pass_none, pass_some}
-use Rattle.machine_laws.proofs.LineLemmas.{this_turns}
+use Rattle.machine_laws.proofs.OwningLemmas.{this_turns, of_both, owned_here, owned_elsewhere, happened_owned, own_happened_owned, happening_owned}
 use Rattle.machine_laws.proofs.WaitLaws.{others_wait, own_waits}
 use Rattle.machine_laws.specs.Belonging.{of_line}
 use Rattle.machine_laws.specs.Passing.{seen, PassesAlone, rests, goes_on, line_due, line_happens, own_happens}
-use Rattle.machine_laws.proofs.OwningLemmas.{of_both, owned_here, owned_elsewhere, happened_owned, own_happened_owned, happening_owned}
 
 -- What is seen of the endpoints goes on by itself
 

@@ -1,9 +1,13 @@
 -- What is sent under a post: its commands, each under an id of its own, and again for less than 20,000 ms.
-use Rattle.std.proofs.Common.{◌≡◌, ◌≢◌, ℕ, ◌+◌, ◌-◌, ◌<◌, ◌≤◌, Bool, true, ◌==◌, ◌&&◌, if◌then◌else◌, List, [], ◌∷◌, ◌++◌, length, Option, Some, None, inl, inr, refl, sym, ap, ◌∙◌, subst, arith, append-nil, codes}
-use Rattle.std.specs.Prelude.{AllPairs, IfSome, filter, option_map}
+use Rattle.std.proofs.Common.{◌≡◌, ◌≢◌, ℕ, ◌+◌, ◌%◌, ◌<◌, ◌≤◌, Bool, true, false, ◌==◌, if◌then◌else◌, inl, inr, refl, arith, ◌-◌, ◌&&◌, List, [], ◌∷◌, ◌++◌, length, Option, Some, None, sym, ap, ◌∙◌, subst, append-nil, codes, ◌/◌}
+use Rattle.std.proofs.lemmas.Bool.{eqb-true, and_from, eq-eqb, ne_eqb, cases_lt}
+use Rattle.plain_machine.specs.declared.setup.Setup.{Setup}
+use Rattle.plain_machine.specs.Setup.{firsts, IsSetUp, most_lines}
+use Rattle.plain_machine.specs.Posting.{numbers, first_number, number_after, id_on, line_of_id, with_command, given_up, repeated_as, resent_by, resent_on}
+use Rattle.machine_laws.specs.Numbering.{start_on, IsBehind, IsTaken, IsInTurn}
+use Rattle.std.specs.Prelude.{AllPairs, IfSome, filter, option_map, ◌⊎◌}
 use Rattle.std.specs.Option.{unwrap_or}
 use Rattle.std.specs.Str.{bytes_eq}
-use Rattle.std.proofs.lemmas.Bool.{and_from, eq-eqb, ne_eqb}
 use Rattle.std.proofs.lemmas.Slice.Eq.{bytes_eq-Decides}
 use Rattle.std.proofs.lemmas.Nat.{div-mul-add}
 use Rattle.std.proofs.lemmas.List.{length-append}
@@ -30,21 +34,67 @@ use Rattle.restart.specs.declared.heard.Heard.{Heard}
 use Rattle.restart.specs.declared.heard.Heard.TheVariants.{Nothing, PutOff, Redirected, Answered}
 use Rattle.plain_machine.specs.declared.post.Post.{Post}
 use Rattle.plain_machine.specs.declared.response.Response.{Response}
-use Rattle.plain_machine.specs.declared.setup.Setup.{Setup}
 use Rattle.plain_machine.specs.Effect.{Effect, silently}
-use Rattle.plain_machine.specs.Setup.{IsSetUp, most_lines}
-use Rattle.plain_machine.specs.Message.{own_of, command, resent, Sent, text_of}
-use Rattle.plain_machine.specs.Posting.{numbers, first_number, number_after, id_on, line_of_id, with_command, given_up, repeated_as, resent_by, resent_on}
+use Rattle.plain_machine.specs.Message.{Begun, own_of, command, resent, Sent, text_of}
 use Rattle.plain_machine.specs.Announcing.{announced_lines, method_of, announcement, announced, announced_by, announced_on, put_off, replied}
 use Rattle.machine_laws.proofs.FlightLaws.{next_below}
-use Rattle.machine_laws.proofs.GoingRound.{start_below, behind_next, taken_apart, taken_more}
-use Rattle.machine_laws.proofs.AnnouncementLemmas.{announcement_writable}
+use Rattle.machine_laws.proofs.NotificationLemmas.{announcement_writable}
 use Rattle.machine_laws.proofs.EachLemmas.{Each, EachAfter, all_from_each, each_after_push, each_both, each_push, each_weaker, one_before, one_behind, one_weaker}
-use Rattle.machine_laws.proofs.KeepLemmas.{EffectKeeps, silent_keeps}
+use Rattle.machine_laws.proofs.LogTurns.{EffectKeeps, silent_keeps}
 use Rattle.machine_laws.proofs.FlightLemmas.{IsSame}
-use Rattle.machine_laws.specs.Numbering.{start_on, IsBehind, IsInTurn, IsTaken}
 use Rattle.outbound.specs.Issued.{is_command_as}
-use Rattle.machine_laws.specs.Saying.{Carries, Begun, OneOf, count_of}
+use Rattle.machine_laws.specs.Saying.{Carries, OneOf, count_of}
+use Rattle.small_rules.specs.Numbering.{first_at}
+use Rattle.machine_laws.specs.Starting.{BeganUnder, longest_life, safe_time, shortest_life}
+
+-- The numbers of a line's commands, in turn: from where they begin, and behind the greatest from the least on.
+
+pub first_low : (line : ℕ) → first_number line ≤ 1
+first_low line = by_test (line == 0) where
+  by_test : (b : Bool) → (if b then 1 else 0) ≤ 1
+  by_test true = omega arith
+  by_test false = omega arith
+
+pub start_below : (setup : Setup) (line : ℕ) → start_on setup line < numbers
+start_below setup line = let low = first_low line in omega (arith, low)
+
+none_more : (n : ℕ) → n + 0 ≡ n
+none_more n = omega arith
+
+-- a line that began nothing has its start next
+pub begins_there : (setup : Setup) (line : ℕ) → 1 ≤ line → start_on setup line + 0 ≡ setup.first % firsts
+begins_there setup line some = by_test (line == 0) refl where
+  by_test : (b : Bool) → (line == 0) ≡ b → (if b then 1 else 0) + setup.first % firsts + 0 ≡ setup.first % firsts
+  by_test true same = absurd (let none = eqb-true line 0 same in omega (arith, some, none))
+  by_test false other = omega arith
+
+pub own_begins_there : (setup : Setup) → start_on setup 0 + 0 ≡ 1 + setup.first % firsts
+own_begins_there setup = none_more (1 + setup.first % firsts)
+
+-- one more
+pub behind_next : (line start count number : ℕ) → start < numbers → first_number line + (count + 1) < numbers → IsBehind line start count number
+    → IsBehind line start (count + 1) (number_after line number)
+behind_next line start count number low few behind = by_test (number + 1 == numbers) refl behind where
+  by_test : (b : Bool) → (number + 1 == numbers) ≡ b → IsBehind line start count number → IsBehind line start (count + 1) (if b then first_number line else number + 1)
+  by_test true e (inl one) = inr (let last = eqb-true (number + 1) numbers e in omega (arith, last, one))
+  by_test true e (inr over) = absurd (let last = eqb-true (number + 1) numbers e in omega (arith, last, over, low, few))
+  by_test false e (inl one) = inl (omega (arith, one))
+  by_test false e (inr over) = inr (omega (arith, over))
+
+pub taken_more : (line start count more id : ℕ) → count ≤ more → IsTaken line start count id → IsTaken line start more id
+taken_more line start count more id all t = record { place = t.place; number = t.number; fewer = omega (arith, all, t.fewer); behind = t.behind; is = t.is }
+
+-- while not all are used up the next is none of those
+pub taken_apart : (line start count number id : ℕ) → first_number line + count < numbers → IsBehind line start count number → IsTaken line start count id → id ≢ id_on line number
+taken_apart line start count number id few behind t = λ same. by_case t.behind behind (one_number t.is same) where
+  one_number : id ≡ id_on line t.number → id ≡ id_on line number → t.number ≡ number
+  one_number one two = omega (arith, one, two)
+
+  by_case : IsBehind line start t.place t.number → IsBehind line start count number → t.number ≡ number → ⊥
+  by_case (inl one) (inl two) same = omega (arith, one, two, same, t.fewer)
+  by_case (inl one) (inr two) same = omega (arith, one, two, same, few)
+  by_case (inr one) (inl two) same = omega (arith, one, two, same, few, t.fewer)
+  by_case (inr one) (inr two) same = omega (arith, one, two, same, t.fewer)
 
 -- a command of a gateway's own: it is read as a command with its id, and began by this moment
 pub record WasBegun (until : ℕ) (one : Begun) : Type 0 where
@@ -311,3 +361,45 @@ replied_good (Redirected agent) setup until log line response post set_up few so
 replied_good (Answered agent) setup until log line response post set_up few some logged s =
     post_still setup until log line (record post { entity = unwrap_or agent post.entity; pending = None; restart = Serving }) logged
     (record { below = s.below; counts = s.counts; flight = tt })
+
+-- Two starts have first numbers so far apart that no number comes again too soon.
+
+-- so much more than a number, among those with which ids may begin
+abbrev IsMore : ℕ → ℕ → ℕ → Type 0
+IsMore first next more = (next ≡ first + more) ⊎ (next + firsts ≡ first + more)
+
+rounded : (number more : ℕ) → more < firsts → IsMore (number % firsts) ((number + more) % firsts) more
+rounded number more few = by_case (cases_lt (number % firsts + more) firsts) where
+  by_case : (number % firsts + more < firsts) ⊎ (firsts ≤ number % firsts + more) → IsMore (number % firsts) ((number + more) % firsts) more
+  by_case (inl low) = inl (omega (arith, low))
+  by_case (inr high) = inr (omega (arith, high, few))
+
+-- a number of both comes in the later one after almost all others
+far_behind : (line first next more place other number : ℕ) → place < more → IsMore first next more → IsBehind line (first_number line + first) place number
+    → IsBehind line (first_number line + next) other number → firsts ≤ other + more
+far_behind line first next more place other number before greater one two = by_case (first_low line) greater one two where
+  by_case : first_number line ≤ 1 → IsMore first next more → IsBehind line (first_number line + first) place number → IsBehind line (first_number line + next) other number
+      → firsts ≤ other + more
+  by_case low (inl on) (inl here) (inl there) = omega (arith, on, here, there, before)
+  by_case low (inl on) (inl here) (inr there) = omega (arith, on, here, there, low)
+  by_case low (inl on) (inr here) (inl there) = omega (arith, on, here, there, before, low)
+  by_case low (inl on) (inr here) (inr there) = omega (arith, on, here, there, before)
+  by_case low (inr round) (inl here) (inl there) = omega (arith, round, here, there)
+  by_case low (inr round) (inl here) (inr there) = omega (arith, round, here, there, low)
+  by_case low (inr round) (inr here) (inl there) = omega (arith, round, here, there, before, low)
+  by_case low (inr round) (inr here) (inr there) = omega (arith, round, here, there)
+
+pub starts_apart : (line earlier moment later again number : ℕ) → earlier + shortest_life ≤ later → moment ≤ later → moment ≤ earlier + longest_life
+    → BeganUnder line earlier moment number → BeganUnder line later again number → moment + safe_time ≤ again
+starts_apart line earlier moment later again number apart over within one two = by_case (cases_lt later (moment + safe_time)) where
+  near : (more : ℕ) → earlier / 50 + more ≡ later / 50 → later < moment + safe_time → moment + safe_time ≤ again
+  near more sum soon =
+      let few : more < 8641202 = omega (arith, sum, soon, within) in
+      let before : one.place < more = omega (arith, sum, apart, over, one.since, one.few) in
+      let greater = subst (λ (n : ℕ). IsMore (first_at earlier) (n % firsts) more) sum (rounded (earlier / 50) more (omega (arith, few))) in
+      let far : firsts ≤ two.place + more = far_behind line (first_at earlier) (first_at later) more one.place two.place number before greater one.behind two.behind in
+      omega (arith, far, few, over, two.since, two.few)
+
+  by_case : (later < moment + safe_time) ⊎ (moment + safe_time ≤ later) → moment + safe_time ≤ again
+  by_case (inl soon) = near (later / 50 - earlier / 50) (omega (arith, apart)) soon
+  by_case (inr late) = omega (arith, late, two.since)

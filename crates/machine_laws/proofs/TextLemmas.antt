@@ -27,7 +27,7 @@ use Rattle.plain_machine.specs.Answering.{line_of_name, reply, Transaction, tran
 use Rattle.machine_laws.specs.Belonging.{is_of, of_line}
 use Rattle.machine_laws.specs.OwnEvents.{is_another, line_read}
 use Rattle.machine_laws.proofs.ThinningLemmas.{Thins, thins_both, thins_left, told_same}
-use Rattle.machine_laws.proofs.AlikeLemmas.{AreAlike, ToldAlike, heard_alike}
+use Rattle.machine_laws.proofs.AnnouncementLaws.{AreAlike, ToldAlike, heard_alike}
 use Rattle.machine_laws.proofs.DeedLemmas.{DoneAlike, only_alike, command_alike, command_elsewhere}
 use Rattle.machine_laws.proofs.FittingWords.{Agree, Matches, IsApart, Fits, FindsRoom}
 

@@ -1,31 +1,23 @@
 -- Lines wait for the answer to their command, at each thing that happens.
-use Rattle.std.proofs.Common.{◌≡◌, ◌≢◌, ℕ, suc, ◌+◌, Bool, true, false, ◌==◌, if◌then◌else◌, List, [], ◌∷◌, Option, Some, refl, sym, ap, ◌∙◌, subst, arith}
-use Rattle.std.specs.Prelude.{All, IfSome, option_map}
+use Rattle.std.proofs.Common.{◌≡◌, ◌≢◌, ℕ, suc, ◌+◌, Bool, true, false, ◌==◌, if◌then◌else◌, List, [], ◌∷◌, Some, refl, subst, arith}
 use Rattle.std.proofs.lemmas.Bool.Decides.{Decides-eqb}
 use Rattle.std.specs.declared.net.socket_addr.SocketAddrV4.{SocketAddrV4}
-use Rattle.outbound.specs.Flight.{InFlight}
 use Rattle.mgcp_text.specs.Reading.{Outcome, read_text}
-use Rattle.timers.specs.declared.kind.LineDue.{LineDue}
 use Rattle.mg_line.specs.declared.phone.Act.{Act}
-use Rattle.timers.specs.declared.kind.DueKind.{DueKind}
-use Rattle.timers.specs.declared.kind.DueKind.TheVariants.{OfLine, Resend}
 use Rattle.timers.specs.declared.due_item.DueItem.{DueItem}
 use Rattle.plain_machine.specs.declared.setup.Setup.{Setup}
 use Rattle.plain_machine.specs.declared.endpoint.Endpoint.{Endpoint}
-use Rattle.plain_machine.specs.Effect.{Effect}
 use Rattle.plain_machine.specs.Acting.{acted}
 use Rattle.plain_machine.specs.Answering.{handled, took_all}
 use Rattle.plain_machine.specs.Event.{GatewayEvent}
 use Rattle.plain_machine.specs.Falling.{happened_on, happened_under, happened, pass}
-use Rattle.plain_machine.specs.Flights.{IsSame, Carries}
 use Rattle.plain_machine.specs.Lists.{plain}
 use Rattle.plain_machine.specs.Machine.{Endpoints, Machine, serves, opening, endpoint_at, on_line, on_own}
 use Rattle.machine_laws.proofs.AllLemmas.{OnAll}
-use Rattle.plain_machine.proofs.EffectLaws.{either_own, either_line, some_line, on_this}
-use Rattle.machine_laws.proofs.FlightLaws.{Orders, OwnOrders, opening_orders, all_order, orders_acted, orders_happened, orders_passed, orders_handled, in_order, order_waits, no_command_when_due, repeat_carries, repeat_keeps, own_carries, own_keeps}
+use Rattle.machine_laws.proofs.FlightLaws.{Orders, OwnOrders, opening_orders, all_order, orders_acted, orders_passed, orders_handled, in_order}
 use Rattle.machine_laws.proofs.TurnLemmas.{Holds, of_line}
-use Rattle.machine_laws.specs.Waiting.{in_flight, KeepOrder}
-use Rattle.machine_laws.proofs.LineLemmas.{others_stay_on, own_stays_on, this_turns, AreThere, all_there}
+use Rattle.machine_laws.specs.Waiting.{KeepOrder}
+use Rattle.machine_laws.proofs.OwningLemmas.{others_stay_on, own_stays_on, AreThere, all_there}
 
 -- All lines
 
@@ -67,10 +59,6 @@ pub acts_wait : (setup : Setup) (endpoints : Endpoints) (line moment : ℕ) (act
 acts_wait setup endpoints line moment act keep =
     each_in_order (acted setup endpoints line moment act).value (orders_acted setup endpoints line moment act (all_in_order endpoints keep))
 
-pub dues_wait : (setup : Setup) (endpoints : Endpoints) (item : DueItem) → KeepOrder endpoints → KeepOrder (happened setup endpoints item).value
-dues_wait setup endpoints item keep =
-    each_in_order (happened setup endpoints item).value (orders_happened setup endpoints item (all_in_order endpoints keep))
-
 pub pass_waits : (setup : Setup) (endpoints : Endpoints) (moment : ℕ) → KeepOrder endpoints → KeepOrder (pass setup endpoints moment).value
 pass_waits setup endpoints moment keep =
     each_in_order (pass setup endpoints moment).value (orders_passed setup endpoints moment (all_in_order endpoints keep))
@@ -87,46 +75,6 @@ texts_wait setup m source (text ∷ texts) keep =
 
 -- What falls due on a line whose command is in flight
 
--- it happens on the line
-on_the_line : (setup : Setup) (endpoints : Endpoints) (item : DueItem) (endpoint : Endpoint) → endpoint_at endpoints item.line ≡ Some endpoint
-    → happened setup endpoints item ≡ on_line endpoints item.line (happened_on item.kind setup item.line item.moment)
-on_the_line setup endpoints item endpoint at =
-    either_line endpoints item.line (happened_under item.kind setup 0 item.moment) (happened_on item.kind setup item.line item.moment) (some_line endpoints item.line endpoint at)
-
-line_turned : (setup : Setup) (endpoints : Endpoints) (item : DueItem) (due : DueKind) (endpoint : Endpoint) → item.kind ≡ due → endpoint_at endpoints item.line ≡ Some endpoint
-    → endpoint_at (happened setup endpoints item).value item.line ≡ Some (happened_on due setup item.line item.moment endpoint).value
-line_turned setup endpoints item due endpoint is at =
-    ap (λ (x : Effect Endpoints). endpoint_at x.value item.line) (on_the_line setup endpoints item endpoint at)
-    ∙ this_turns endpoints item.line (happened_on item.kind setup item.line item.moment)
-    ∙ ap (option_map (λ (s : Endpoint). (happened_on item.kind setup item.line item.moment s).value)) at
-    ∙ ap (λ (which : DueKind). Some (happened_on which setup item.line item.moment endpoint).value) is
-
-line_sent : (setup : Setup) (endpoints : Endpoints) (item : DueItem) (due : DueKind) (endpoint : Endpoint) → item.kind ≡ due → endpoint_at endpoints item.line ≡ Some endpoint
-    → (happened setup endpoints item).sent ≡ (happened_on due setup item.line item.moment endpoint).sent
-line_sent setup endpoints item due endpoint is at =
-    ap (λ (x : Effect Endpoints). x.sent) (on_the_line setup endpoints item endpoint at ∙ on_this endpoints item.line endpoint (happened_on item.kind setup item.line item.moment) at)
-    ∙ ap (λ (which : DueKind). (happened_on which setup item.line item.moment endpoint).sent) is
-
-pub line_silent : (setup : Setup) (endpoints : Endpoints) (item : DueItem) (due : LineDue) (endpoint : Endpoint) (message : InFlight) → KeepOrder endpoints → item.kind ≡ OfLine due
-    → endpoint_at endpoints item.line ≡ Some endpoint → in_flight endpoint ≡ Some message
-    → ((happened setup endpoints item).sent ≡ [])
-    × IfSome (endpoint_at (happened setup endpoints item).value item.line) (λ after. in_flight after ≡ Some message)
-line_silent setup endpoints item due endpoint message are is at flight =
-    let begins = no_command_when_due setup due item.line item.moment endpoint message (order_waits (serves endpoints) item.line endpoint (are.order.lines item.line endpoint at)) flight in (
-      line_sent setup endpoints item (OfLine due) endpoint is at ∙ begins.sent,
-      subst (λ (x : Option Endpoint). IfSome x (λ after. in_flight after ≡ Some message)) (sym (line_turned setup endpoints item (OfLine due) endpoint is at)) (begins.pending ∙ flight),
-    )
-
-pub command_again : (setup : Setup) (endpoints : Endpoints) (item : DueItem) (endpoint : Endpoint) (message : InFlight) → item.kind ≡ Resend
-    → endpoint_at endpoints item.line ≡ Some endpoint → in_flight endpoint ≡ Some message
-    → All (Carries item.line (message.repeats + 1) message) (happened setup endpoints item).sent
-    × IfSome (endpoint_at (happened setup endpoints item).value item.line) (λ after. IfSome (in_flight after) (IsSame message))
-command_again setup endpoints item endpoint message is at flight = (
-  subst (All (Carries item.line (message.repeats + 1) message)) (sym (line_sent setup endpoints item Resend endpoint is at)) (repeat_carries setup item.line item.moment endpoint message flight),
-  subst (λ (x : Option Endpoint). IfSome x (λ after. IfSome (in_flight after) (IsSame message))) (sym (line_turned setup endpoints item Resend endpoint is at))
-      (repeat_keeps setup item.line item.moment endpoint message flight),
-)
-
 pub others_wait : (setup : Setup) (endpoints : Endpoints) (item : DueItem) (other : ℕ) → other ≢ item.line
     → endpoint_at (happened setup endpoints item).value other ≡ endpoint_at endpoints other
 others_wait setup endpoints item other apart = by_test (item.line == 0) where
@@ -137,22 +85,6 @@ others_wait setup endpoints item other apart = by_test (item.line == 0) where
   by_test false = others_stay_on endpoints item.line other (happened_on item.kind setup item.line item.moment) apart
 
 -- The gateway itself
-
-abbrev AtOwn : Setup → Endpoints → DueItem → Type 0
-AtOwn setup endpoints item = happened setup endpoints item ≡ on_own endpoints (happened_under item.kind setup 0 item.moment)
-
-at_own : (setup : Setup) (endpoints : Endpoints) (item : DueItem) → item.line ≡ 0 → AtOwn setup endpoints item
-at_own setup endpoints item is =
-    either_own endpoints item.line (happened_under item.kind setup 0 item.moment) (happened_on item.kind setup item.line item.moment) ((Decides-eqb item.line 0).1 is)
-
-pub own_again : (setup : Setup) (endpoints : Endpoints) (item : DueItem) (message : InFlight) → item.kind ≡ Resend → item.line ≡ 0
-    → endpoints.own.pending ≡ Some message
-    → All (Carries 0 (message.repeats + 1) message) (happened setup endpoints item).sent × IfSome (happened setup endpoints item).value.own.pending (IsSame message)
-own_again setup endpoints item message is line flight =
-    let here : happened setup endpoints item ≡ on_own endpoints (happened_under Resend setup 0 item.moment) =
-    at_own setup endpoints item line ∙ ap (λ (which : DueKind). on_own endpoints (happened_under which setup 0 item.moment)) is in
-    subst (λ (x : Effect Endpoints). All (Carries 0 (message.repeats + 1) message) x.sent × IfSome x.value.own.pending (IsSame message)) (sym here)
-    (own_carries setup item.moment endpoints.own message flight, own_keeps setup item.moment endpoints.own message flight)
 
 pub own_waits : (setup : Setup) (endpoints : Endpoints) (item : DueItem) → item.line ≢ 0 → (happened setup endpoints item).value.own ≡ endpoints.own
 own_waits setup endpoints item apart = by_test (item.line == 0) refl where

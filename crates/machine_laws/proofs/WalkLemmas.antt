@@ -1,27 +1,88 @@
 -- What holds of all that arrived holds of each text as it comes.
-use Rattle.std.proofs.Common.{◌≡◌, ◌≢◌, ℕ, Bool, true, false, ◌&&◌, if◌then◌else◌, List, [], ◌∷◌, ◌++◌, map, Option, Some, None, refl, sym, ap, subst, ◌∙◌, append-nil}
-use Rattle.std.specs.Prelude.{fold, IfSome, not}
-use Rattle.std.proofs.lemmas.Bool.{and_parts}
+use Rattle.std.proofs.Common.{◌≡◌, ℕ, List, [], ◌∷◌, ◌++◌, map, Option, Some, None, refl, sym, ap, ◌∙◌, ◌≢◌, Bool, true, false, ◌&&◌, if◌then◌else◌, subst, append-nil}
+use Rattle.std.specs.Prelude.{flat_map, fold, IfSome, not}
+use Rattle.std.proofs.lemmas.Grind.{flat_map-append}
+use Rattle.std.proofs.lemmas.List.{map-append}
 use Rattle.std.specs.declared.net.socket_addr.SocketAddrV4.{SocketAddrV4}
-use Rattle.mgcp_text.specs.Reading.{Outcome, read_text}
 use Rattle.history.specs.Arrival.{Arrival}
+use Rattle.mgcp_text.specs.declared.message.Message.TheVariants as messages
+use Rattle.mgcp_text.specs.Reading.{Outcome, message, no_header, bad_version, bad_body, read_text}
+use Rattle.plain_machine.specs.declared.setup.Setup.{Setup}
+use Rattle.plain_machine.specs.Event.{GatewayEvent, datagram, phone, tick}
+use Rattle.plain_machine.specs.Machine.{Machine}
+use Rattle.transmission.specs.Texts.{texts_of}
+use Rattle.plain_machine.specs.Arriving.{arrival, arrivals_at, arrivals_from, clock_after, TextArrival}
+use Rattle.plain_machine.specs.Answering.{Transaction, transaction_of, handled}
+use Rattle.plain_machine.specs.Transactions.{command_arrival, arriving, commands_in, commands_with, commands_from, Asked, asked_as, asked}
+use Rattle.plain_machine.specs.Happening.{effect}
+use Rattle.plain_machine.proofs.EffectLaws.{handled_now, effect_now}
+use Rattle.std.proofs.lemmas.Bool.{and_parts}
 use Rattle.history.specs.Memory.{most_firsts}
 use Rattle.history.specs.Firsts.{Kind, a_first, a_repeat, lost, kind_of, firsts_with, firsts_of}
 use Rattle.history.specs.Answers.{is_confirmed}
 use Rattle.history.specs.Looking.{new, repeat, confirmed, full, look_of, told_as}
-use Rattle.transmission.specs.Texts.{texts_of}
-use Rattle.plain_machine.specs.declared.setup.Setup.{Setup}
-use Rattle.plain_machine.specs.Event.{GatewayEvent, datagram, phone, tick}
-use Rattle.plain_machine.specs.Machine.{Machine}
-use Rattle.plain_machine.specs.Arriving.{TextArrival, arrival, arrivals_at, clock_after, arrivals_from}
-use Rattle.plain_machine.specs.Answering.{Transaction, transaction_of, handled}
-use Rattle.plain_machine.specs.Happening.{effect}
-use Rattle.plain_machine.specs.Transactions.{command_arrival, arriving, commands_in, commands_with, commands_from}
-use Rattle.plain_machine.proofs.EffectLaws.{handled_now, effect_now}
 use Rattle.machine_laws.proofs.TransactionLaws.{Keeps, looked, arrived_on, event_on}
 use Rattle.machine_laws.proofs.EachLemmas.{Each, each_front, each_back}
 use Rattle.machine_laws.specs.Apart.{is_lost, none_lost}
 use Rattle.machine_laws.proofs.FittingWords.{Fits, FindsRoom, TextsFit, EventFits, EventsFit}
+
+-- The answers that are sent are those that the commands which arrived get.
+
+-- what is asked, as a list
+
+abbrev asked_by : Machine → SocketAddrV4 → Option Transaction → List Asked
+asked_by m source None = []
+asked_by m source (Some t) = (record { source = source; moment = m.now; id = t.id; confirms = t.confirms }) ∷ []
+
+asked_is : (setup : Setup) (m : Machine) (source : SocketAddrV4) (outcome : Outcome) → asked_as source m.now outcome ≡ asked_by m source (transaction_of setup m outcome)
+asked_is setup m source no_header = refl
+asked_is setup m source (bad_version id) = refl
+asked_is setup m source (bad_body id) = refl
+asked_is setup m source (message (messages.Command verb id name params body)) = refl
+asked_is setup m source (message (messages.Response code id params body)) = refl
+
+-- The commands by what arrived alone
+
+-- what is the same of a command as it arrives and as it is asked
+abbrev Matches : {X : Type 0} → (Arrival → X) → (Asked → X) → Type 0
+Matches F G = (m : Machine) (source : SocketAddrV4) (t : Transaction) → F (command_arrival m t) ≡ G (record { source = source; moment = m.now; id = t.id; confirms = t.confirms })
+
+found_matches : {X : Type 0} (F : Arrival → X) (G : Asked → X) → Matches F G → (m : Machine) (source : SocketAddrV4) (found : Option Transaction) → map F (arriving m found) ≡ map G (asked_by m source found)
+found_matches F G same m source None = refl
+found_matches F G same m source (Some t) = rw (same m source t) refl
+
+texts_match : {X : Type 0} (F : Arrival → X) (G : Asked → X) → Matches F G → (setup : Setup) (m : Machine) (source : SocketAddrV4) (texts : List (List ℕ))
+    → map F (commands_in setup m source texts) ≡ map G (flat_map asked (map (arrival m.now source) texts))
+unfolding commands_in
+texts_match F G same setup m source [] = refl
+texts_match F G same setup m source (text ∷ texts) =
+    let found = transaction_of setup m (read_text text) in
+    let next = (handled setup m source (read_text text)).value in
+    map-append F (arriving m found) (commands_in setup next source texts)
+    ∙ ap (λ x. x ++ map F (commands_in setup next source texts)) (found_matches F G same m source found ∙ ap (map G) (sym (asked_is setup m source (read_text text))))
+    ∙ ap (λ x. map G (asked (arrival m.now source text)) ++ x) (texts_match F G same setup next source texts)
+    ∙ ap (λ (now : ℕ). map G (asked (arrival m.now source text)) ++ map G (flat_map asked (map (arrival now source) texts))) (handled_now setup m source (read_text text))
+    ∙ sym (map-append G (asked (arrival m.now source text)) (flat_map asked (map (arrival m.now source) texts)))
+
+event_matches : {X : Type 0} (F : Arrival → X) (G : Asked → X) → Matches F G → (setup : Setup) (m : Machine) (event : GatewayEvent)
+    → map F (commands_with setup m event) ≡ map G (flat_map asked (arrivals_at m.now event))
+event_matches F G same setup m (datagram source bytes) = texts_match F G same setup m source (texts_of bytes)
+event_matches F G same setup m (phone line act) = refl
+event_matches F G same setup m (tick moment) = refl
+
+pub events_match : {X : Type 0} (F : Arrival → X) (G : Asked → X) → Matches F G → (setup : Setup) (m : Machine) (events : List GatewayEvent)
+    → map F (commands_from setup m events) ≡ map G (flat_map asked (arrivals_from m.now events))
+unfolding commands_from arrivals_from
+events_match F G same setup m [] = refl
+events_match F G same setup m (event ∷ events) =
+    let next = (effect setup m event).value in
+    let later = arrivals_from (clock_after m.now event) events in
+    map-append F (commands_with setup m event) (commands_from setup next events)
+    ∙ ap (λ x. x ++ map F (commands_from setup next events)) (event_matches F G same setup m event)
+    ∙ ap (λ x. map G (flat_map asked (arrivals_at m.now event)) ++ x) (events_match F G same setup next events)
+    ∙ ap (λ (now : ℕ). map G (flat_map asked (arrivals_at m.now event)) ++ map G (flat_map asked (arrivals_from now events))) (effect_now setup m event)
+    ∙ sym (map-append G (flat_map asked (arrivals_at m.now event)) (flat_map asked later))
+    ∙ ap (map G) (sym (flat_map-append asked (arrivals_at m.now event) later))
 
 -- None is lost
 

@@ -1,12 +1,8 @@
-pub mod Runs
 pub mod Refusals
-pub mod Owning
 pub mod Waiting
 pub mod Saying
 pub mod Numbering
 pub mod Starting
-pub mod Example
-pub mod Notified
 pub mod Belonging
 pub mod OwnEvents
 pub mod Apart

@@ -3,7 +3,8 @@ use Rattle.std.specs.Prelude.{◌≡◌, ◌⊎◌, ℕ, ◌+◌, ◌%◌, ◌<�
 use Rattle.plain_machine.specs.declared.setup.Setup.{Setup}
 use Rattle.plain_machine.specs.Setup.{firsts}
 use Rattle.plain_machine.specs.Posting.{numbers, first_number, id_on, line_of_id}
-use Rattle.machine_laws.specs.Saying.{Begun, count_of}
+use Rattle.plain_machine.specs.Message.{Begun}
+use Rattle.machine_laws.specs.Saying.{count_of}
 
 -- the number of a line's first command, or of the gateway's own, which is line 0
 abbrev pub start_on : Setup → ℕ → ℕ

@@ -7,14 +7,9 @@ use Rattle.mgcp_text.specs.Writing.{written}
 use Rattle.outbound.specs.Sends.{sending_time}
 use Rattle.history.specs.KeptFirst.{KeptFirst}
 use Rattle.history.specs.Memory.{memory_time}
-use Rattle.plain_machine.specs.Message.{Said, answer, again, command, resent, acknowledgement, Sent}
+use Rattle.plain_machine.specs.Message.{Begun, Said, answer, again, command, resent, acknowledgement, Sent, of_none}
 use Rattle.plain_machine.specs.Posting.{numbers, first_number, line_of_id}
-
--- a command that an end began: its id, when it was first sent, and its text
-pub record Begun : Type 0 where
-  pub id : ℕ
-  pub moment : ℕ
-  pub text : List ℕ
+use Rattle.std.specs.declared.net.socket_addr.SocketAddrV4.{SocketAddrV4}
 
 -- The commands of a gateway's own that begin, each at its first send
 
@@ -71,3 +66,10 @@ Gives text moment first = (first.answer ≡ text) × (moment < first.moment + me
 abbrev pub Tells : List Begun → List KeptFirst → List ℕ → ℕ → Type 0
 Tells log firsts text moment =
     OneOf (Carries text moment) log ⊎ (OneOf (Gives text moment) firsts ⊎ IsAcknowledgement text)
+
+-- Which messages acknowledge a response, and whose messages are (RFC 3435, 3.5.6).
+
+-- the acknowledgement of a response with this id, at this moment to this address: `000` and the id
+abbrev pub acknowledging : ℕ → SocketAddrV4 → ℕ → Sent
+acknowledging moment source id =
+    record { to = source; moment = moment; owner = of_none; said = acknowledgement (messages.Response 0 id [] []) }

@@ -1,13 +1,9 @@
 -- With which number a gateway starts that takes it from the time of day, and how fast it may begin commands, so that an id that a
 -- later start begins too doesn't come too soon (this program's profile; RFC 3435, 3.2.1.2).
-use Rattle.std.specs.Prelude.{ℕ, ◌+◌, ◌-◌, ◌/◌, ◌%◌, ◌<◌, ◌≤◌}
-use Rattle.plain_machine.specs.Setup.{firsts}
+use Rattle.std.specs.Prelude.{ℕ, ◌+◌, ◌-◌, ◌/◌, ◌<◌, ◌≤◌}
+use Rattle.small_rules.specs.Numbering.{first_at}
 use Rattle.plain_machine.specs.Posting.{first_number}
 use Rattle.machine_laws.specs.Numbering.{IsBehind}
-
--- at this time of day, in ms, it starts with this number: one more for each 50 ms, going round
-abbrev pub first_at : ℕ → ℕ
-first_at time = (time / 50) % firsts
 
 -- so many ms after its start a line began so many commands at most, and so did the gateway itself
 abbrev pub most_after : ℕ → ℕ

@@ -1,14 +1,9 @@
 -- What is said of lines that wait for the answer to their command, at each thing that happens (RFC 3435, 4.4.1 and 4.4.7).
-use Rattle.std.specs.Prelude.{◌≡◌, ℕ, ◌<◌, Option, Some}
-use Rattle.outbound.specs.Flight.{InFlight}
+use Rattle.std.specs.Prelude.{◌≡◌, ℕ, ◌<◌, Some}
 use Rattle.plain_machine.specs.declared.endpoint.Endpoint.{Endpoint}
 use Rattle.plain_machine.specs.Flights.{AreInOrder}
 use Rattle.plain_machine.specs.Machine.{Endpoints, endpoint_at}
 use Rattle.plain_machine.specs.Posting.{numbers}
-
--- the command of a line that is in flight, and the number of its next one
-abbrev pub in_flight : Endpoint → Option InFlight
-in_flight endpoint = endpoint.post.pending
 
 abbrev pub next_number : Endpoint → ℕ
 next_number endpoint = endpoint.post.number

@@ -1,6 +1,5 @@
 //! Laws of announcements (RFC 3435, 2.3.12, 4.4.6 and 4.4.7), for every setup and every list of events.
-ghost use Rattle.std.specs.Prelude.{ℕ, ◌≡◌, ◌≢◌, ◌+◌, ◌++◌, true, false, List, All, Option, None, Some, Result, Ok, Err};
-ghost use Rattle.endpoint_names.specs.Route.{at};
+ghost use Rattle.std.specs.Prelude.{ℕ, ◌≡◌, ◌≢◌, ◌+◌, ◌++◌, true, false, List, Option, None, Some, Result, Ok, Err};
 ghost use Rattle.endpoint_names.specs.declared.entity.Entity.{Entity};
 ghost use Rattle.mgcp_text.specs.declared.confirmation.KValue.{KValue};
 ghost use Rattle.mgcp_text.specs.Answer.{plain_code};
@@ -16,34 +15,23 @@ ghost use Rattle.outbound.specs.Flight.{InFlight, repeat_of, reply_of};
 ghost use Rattle.restart.specs.declared.restart.Restart.TheVariants.{Waiting, Announced};
 ghost use Rattle.restart.specs.declared.heard.Heard.TheVariants.{Redirected, Answered};
 ghost use Rattle.restart.specs.Restarting.{is_serving};
-ghost use Rattle.timers.specs.declared.kind.LineDue.{LineDue};
 ghost use Rattle.mg_line.specs.declared.phone.Act.{Act};
-ghost use Rattle.timers.specs.declared.kind.DueKind.TheVariants.{OfLine, Resend, Announce};
+ghost use Rattle.timers.specs.declared.kind.DueKind.TheVariants.{Announce};
 ghost use Rattle.timers.specs.declared.due_item.DueItem.{DueItem};
-ghost use Rattle.command_forms.specs.declared.forms.Deed.{Deed};
 ghost use Rattle.plain_machine.specs.declared.post.Post.{Post};
 ghost use Rattle.plain_machine.specs.declared.response.Response.{Response};
 ghost use Rattle.plain_machine.specs.declared.setup.Setup.{Setup};
-ghost use Rattle.plain_machine.specs.declared.endpoint.Endpoint.{Endpoint};
 ghost use Rattle.plain_machine.specs.Effect.{silently};
 ghost use Rattle.plain_machine.specs.Event.{GatewayEvent};
-ghost use Rattle.plain_machine.specs.Message.{Sent};
 ghost use Rattle.plain_machine.specs.Posting.{id_on, line_of_id, with_command, wait_of, resent_on};
 ghost use Rattle.plain_machine.specs.Announcing.{announcement, announced_on, heard_on};
 ghost use Rattle.plain_machine.specs.Machine.{Endpoints, serves};
-ghost use Rattle.plain_machine.specs.Acting.{acted_on, acted};
-ghost use Rattle.plain_machine.specs.Requesting.{deed_on};
+ghost use Rattle.plain_machine.specs.Acting.{acted};
 ghost use Rattle.plain_machine.specs.Commanding.{done_by, commanded};
-ghost use Rattle.plain_machine.specs.Falling.{post_due, happened_on, happened};
-ghost use Rattle.plain_machine.specs.Responding.{responded_on, responded};
+ghost use Rattle.plain_machine.specs.Falling.{post_due, happened};
+ghost use Rattle.plain_machine.specs.Responding.{responded};
 ghost use Rattle.plain_machine.specs.Lists.{plain};
-ghost use Rattle.plain_machine.specs.Flights.{IsInOrder, OwnIsInOrder, AreInOrder, BeginsNothing};
-
-/// What is in flight of each line, and of the gateway itself, agrees with where its announcement is, whatever happened: while
-/// that waits nothing is, and while it is on its way it is what is in flight. Until the gateway serves its lines send nothing.
-pub fn what_is_in_flight_agrees_with_announcements()
-    ensures { (setup : Setup) (events : List GatewayEvent) → AreInOrder (plain setup events).endpoints }
-{}
+ghost use Rattle.plain_machine.specs.Flights.{OwnIsInOrder};
 
 /// Until its announcement is answered a gateway does nothing at a command. It answers with the code of a fault of the verb or
 /// the name, or else 405, but an audit as ever; and from then on each command as it is, of which none has the code 405.
@@ -104,27 +92,4 @@ pub fn an_announcement_goes_on_until_it_is_answered()
         post.pending ≡ Some message → repeat_of message moment ≡ GivenUp →
         resent_on setup line moment post
         ≡ silently (record post { pending = None; restart = Waiting (moment + wait_of setup line) }) }
-{}
-
-/// A line whose command was given up begins nothing until its wait ends: no act, no deed, no response and nothing that falls
-/// due of the line makes it send. The giving up and the announcement leave the line, and what it quarantined, as it is. An
-/// agent that the answer to the announcement names is notified from then on.
-pub fn a_line_that_gave_up_waits_and_announces_itself()
-    ensures act { (setup : Setup) (line moment until : ℕ) (act : Act) (endpoint : Endpoint) → IsInOrder line endpoint →
-        endpoint.post.restart ≡ Waiting until → BeginsNothing endpoint (acted_on setup line moment act endpoint) }
-    ensures deed { (setup : Setup) (deed : Deed) (line moment until : ℕ) (endpoint : Endpoint) → IsInOrder line endpoint →
-        endpoint.post.restart ≡ Waiting until → BeginsNothing endpoint (deed_on setup deed moment line endpoint) }
-    ensures due { (setup : Setup) (due : LineDue) (line moment until : ℕ) (endpoint : Endpoint) → IsInOrder line endpoint →
-        endpoint.post.restart ≡ Waiting until → BeginsNothing endpoint (happened_on (OfLine due) setup line moment endpoint) }
-    ensures response { (setup : Setup) (line moment until : ℕ) (response : Response) (endpoint : Endpoint) →
-        IsInOrder line endpoint → endpoint.post.restart ≡ Waiting until →
-        BeginsNothing endpoint (responded_on setup line moment response endpoint) }
-    ensures kept { (setup : Setup) (line moment : ℕ) (endpoint : Endpoint) →
-        (happened_on Resend setup line moment endpoint).value.line ≡ endpoint.line }
-    ensures kept_too { (setup : Setup) (line moment : ℕ) (endpoint : Endpoint) →
-        (happened_on Announce setup line moment endpoint).value.line ≡ endpoint.line }
-    ensures named { (setup : Setup) (line moment : ℕ) (response : Response) (agent : Entity) (endpoint : Endpoint) →
-        heard_on endpoint.post response ≡ Answered (Some agent) →
-        ((responded_on setup line moment response endpoint).value.post.entity ≡ agent)
-        × All (λ (sent : Sent). sent.to ≡ at agent.route 0) (responded_on setup line moment response endpoint).sent }
 {}

@@ -1,9 +1,8 @@
 //! Laws of connections (RFC 3435, 2.1.3, 2.3.2, 2.3.5 to 2.3.7 and 2.3.9), for every setup and every list of events.
-ghost use Rattle.std.specs.Prelude.{ℕ, ◌≡◌, ◌≢◌, ◌+◌, ◌<◌, ◌≤◌, ◌++◌, [], ◌∷◌, List, length, get_or, true, false, Option, Some, None, Ok};
+ghost use Rattle.std.specs.Prelude.{ℕ, ◌≡◌, ◌≢◌, ◌+◌, ◌<◌, ◌≤◌, ◌++◌, List, length, get_or, true, false, Option, Some, None, Ok};
 ghost use Rattle.std.specs.Option.{unwrap_or};
 ghost use Rattle.std.specs.declared.net.socket_addr.SocketAddrV4.{SocketAddrV4};
 ghost use Rattle.connections.specs.declared.connection.Connection.{Connection};
-ghost use Rattle.connections.specs.declared.connection.Creation.{Creation};
 ghost use Rattle.connections.specs.declared.deletion.Deletion.{Deletion};
 ghost use Rattle.connections.specs.Numbers.{names_number};
 ghost use Rattle.connections.specs.Standing.{is_meant, no_connections};
@@ -13,34 +12,24 @@ ghost use Rattle.mgcp_text.specs.declared.message.Param.{Param};
 ghost use Rattle.mgcp_text.specs.declared.message.Verb.TheVariants.{Epcf};
 ghost use Rattle.mgcp_text.specs.Answer.{plain_code};
 ghost use Rattle.mgcp_text.specs.Reading.{Outcome};
-ghost use Rattle.mg_line.specs.declared.phone.Act.{Act};
 ghost use Rattle.command_forms.specs.declared.forms.Asks.TheVariants.{Does};
 ghost use Rattle.command_forms.specs.declared.forms.ConnectionDeed.TheVariants as deeds;
 ghost use Rattle.command_forms.specs.declared.forms.Deed.{Deed};
 ghost use Rattle.command_forms.specs.declared.forms.Target.{Target};
 ghost use Rattle.command_forms.specs.declared.forms.Target.TheVariants.{All};
 ghost use Rattle.command_forms.specs.Command.{Command};
-ghost use Rattle.command_forms.specs.Meaning.{is_for};
 ghost use Rattle.command_forms.specs.Order.{form_of};
-ghost use Rattle.timers.specs.declared.due_item.DueItem.{DueItem};
-ghost use Rattle.plain_machine.specs.declared.response.Response.{Response};
 ghost use Rattle.plain_machine.specs.declared.setup.Setup.{Setup};
 ghost use Rattle.plain_machine.specs.declared.endpoint.Endpoint.{Endpoint};
 ghost use Rattle.plain_machine.specs.Effect.{silently};
-ghost use Rattle.plain_machine.specs.Acting.{acted};
-ghost use Rattle.plain_machine.specs.Answering.{Transaction, transaction_of, handled, took_all};
-ghost use Rattle.plain_machine.specs.Connecting.{id_param};
+ghost use Rattle.plain_machine.specs.Answering.{Transaction, transaction_of, handled};
 ghost use Rattle.plain_machine.specs.Event.{GatewayEvent};
-ghost use Rattle.plain_machine.specs.Falling.{happened, pass};
-ghost use Rattle.plain_machine.specs.Happening.{effect};
 ghost use Rattle.plain_machine.specs.Machine.{Endpoints, Machine, port_of, endpoint_at};
 ghost use Rattle.plain_machine.specs.Done.{only_answer};
-ghost use Rattle.plain_machine.specs.Requesting.{connected_on, refusal_by, shown_by, deed_on, deed_on_all, deed_done, done_for};
-ghost use Rattle.plain_machine.specs.Requesting.{has_place, line_with_place};
-ghost use Rattle.plain_machine.specs.Responding.{responded};
+ghost use Rattle.plain_machine.specs.Requesting.{refusal_by, deed_on, deed_on_all, deed_done, has_place, line_with_place};
 ghost use Rattle.plain_machine.specs.Commanding.{commanded};
 ghost use Rattle.plain_machine.specs.Lists.{plain, connections_of};
-ghost use Rattle.plain_machine.specs.Calls.{connection_at, port_at, standing_at, NumbersGoOn, IsOnLine};
+ghost use Rattle.plain_machine.specs.Calls.{connection_at, port_at, IsOnLine};
 
 /// A line has four places for connections, and so at most four connections. What stands there is what creations,
 /// modifications and deletions left, one after the other, on a line that had none.
@@ -53,22 +42,6 @@ pub fn a_line_has_at_most_four_connections()
         endpoint_at (plain setup events).endpoints line ≡ Some endpoint →
         (happenings : List Happening)
         × (endpoint.connections ≡ after (no_connections setup.media_address (port_of setup line)) happenings) }
-{}
-
-/// Nothing but a deed that creates, modifies or deletes changes the connections of a line: an act at a telephone, a
-/// response and what falls due leave those of every line as they are, and so does a deed that keeps them.
-pub fn nothing_else_changes_connections()
-    ensures act { (setup : Setup) (endpoints : Endpoints) (line moment other : ℕ) (act : Act) →
-        standing_at (acted setup endpoints line moment act).value other ≡ standing_at endpoints other }
-    ensures response { (setup : Setup) (endpoints : Endpoints) (moment : ℕ) (response : Response) (other : ℕ) →
-        standing_at (responded setup endpoints moment response).value other ≡ standing_at endpoints other }
-    ensures due { (setup : Setup) (endpoints : Endpoints) (item : DueItem) (other : ℕ) →
-        standing_at (happened setup endpoints item).value other ≡ standing_at endpoints other }
-    ensures pass { (setup : Setup) (endpoints : Endpoints) (moment other : ℕ) →
-        standing_at (pass setup endpoints moment).value other ≡ standing_at endpoints other }
-    ensures deed { (setup : Setup) (endpoints : Endpoints) (target : Target) (deed : Deed) (moment other : ℕ) →
-        deed.connections ≡ deeds.Keep →
-        standing_at (done_for setup endpoints target deed moment).told.value other ≡ standing_at endpoints other }
 {}
 
 /// No two connections of a gateway receive at one port.
@@ -91,28 +64,6 @@ pub fn a_number_is_never_given_twice_on_a_line()
     ensures again { (setup : Setup) (before between later : List GatewayEvent) (line number : ℕ) →
         IsOnLine (plain setup before) line number → (IsOnLine (plain setup (before ++ between)) line number → ⊥) →
         IsOnLine (plain setup ((before ++ between) ++ later)) line number → ⊥ }
-{}
-
-/// Within an event, too, a number is given once. A connection that is created gets the number after the last one of its
-/// line: that is answered, and is the last one from then on. And no last number ever gets less: at an act, a text of a
-/// datagram or all of them, a thing that falls due or all that does.
-pub fn a_number_is_given_once_within_an_event_too()
-    ensures given { (setup : Setup) (deed : Deed) (creation : Creation) (moment line : ℕ) (endpoint : Endpoint) →
-        deed.connections ≡ deeds.Create creation → refusal_by deed endpoint ≡ None →
-        ((shown_by (connected_on deed endpoint)).params ≡ id_param (endpoint.connections.last + 1) ∷ [])
-        × ((deed_on setup deed moment line endpoint).value.connections.last ≡ endpoint.connections.last + 1) }
-    ensures act { (setup : Setup) (endpoints : Endpoints) (line moment : ℕ) (act : Act) →
-        NumbersGoOn endpoints (acted setup endpoints line moment act).value }
-    ensures due { (setup : Setup) (endpoints : Endpoints) (item : DueItem) →
-        NumbersGoOn endpoints (happened setup endpoints item).value }
-    ensures pass { (setup : Setup) (endpoints : Endpoints) (moment : ℕ) →
-        NumbersGoOn endpoints (pass setup endpoints moment).value }
-    ensures text { (setup : Setup) (m : Machine) (source : SocketAddrV4) (outcome : Outcome) →
-        NumbersGoOn m.endpoints (handled setup m source outcome).value.endpoints }
-    ensures texts { (setup : Setup) (m : Machine) (source : SocketAddrV4) (texts : List (List ℕ)) →
-        NumbersGoOn m.endpoints (took_all setup m source texts).value.endpoints }
-    ensures event { (setup : Setup) (m : Machine) (event : GatewayEvent) →
-        NumbersGoOn m.endpoints (effect setup m event).value.endpoints }
 {}
 
 /// A command that is refused, and so answered neither with 200 nor with 250 (RFC 3435, 2.4), changes no line, and no line
@@ -170,17 +121,6 @@ pub fn the_least_line_that_refuses_decides()
     ensures fine { (setup : Setup) (endpoints : Endpoints) (more : List Param) (deed : Deed) (moment : ℕ) →
         ((line : ℕ) (endpoint : Endpoint) → endpoint_at endpoints line ≡ Some endpoint → refusal_by deed endpoint ≡ None) →
         (deed_done setup endpoints All more deed moment).told ≡ deed_on_all setup endpoints All deed moment }
-{}
-
-/// A deed that is done is done once on each line that it is for, by what the line was, and leaves every other line as it is.
-pub fn a_deed_is_done_on_its_lines()
-    ensures each { (setup : Setup) (endpoints : Endpoints) (target : Target) (deed : Deed) (moment line : ℕ)
-        (endpoint : Endpoint) → is_for target line ≡ true → endpoint_at endpoints line ≡ Some endpoint →
-        endpoint_at (deed_on_all setup endpoints target deed moment).value line
-        ≡ Some (deed_on setup deed moment line endpoint).value }
-    ensures others { (setup : Setup) (endpoints : Endpoints) (target : Target) (deed : Deed) (moment line : ℕ) →
-        is_for target line ≡ false →
-        endpoint_at (deed_on_all setup endpoints target deed moment).value line ≡ endpoint_at endpoints line }
 {}
 
 /// Any one line is the least that has a place for one more connection.

@@ -1,7 +1,6 @@
 //! With which number ids begin.
 ghost use Rattle.std.specs.Prelude.{◌≡◌, ◌<◌};
-ghost use Rattle.small_rules.specs.Numbering.{firsts};
-ghost use Rattle.machine_laws.specs.Starting.{first_at};
+ghost use Rattle.small_rules.specs.Numbering.{first_at, firsts};
 ghost use Rattle.new_start.specs.Words.{first_from, first_in};
 
 use mg_bytes::decimal;

@@ -41,11 +41,11 @@ use Rattle.plain_machine.specs.Responding.{opened_on, redirected_on, responded_a
 use Rattle.plain_machine.proofs.ListLaws.{machine_on}
 use Rattle.machine_laws.proofs.EachLemmas.{is_none-None}
 use Rattle.machine_laws.proofs.GatewayEvents.{gateway_forward}
-use Rattle.machine_laws.proofs.LineLemmas.{place_of}
+use Rattle.machine_laws.proofs.OwningLemmas.{place_of}
 use Rattle.machine_laws.proofs.TurnLemmas.{of_line as of_its_line, on_made}
 use Rattle.machine_laws.proofs.WaitLaws.{events_wait}
 use Rattle.world_laws.proofs.WorldLaws.{gateway_alone}
-use Rattle.delivery_laws.proofs.CourseLemmas.{hear_all}
+use Rattle.world_laws.proofs.CourseLemmas.{hear_all}
 use Rattle.told_laws.proofs.LineEvents.{TurnKeeps, TurnsAt, datagram_holds, phone_holds, tick_holds}
 use Rattle.told_laws.proofs.SettledLemmas.{clock_on}
 use Rattle.outage_laws.specs.Alone.{AnnouncesBy}

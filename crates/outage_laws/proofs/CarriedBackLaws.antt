@@ -4,21 +4,21 @@ use Rattle.std.specs.Prelude.{◌⊎◌, All, Any, slice_get, unwrap_or}
 use Rattle.outbound.specs.Sends.{most_repeats}
 use Rattle.plain_machine.specs.declared.setup.Setup.{Setup}
 use Rattle.plain_machine.specs.Setup.{IsSetUp}
-use Rattle.machine_laws.specs.Saying.{Begun}
+use Rattle.plain_machine.specs.Message.{Begun}
 use Rattle.machine_laws.proofs.EachLemmas.{Each, each_from_all, each_weaker, one_from_any}
 use Rattle.agent_core.specs.declared.packet.End.TheVariants.{GatewayEnd as gateway_end}
 use Rattle.agent_core.specs.declared.packet.Posted.{Posted}
 use Rattle.agent_core.specs.World.{World, WorldStep, delivering, now_in, plain_world, steps_are_taken, world_opening}
 use Rattle.world_laws.specs.Reached.{Reached, taken_in}
-use Rattle.delivery_laws.specs.Chances.{chances, last_chance}
-use Rattle.delivery_laws.specs.Copies.{IsCopy}
-use Rattle.delivery_laws.specs.Fairness.{GoesToAgent}
-use Rattle.delivery_laws.specs.OwnChances.{HasCome, IsOfLine, IsToldAfter}
-use Rattle.delivery_laws.specs.Taking.{IsTaken}
-use Rattle.delivery_laws.proofs.CarryLaws.{AreApart, chances_apart, chances_low, one_spared}
-use Rattle.delivery_laws.proofs.FairLaws.{stays_found}
-use Rattle.delivery_laws.proofs.GatewayChanceLaws.{announced_eight_times}
-use Rattle.delivery_laws.proofs.PlaceLemmas.{each_two}
+use Rattle.world_laws.specs.Chances.{chances, last_chance}
+use Rattle.world_laws.specs.Copies.{IsCopy}
+use Rattle.world_laws.specs.Fairness.{GoesToAgent}
+use Rattle.world_laws.specs.OwnChances.{HasCome, IsOfLine, IsToldAfter}
+use Rattle.world_laws.specs.Taking.{IsTaken}
+use Rattle.world_laws.proofs.TakeLaws.{AreApart, chances_apart, chances_low, one_spared}
+use Rattle.world_laws.proofs.FairLaws.{stays_found}
+use Rattle.world_laws.proofs.GatewayChanceLaws.{announced_eight_times}
+use Rattle.world_laws.proofs.LookLemmas.{each_two}
 use Rattle.outage_laws.specs.Carrying.{IsCarriedBack, IsHandedBack}
 use Rattle.outage_laws.proofs.OwnCopyLemmas.{comes_back, own_of, stays_taken, take_copy, told_copy}
 use Rattle.outage_laws.proofs.EachLine.{each_told}

@@ -4,12 +4,12 @@ use Rattle.std.specs.Prelude.{◌⊎◌, All}
 use Rattle.plain_machine.specs.declared.setup.Setup.{Setup}
 use Rattle.plain_machine.specs.Event.{GatewayEvent}
 use Rattle.plain_machine.specs.Setup.{IsSetUp}
-use Rattle.machine_laws.specs.Saying.{Begun}
+use Rattle.plain_machine.specs.Message.{Begun}
 use Rattle.agent_core.specs.World.{WorldStep, now_in, plain_world, steps_are_taken, world_opening}
-use Rattle.delivery_laws.specs.Chances.{chances}
-use Rattle.delivery_laws.specs.OwnChances.{HasCome, IsOfLine, IsToldAfter}
-use Rattle.delivery_laws.proofs.GatewayChanceLaws.{announced_eight_times}
-use Rattle.delivery_laws.proofs.OwnChanceLaws.{told_eight_times}
+use Rattle.world_laws.specs.Chances.{chances}
+use Rattle.world_laws.specs.OwnChances.{HasCome, IsOfLine, IsToldAfter}
+use Rattle.world_laws.proofs.GatewayChanceLaws.{announced_eight_times}
+use Rattle.world_laws.proofs.OwnChanceLaws.{told_eight_times}
 use Rattle.outage_laws.specs.Alone.{HasBegun}
 use Rattle.told_laws.proofs.LineBounds.{who_began_is_there}
 use Rattle.outage_laws.proofs.OwnSendLaws.{IsDone, line_eight, own_eight}

@@ -16,16 +16,15 @@ use Rattle.plain_machine.specs.Lists.{plain}
 use Rattle.plain_machine.specs.Machine.{Machine, endpoint_at, opening}
 use Rattle.plain_machine.proofs.ListLaws.{machine_on}
 use Rattle.machine_laws.proofs.WaitLaws.{events_wait}
-use Rattle.delivery_laws.specs.Course.{CourseStep, accepts, acts, course_from}
-use Rattle.delivery_laws.specs.Dialled.{done_in}
-use Rattle.delivery_laws.specs.Rounds.{of_telephone}
-use Rattle.delivery_laws.proofs.CourseLemmas.{AnyResponse, LineGoes, call_turns, events_stand, hear_all}
-use Rattle.delivery_laws.proofs.DialledLemmas.{calls_count}
-use Rattle.delivery_laws.proofs.EndpointLemmas.{Calls, steps_of}
-use Rattle.delivery_laws.proofs.OnceCountLemmas.{IsCounted}
-use Rattle.delivery_laws.proofs.OutLemmas.{Grows, answered_back, asked_back, back_few, fired_shape, grown, held_in, opened_back, phoned_shape}
-use Rattle.delivery_laws.proofs.OverLists.{always}
-use Rattle.delivery_laws.proofs.RoundTurns.{done_more}
+use Rattle.world_laws.specs.Course.{CourseStep, accepts, acts, course_from}
+use Rattle.world_laws.specs.Dialled.{done_in}
+use Rattle.world_laws.specs.Rounds.{of_telephone}
+use Rattle.world_laws.proofs.CourseLemmas.{AnyResponse, LineGoes, call_turns, events_stand, hear_all}
+use Rattle.world_laws.proofs.DialledLemmas.{calls_count}
+use Rattle.world_laws.proofs.EndpointLemmas.{Calls, steps_of}
+use Rattle.world_laws.proofs.OutLemmas.{IsCounted, Grows, answered_back, asked_back, back_few, fired_shape, grown, held_in, opened_back, phoned_shape}
+use Rattle.world_laws.proofs.OverLists.{always}
+use Rattle.world_laws.proofs.RoundTurns.{done_more}
 
 abbrev FewSince : ℕ → Bool → List CourseStep → LineState → Type 0
 FewSince most serving course line = length (of_telephone line.quarantined.events) ≤ most + length (done_in course)

@@ -4,19 +4,19 @@ use Rattle.outbound.specs.Sends.{most_repeats}
 use Rattle.plain_machine.specs.declared.setup.Setup.{Setup}
 use Rattle.plain_machine.specs.Lists.{sent_of}
 use Rattle.plain_machine.specs.Machine.{serves}
-use Rattle.plain_machine.specs.Message.{Sent}
+use Rattle.plain_machine.specs.Message.{Begun, Sent}
 use Rattle.plain_machine.specs.Setup.{IsSetUp}
 use Rattle.machine_laws.specs.Belonging.{of_line}
-use Rattle.machine_laws.specs.Saying.{Begun, OneOf, begun_in}
+use Rattle.machine_laws.specs.Saying.{OneOf, begun_in}
 use Rattle.machine_laws.proofs.EachLemmas.{Each}
 use Rattle.agent_core.specs.World.{World, WorldStep, gateway_in, now_in, plain_world, steps_are_taken, world_opening}
-use Rattle.delivery_laws.specs.Chances.{chances}
-use Rattle.delivery_laws.specs.Copies.{answer_wait}
-use Rattle.delivery_laws.specs.Fairness.{GoesToAgent}
-use Rattle.delivery_laws.specs.OwnChances.{IsOfLine, IsToldAfter}
-use Rattle.delivery_laws.proofs.ChanceLaws.{eight}
-use Rattle.delivery_laws.proofs.OwnChanceLaws.{flying_said}
-use Rattle.delivery_laws.proofs.PostedLemmas.{SaysAt}
+use Rattle.world_laws.specs.Chances.{chances}
+use Rattle.world_laws.specs.Copies.{answer_wait}
+use Rattle.world_laws.specs.Fairness.{GoesToAgent}
+use Rattle.world_laws.specs.OwnChances.{IsOfLine, IsToldAfter}
+use Rattle.world_laws.proofs.ChanceLaws.{eight}
+use Rattle.world_laws.proofs.OwnChanceLaws.{flying_said}
+use Rattle.world_laws.proofs.PostedLemmas.{SaysAt}
 use Rattle.outage_laws.specs.AfterOutage.{AgentHasRoomFrom, IsFairFrom}
 use Rattle.outage_laws.proofs.ServesLaws.{comes, never_back}
 use Rattle.outage_laws.proofs.SinceLaws.{IsBack}

@@ -10,12 +10,12 @@ use Rattle.plain_machine.specs.declared.setup.Setup.{Setup}
 use Rattle.plain_machine.specs.Event.{GatewayEvent}
 use Rattle.plain_machine.specs.Lists.{plain, sent_from, sent_of}
 use Rattle.plain_machine.specs.Machine.{endpoint_at}
-use Rattle.plain_machine.specs.Message.{Sent}
+use Rattle.plain_machine.specs.Message.{Begun, Sent}
 use Rattle.plain_machine.specs.Setup.{IsSetUp}
 use Rattle.machine_laws.specs.Belonging.{is_of, of_line}
-use Rattle.machine_laws.specs.Saying.{Begun, IsAnswerTo, OneOf, begun_in}
+use Rattle.machine_laws.specs.Saying.{IsAnswerTo, OneOf, begun_in}
 use Rattle.machine_laws.proofs.EachLemmas.{any_from_one, one_before, one_behind, one_of_each, one_to}
-use Rattle.machine_laws.proofs.LineLemmas.{place_of}
+use Rattle.machine_laws.proofs.OwningLemmas.{place_of}
 use Rattle.machine_laws.proofs.PostLogs.{WasBegun}
 use Rattle.agent_core.specs.declared.packet.End.TheVariants.{AgentEnd as agent_end}
 use Rattle.agent_core.specs.declared.packet.Posted.{Posted}
@@ -23,25 +23,23 @@ use Rattle.agent_core.specs.World.{World, WorldStep, delivering, gateway_in, now
 use Rattle.world_laws.specs.Landing.{is_final}
 use Rattle.world_laws.specs.Reached.{own_in}
 use Rattle.world_laws.proofs.LinkLaws.{world_linked}
-use Rattle.delivery_laws.specs.Copies.{IsCopy, answer_wait}
-use Rattle.delivery_laws.specs.OwnChances.{IsToldAfter}
-use Rattle.delivery_laws.proofs.AnsweredLaws.{over_since}
-use Rattle.delivery_laws.proofs.ClockLemmas.{handed_now}
-use Rattle.delivery_laws.proofs.FairLaws.{found_within}
-use Rattle.delivery_laws.proofs.FirstBroughtLaws.{begun_of_all}
-use Rattle.delivery_laws.proofs.GivenUpFronts.{was_there}
-use Rattle.delivery_laws.proofs.OnTurns.{IsIt}
-use Rattle.delivery_laws.proofs.OwnChanceLaws.{one_unfiltered, told_after}
-use Rattle.delivery_laws.proofs.PlaceLemmas.{one_beyond}
-use Rattle.delivery_laws.proofs.PostedFinal.{posted_plain}
-use Rattle.delivery_laws.proofs.PostedLemmas.{HasText, SaysAt, said_posted}
-use Rattle.delivery_laws.proofs.RestLemmas.{begun_both}
-use Rattle.delivery_laws.proofs.StepLemmas.{taken_front}
+use Rattle.world_laws.specs.Copies.{IsCopy, answer_wait}
+use Rattle.world_laws.specs.OwnChances.{IsToldAfter}
+use Rattle.world_laws.proofs.AnsweredLaws.{over_since}
+use Rattle.world_laws.proofs.ChanceLaws.{handed_now}
+use Rattle.world_laws.proofs.FairLaws.{found_within}
+use Rattle.world_laws.proofs.FirstBroughtLaws.{begun_of_all}
+use Rattle.world_laws.proofs.NumberTurns.{was_there}
+use Rattle.world_laws.proofs.OnTurns.{IsIt, begun_both}
+use Rattle.world_laws.proofs.OwnChanceLaws.{one_unfiltered, told_after}
+use Rattle.world_laws.proofs.LookLemmas.{one_beyond}
+use Rattle.world_laws.proofs.PostedFinal.{posted_plain, taken_front}
+use Rattle.world_laws.proofs.PostedLemmas.{HasText, SaysAt, said_posted}
 use Rattle.outage_laws.proofs.LineTrackLaws.{TracksSince, line_says, tracks_at, tracks_from}
 use Rattle.outage_laws.proofs.LineTracks.{Announces, Behind, FliesSo, IsGivenUp, TracksBy, Waits, none_tracks}
-use Rattle.outage_laws.proofs.PostedSince.{PostsSince, line_since, posts_since}
+use Rattle.outage_laws.proofs.OwnReaches.{PostsSince, line_since, posts_since}
 use Rattle.outage_laws.proofs.SinceLaws.{IsBack, IsBackBehind}
-use Rattle.outage_laws.proofs.StretchLemmas.{BothSince, IsLast, IsStretch, OneSince, StartsSince, begun_whole, is_begun, last_on, last_since, one_last, two_since}
+use Rattle.outage_laws.proofs.OldestServes.{BothSince, IsLast, IsStretch, OneSince, StartsSince, begun_whole, is_begun, last_on, last_since, one_last, two_since}
 
 -- Lists
 

@@ -31,45 +31,42 @@ use Rattle.plain_machine.specs.Falling.{happened_on}
 use Rattle.plain_machine.specs.Happening.{effect}
 use Rattle.plain_machine.specs.Lists.{plain, sent_from}
 use Rattle.plain_machine.specs.Machine.{Machine, endpoint_at}
-use Rattle.plain_machine.specs.Message.{Said, Sent, answer, again, command, resent, acknowledgement, is_answer}
+use Rattle.plain_machine.specs.Message.{Begun, Said, Sent, answer, again, command, resent, acknowledgement, is_answer}
 use Rattle.plain_machine.specs.Notifying.{notification, noted, posted, with_notice}
 use Rattle.plain_machine.specs.Posting.{repeated_as, resent_by, resent_on, wait_of}
 use Rattle.plain_machine.specs.Requesting.{asked_if, deed_on, with_connections, with_entity}
 use Rattle.plain_machine.specs.Responding.{opened_on, redirected_on, responded_as, responded_on}
 use Rattle.plain_machine.specs.Setup.{IsSetUp}
 use Rattle.machine_laws.specs.Belonging.{of_line}
-use Rattle.machine_laws.specs.Saying.{Begun, OneOf, begun_in}
+use Rattle.machine_laws.specs.Saying.{OneOf, begun_in}
 use Rattle.machine_laws.proofs.EachLemmas.{any_from_one, one_before, one_from_any}
 use Rattle.machine_laws.proofs.FlightLaws.{redirected_announced}
 use Rattle.machine_laws.proofs.WaitLaws.{events_wait}
 use Rattle.agent_core.specs.World.{World, WorldStep, delivering, gateway_in, now_in, plain_world, steps_are_taken, world_opening}
-use Rattle.delivery_laws.specs.Chances.{chances, last_chance}
-use Rattle.delivery_laws.specs.Copies.{answer_wait}
-use Rattle.delivery_laws.specs.Fairness.{GoesToAgent}
-use Rattle.delivery_laws.specs.GivenUp.{announces}
-use Rattle.delivery_laws.specs.OwnChances.{IsOfLine, IsToldAfter}
-use Rattle.delivery_laws.specs.Rounds.{IsAwaited}
-use Rattle.delivery_laws.proofs.ClockLemmas.{front_forward}
-use Rattle.delivery_laws.proofs.CourseLemmas.{AnyResponse, hear_all}
-use Rattle.delivery_laws.proofs.FairLaws.{IsBefore, head_same, one_first, stays_found}
-use Rattle.delivery_laws.proofs.RestLemmas.{begun_both}
-use Rattle.delivery_laws.proofs.RoundTurns.{has_announced}
-use Rattle.delivery_laws.proofs.StepLemmas.{taken_front}
+use Rattle.world_laws.specs.Chances.{chances, last_chance}
+use Rattle.world_laws.specs.Copies.{answer_wait}
+use Rattle.world_laws.specs.Fairness.{GoesToAgent}
+use Rattle.world_laws.specs.Course.{announces}
+use Rattle.world_laws.specs.OwnChances.{IsOfLine, IsToldAfter}
+use Rattle.world_laws.specs.Rounds.{IsAwaited}
+use Rattle.world_laws.proofs.ChanceLaws.{front_forward}
+use Rattle.world_laws.proofs.CourseLemmas.{AnyResponse, hear_all}
+use Rattle.world_laws.proofs.FairLaws.{IsBefore, head_same, one_first, stays_found}
+use Rattle.world_laws.proofs.OnTurns.{begun_both}
+use Rattle.world_laws.proofs.RoundTurns.{has_announced}
+use Rattle.world_laws.proofs.PostedFinal.{taken_front}
 use Rattle.outage_laws.specs.AfterOutage.{AgentHasRoomFrom, IsFairFrom}
 use Rattle.outage_laws.proofs.LineBackLaws.{same_rest}
 use Rattle.told_laws.proofs.LineEvents.{TurnKeeps, TurnsAt, datagram_holds, phone_holds, tick_holds}
 use Rattle.outage_laws.proofs.LineServesLaws.{has_its_agent, is_awaited}
 use Rattle.outage_laws.proofs.LineTrackLaws.{line_says}
-use Rattle.outage_laws.proofs.PostedSince.{line_since, posts_since}
+use Rattle.outage_laws.proofs.OwnReaches.{line_since, posts_since}
 use Rattle.outage_laws.proofs.SinceLaws.{IsBack, IsBackBehind, comes_behind}
 
 -- Numbers
 
 late_front : (now front last : ℕ) → now + 1 ≤ front → front ≤ last → now ≤ last
 late_front now front last soon past = omega (arith, soon, past)
-
-one_less : (first wait within now : ℕ) → first + wait + 2 * within + 1 ≤ now → first + wait + 2 * within ≤ now
-one_less first wait within now late = omega (arith, late)
 
 too_late : (back first wait within now : ℕ) → back ≤ first + wait + 2 * within → first + wait + 2 * within + 1 ≤ now → now ≤ back → ⊥
 too_late back first wait within now by late past = absurd (omega (arith, by, late, past))
@@ -328,17 +325,3 @@ module _ (setup : Setup) (line : ℕ) where
 
     pub none_announced : has_announced (of_line line (effect setup m event).sent) ≡ false
     none_announced = event_there event refl
-
-  -- an event that is no tick leaves a line serving
-  module _ (some : 1 ≤ line) (before : List GatewayEvent) (was is : Endpoint) (at : endpoint_at (plain setup before).endpoints line ≡ Some was) (serving : was.post.restart ≡ Serving) where
-    starts : (s : Endpoint) → endpoint_at (plain setup before).endpoints line ≡ Some s → IsThere [] s
-    starts s found =
-        (subst (λ (x : Endpoint). x.post.restart ≡ Serving) (let both : Some was ≡ Some s = sym at ∙ found in (let one : was ≡ s = cc in one)) serving, refl)
-
-    pub still_there : (e : GatewayEvent) → ((moment : ℕ) → e ≡ tick moment → ⊥) → endpoint_at (effect setup (plain setup before) e).value.endpoints line ≡ Some is → is.post.restart ≡ Serving
-    still_there (datagram source bytes) other there =
-        (datagram_holds setup line some AnyResponse IsThere (plain setup before) (there_turns (plain setup before).now) [] source bytes (events_wait setup before)
-        (hear_all setup AnyResponse (λ response. tt) (arrivals_at (plain setup before).now (datagram source bytes))) starts is there).0
-    still_there (phone n act) other there =
-        (phone_holds setup line some AnyResponse IsThere (plain setup before) (there_turns (plain setup before).now) [] n act starts is there).0
-    still_there (tick moment) other there = absurd (other moment refl)

@@ -9,31 +9,31 @@ use Rattle.restart.specs.declared.restart.Restart.TheVariants.{Waiting, Announce
 use Rattle.plain_machine.specs.declared.endpoint.Endpoint.{Endpoint}
 use Rattle.plain_machine.specs.declared.setup.Setup.{Setup}
 use Rattle.plain_machine.specs.Machine.{endpoint_at}
-use Rattle.plain_machine.specs.Message.{Sent}
+use Rattle.plain_machine.specs.Message.{Begun, Sent}
 use Rattle.plain_machine.specs.Posting.{wait_of}
 use Rattle.plain_machine.specs.Setup.{IsSetUp}
-use Rattle.machine_laws.specs.Saying.{Begun, OneOf, begun_in}
+use Rattle.machine_laws.specs.Saying.{OneOf, begun_in}
 use Rattle.machine_laws.proofs.EachLemmas.{Each, any_from_one, one_before, one_from_any, one_of_each, one_to}
-use Rattle.machine_laws.proofs.LineLemmas.{place_of}
+use Rattle.machine_laws.proofs.OwningLemmas.{place_of}
 use Rattle.agent_core.specs.World.{World, WorldStep, gateway_in, now_in, plain_world, steps_are_taken, world_opening}
-use Rattle.delivery_laws.specs.Chances.{chances, last_chance}
-use Rattle.delivery_laws.specs.Copies.{answer_wait}
-use Rattle.delivery_laws.specs.Fairness.{GoesToAgent}
-use Rattle.delivery_laws.specs.OwnChances.{IsOfLine, IsToldAfter}
-use Rattle.delivery_laws.specs.Rounds.{IsAwaited}
-use Rattle.delivery_laws.proofs.CarryLaws.{chances_low}
-use Rattle.delivery_laws.proofs.ChanceLaws.{eight}
-use Rattle.delivery_laws.proofs.OwnChanceLaws.{flying_said}
-use Rattle.delivery_laws.proofs.PostedLemmas.{SaysAt}
-use Rattle.delivery_laws.proofs.RestLemmas.{begun_both}
+use Rattle.world_laws.specs.Chances.{chances, last_chance}
+use Rattle.world_laws.specs.Copies.{answer_wait}
+use Rattle.world_laws.specs.Fairness.{GoesToAgent}
+use Rattle.world_laws.specs.OwnChances.{IsOfLine, IsToldAfter}
+use Rattle.world_laws.specs.Rounds.{IsAwaited}
+use Rattle.world_laws.proofs.TakeLaws.{chances_low}
+use Rattle.world_laws.proofs.ChanceLaws.{eight}
+use Rattle.world_laws.proofs.OwnChanceLaws.{flying_said}
+use Rattle.world_laws.proofs.PostedLemmas.{SaysAt}
+use Rattle.world_laws.proofs.OnTurns.{begun_both}
 use Rattle.outage_laws.specs.AfterOutage.{AgentHasRoomFrom, IsFairFrom, gap_of, last_in_time, longest_pause}
 use Rattle.outage_laws.proofs.LineBackLaws.{announced_answered, flight_answered, waiting_answered}
 use Rattle.outage_laws.proofs.LineTrackLaws.{line_says, tracks_at}
 use Rattle.outage_laws.proofs.LineTracks.{Announces, Behind, Flies, FliesSo, IsGivenUp, LineTracks, TracksBy}
-use Rattle.outage_laws.proofs.NextSendLemmas.{IsNext, next_send}
+use Rattle.outage_laws.proofs.UnservedRoom.{IsNext, next_send}
 use Rattle.outage_laws.proofs.ServesLaws.{IsQuick, due_by, first_few, gap_late, in_time, one_of_chances}
 use Rattle.outage_laws.proofs.SinceLaws.{IsBackBehind, comes_behind}
-use Rattle.outage_laws.proofs.StretchLemmas.{IsLast, is_begun}
+use Rattle.outage_laws.proofs.OldestServes.{IsLast, is_begun}
 
 -- Numbers
 
@@ -57,9 +57,6 @@ next_twice since first one wait within now pause slack next low late = omega (ar
 
 pub twice_past : (first wait within now slack : ℕ) → first + wait + 2 * within + slack ≤ now → first + wait ≤ now
 twice_past first wait within now slack twice = omega (arith, twice)
-
-pub at_first : (since first one : ℕ) → one ≡ 0 → since ≤ first + one → since ≤ first
-at_first since first one none past = omega (arith, none, past)
 
 pub not_twice : (first one within now slack : ℕ) → one ≡ 0 → now < first + one + 2 * within + slack → now < first + 2 * within + slack
 not_twice first one within now slack none soon = omega (arith, none, soon)

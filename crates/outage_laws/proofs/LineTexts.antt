@@ -57,10 +57,9 @@ use Rattle.plain_machine.specs.Posting.{numbers, id_on, line_of_id, repeated_as,
 use Rattle.plain_machine.specs.Requesting.{with_entity, with_connections, asked_if, deed_on}
 use Rattle.plain_machine.specs.Responding.{acknowledged, response_with, responded_as, responded_on, redirected_on, opened_on}
 use Rattle.plain_machine.specs.Setup.{IsSetUp, most_lines}
-use Rattle.machine_laws.proofs.AnnouncementLemmas.{announcement_writable}
+use Rattle.machine_laws.proofs.NotificationLemmas.{announcement_writable, told_writable}
 use Rattle.machine_laws.proofs.CommandLaws.{Sound, OwnSound, sound_turns, sound_own_turns, opening_is_sound, asked_if_done}
 use Rattle.machine_laws.proofs.NoticeLemmas.{IsDone, IsTold, opening_is_fine, phoned_done, answered_done, opened_done, fired_done}
-use Rattle.machine_laws.proofs.NotificationLemmas.{told_writable}
 use Rattle.machine_laws.proofs.TurnLemmas.{Good, Turns, OwnTurns, Holds, on_made, acted_goes, command_goes, responded_goes, pass_goes, handled_on_all, events_on_all, response_read}
 use Rattle.mgcp_text.proofs.RoundLaws.{read_again}
 use Rattle.std.specs.Str.{bytes_eq}

@@ -31,10 +31,10 @@ use Rattle.agent_core.specs.declared.packet.End.TheVariants.{AgentEnd as agent_e
 use Rattle.agent_core.specs.declared.packet.Posted.{Posted}
 use Rattle.agent_core.specs.World.{World, WorldStep, delivered, delivered_from, delivering, dialling, gateway_address, gateway_in, is_among, issuing, now_in, plain_world, step_refusal, steps_are_taken, ticking, to_agent, to_gateway, went, world_after, world_opening}
 use Rattle.world_laws.proofs.WorldLaws.{gateway_alone, gateway_clock, gateway_taken}
-use Rattle.delivery_laws.proofs.CourseLemmas.{AllHear, Hears}
-use Rattle.delivery_laws.proofs.FairLaws.{taken_last}
-use Rattle.delivery_laws.proofs.PostedLemmas.{sent_more}
-use Rattle.delivery_laws.proofs.StepLemmas.{step_more, taken_front}
+use Rattle.world_laws.proofs.CourseLemmas.{AllHear, Hears}
+use Rattle.world_laws.proofs.FairLaws.{taken_last}
+use Rattle.world_laws.proofs.PostedLemmas.{sent_more}
+use Rattle.world_laws.proofs.PostedFinal.{step_more, taken_front}
 use Rattle.told_laws.proofs.LineEvents.{datagram_holds, phone_holds, tick_holds}
 use Rattle.outage_laws.proofs.LineTracks.{Anytime, Behind, IsPlainResponse, LineTracks, anytime, happens_tracks, none_tracks, now_turns, rested}
 use Rattle.outage_laws.proofs.PlainArrivals.{IsPlain, plain_texts}

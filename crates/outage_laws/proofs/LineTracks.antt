@@ -39,22 +39,21 @@ use Rattle.plain_machine.specs.Announcing.{announcement, announced, announced_by
 use Rattle.plain_machine.specs.Effect.{Effect, silently}
 use Rattle.plain_machine.specs.Falling.{due_on, happened_on, if_by, post_due}
 use Rattle.plain_machine.specs.Flights.{IsClosed}
-use Rattle.plain_machine.specs.Message.{Sent}
+use Rattle.plain_machine.specs.Message.{Begun, Sent}
 use Rattle.plain_machine.specs.Notifying.{notification, noted, posted, with_notice}
 use Rattle.plain_machine.specs.Posting.{id_on, repeated_as, resent_by, wait_of}
 use Rattle.plain_machine.specs.Requesting.{asked_if, deed_on, with_connections, with_entity}
 use Rattle.plain_machine.specs.Responding.{opened_on, redirected_on, responded_as, responded_on}
 use Rattle.plain_machine.proofs.FirstLemmas.{FirstBy, OfItsAnnouncement, OfItsCommand, OfItsLine, announcement_by, command_by, due_cases, post_by, post_cases}
-use Rattle.machine_laws.specs.Saying.{Begun, begun_at, begun_in}
+use Rattle.machine_laws.specs.Saying.{begun_at, begun_in}
 use Rattle.machine_laws.proofs.FlightLaws.{WaitsOn, asked_waits, fired_waits, phoned_waits}
 use Rattle.world_laws.specs.Landing.{is_final}
-use Rattle.delivery_laws.specs.Copies.{answer_wait}
-use Rattle.delivery_laws.proofs.LineLaws.{heard_is}
-use Rattle.delivery_laws.proofs.OnTurns.{IsIt, IsOn, WentOut, all_out, its_sends, on_again, on_begins, on_more, went_on}
-use Rattle.delivery_laws.proofs.PostedLemmas.{SaysAt}
-use Rattle.delivery_laws.proofs.RestLemmas.{Rests, answer_begins, asked_awaits, flight_waits, noted_silent, rests_again, rests_is, rests_on}
+use Rattle.world_laws.specs.Copies.{answer_wait}
+use Rattle.world_laws.proofs.LineLaws.{heard_is}
+use Rattle.world_laws.proofs.OnTurns.{IsIt, IsOn, WentOut, all_out, its_sends, on_again, on_begins, on_more, went_on, Rests, answer_begins, asked_awaits, flight_waits, noted_silent, rests_again, rests_is, rests_on}
+use Rattle.world_laws.proofs.PostedLemmas.{SaysAt}
 use Rattle.told_laws.proofs.LineEvents.{TurnKeeps, TurnsAt}
-use Rattle.outage_laws.proofs.StretchLemmas.{IsStretch, order_on, stretch_begins, stretch_on}
+use Rattle.outage_laws.proofs.OldestServes.{IsStretch, order_on, stretch_begins, stretch_on}
 use Rattle.outage_laws.proofs.TrackLemmas.{last_due, none_by}
 
 -- a response that is an answer, and not 521

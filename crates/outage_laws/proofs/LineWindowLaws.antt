@@ -1,7 +1,7 @@
 -- From the moment on at which its answers had their time a line waits for no answer for longer, and gives nothing up; so its quarantine is
 -- out after so many rounds.
 use Rattle.std.proofs.Common.{◌≡◌, ℕ, ◌+◌, ◌-◌, ◌*◌, ◌<◌, ◌≤◌, Bool, true, false, List, [], ◌∷◌, ◌++◌, length, Option, Some, None, refl, sym, ap, ◌∙◌, subst, arith, append-nil, append_assoc}
-use Rattle.std.specs.Prelude.{◌||◌, IfSome, not}
+use Rattle.std.specs.Prelude.{◌||◌, not}
 use Rattle.mg_line.specs.State.TheVariants.{Notification}
 use Rattle.outbound.specs.Flight.{InFlight}
 use Rattle.restart.specs.declared.restart.Restart.{Restart}
@@ -12,37 +12,35 @@ use Rattle.plain_machine.specs.declared.setup.Setup.{Setup}
 use Rattle.plain_machine.specs.Arriving.{arrivals_of}
 use Rattle.plain_machine.specs.Event.{GatewayEvent}
 use Rattle.plain_machine.specs.Happening.{effect}
-use Rattle.plain_machine.specs.Lists.{machine_after, plain, sent_from}
+use Rattle.plain_machine.specs.Lists.{plain, sent_from}
 use Rattle.plain_machine.specs.Machine.{Machine, endpoint_at, opening, serves}
-use Rattle.plain_machine.specs.Message.{Sent}
+use Rattle.plain_machine.specs.Message.{Begun, Sent}
 use Rattle.plain_machine.specs.Posting.{wait_of}
 use Rattle.plain_machine.specs.Setup.{IsSetUp}
 use Rattle.plain_machine.proofs.ListLaws.{machine_on}
 use Rattle.machine_laws.specs.Belonging.{of_line}
-use Rattle.machine_laws.specs.Saying.{Begun, OneOf}
+use Rattle.machine_laws.specs.Saying.{OneOf}
 use Rattle.machine_laws.proofs.AnnouncementLaws.{serving_lasts}
-use Rattle.machine_laws.proofs.LineLemmas.{place_of}
-use Rattle.machine_laws.proofs.OwningLemmas.{of_both}
+use Rattle.machine_laws.proofs.OwningLemmas.{place_of, of_both}
 use Rattle.machine_laws.proofs.WaitLaws.{opening_waits}
 use Rattle.agent_core.specs.World.{World, WorldStep, gateway_in, now_in, plain_world, steps_are_taken, world_opening}
 use Rattle.world_laws.proofs.WorldLaws.{gateway_alone}
-use Rattle.delivery_laws.specs.Chances.{chances, last_chance}
-use Rattle.delivery_laws.specs.Copies.{answer_wait}
-use Rattle.delivery_laws.specs.Course.{course_from}
-use Rattle.delivery_laws.specs.Dialled.{done_in}
-use Rattle.delivery_laws.specs.Fairness.{GoesToAgent}
-use Rattle.delivery_laws.specs.GivenUp.{announces, has_given_up}
-use Rattle.delivery_laws.specs.OwnChances.{IsOfLine}
-use Rattle.delivery_laws.specs.Rounds.{IsAnsweredWithin, IsAskedWithin, IsAwaited, of_telephone, rounds_take}
-use Rattle.delivery_laws.proofs.ClockLemmas.{front_forward}
-use Rattle.delivery_laws.proofs.CourseLemmas.{AnyResponse, events_stand, hear_all}
-use Rattle.delivery_laws.proofs.FrontSteps.{TookThem, took_them}
-use Rattle.delivery_laws.proofs.GivenUpFronts.{was_there}
-use Rattle.delivery_laws.proofs.PostedLemmas.{sent_more}
-use Rattle.delivery_laws.proofs.RoundLaws.{out_in_time, rests_in_time, sent_on}
-use Rattle.delivery_laws.proofs.RoundTurns.{has_announced}
-use Rattle.delivery_laws.proofs.StepLemmas.{taken_front}
-use Rattle.delivery_laws.proofs.WaitingTurns.{HasFlight, HasOnceServing, has_turns}
+use Rattle.world_laws.specs.Chances.{chances, last_chance}
+use Rattle.world_laws.specs.Copies.{answer_wait}
+use Rattle.world_laws.specs.Course.{course_from, has_given_up}
+use Rattle.world_laws.specs.Dialled.{done_in}
+use Rattle.world_laws.specs.Fairness.{GoesToAgent}
+use Rattle.world_laws.specs.OwnChances.{IsOfLine}
+use Rattle.world_laws.specs.Rounds.{IsAnsweredWithin, IsAskedWithin, IsAwaited, of_telephone, rounds_take}
+use Rattle.world_laws.proofs.ChanceLaws.{front_forward}
+use Rattle.world_laws.proofs.CourseLemmas.{AnyResponse, events_stand, hear_all}
+use Rattle.world_laws.proofs.TakenLaws.{TookThem, took_them}
+use Rattle.world_laws.proofs.NumberTurns.{was_there}
+use Rattle.world_laws.proofs.PostedLemmas.{sent_more}
+use Rattle.world_laws.proofs.RoundLaws.{out_in_time}
+use Rattle.world_laws.proofs.RoundTurns.{has_announced}
+use Rattle.world_laws.proofs.PostedFinal.{taken_front}
+use Rattle.world_laws.proofs.WaitingTurns.{HasFlight, HasOnceServing, has_turns}
 use Rattle.outage_laws.specs.AfterOutage.{AgentHasRoomFrom, IsFairFrom, gap_of, last_in_time}
 use Rattle.outage_laws.proofs.LineFrontLaws.{awaited_there, none_announced, none_said, serves_there, with_one}
 use Rattle.outage_laws.proofs.LineServesLaws.{wait_is}
@@ -182,49 +180,6 @@ module _ (setup : Setup) (steps : List WorldStep) (since within line : ℕ) (bef
       both_none (has_announced (sent_since after)) endpoint.post.restart (none_on [] after refl none_yet)
       (ap (λ (r : Restart). is_serving r) (serves_then after (met after [] (sym (append-nil after))) endpoint there_last))
 
-  -- Nor has it given anything up by any of these moments, or anything in flight from long before
-
-  front_none : (some more : List Sent) → has_announced (some ++ more) ≡ false → has_announced some ≡ false
-  front_none [] more none = refl
-  front_none (one ∷ some) more none = by_test (announces one.said) none (front_none some more) where
-    by_test : (b : Bool) → (b || has_announced (some ++ more)) ≡ false → (has_announced (some ++ more) ≡ false → has_announced some ≡ false) → (b || has_announced some) ≡ false
-    by_test true none on = absurd cc
-    by_test false none on = on none
-
-  none_upto : (some later : List GatewayEvent) → after ≡ some ++ later → has_announced (sent_since some) ≡ false
-  none_upto some later order =
-      let more = of_line line (sent_from setup (machine_after setup (plain setup before) some) later) in
-      front_none (sent_since some) more
-      (subst (λ (x : List Sent). has_announced x ≡ false)
-      (ap sent_since order ∙ ap (of_line line) (sent_on setup (plain setup before) some later)
-      ∙ of_both line (sent_from setup (plain setup before) some) (sent_from setup (machine_after setup (plain setup before) some) later))
-      (none_on [] after refl none_yet))
-
-  pub serving_at : (some later : List GatewayEvent) (s : Endpoint) → after ≡ some ++ later → At some s → is_serving s.post.restart ≡ true
-  serving_at some later s order at = ap (λ (r : Restart). is_serving r) (serves_then some (met some later order) s at)
-
-  pub calm_at : (some later : List GatewayEvent) (s : Endpoint) → after ≡ some ++ later → At some s → has_given_up (of_line line (sent_from setup (plain setup before) some)) s.post ≡ false
-  calm_at some later s order at = both_none (has_announced (sent_since some)) s.post.restart (none_upto some later order) (serving_at some later s order at)
-
-  lately_since : (low before now first within : ℕ) → low + 2 * within ≤ before → before ≤ now → now ≤ first + 2 * within → low ≤ first
-  lately_since low before now first within late past lately = omega (arith, late, past, lately)
-
-  pub since_at : (low : ℕ) → low + 2 * within ≤ (plain setup before).now → (some later : List GatewayEvent) (s : Endpoint) → after ≡ some ++ later → At some s
-      → IfSome s.post.pending (λ flight. low ≤ flight.first)
-  since_at low early some later s order at = by_flight s.post.pending refl where
-    t : TookThem setup world_opening steps (before ++ some)
-    t = met some later order
-
-    past : (plain setup before).now ≤ (plain setup (before ++ some)).now
-    past = subst (λ (x : List GatewayEvent). (plain setup before).now ≤ (plain setup x).now) t.took (forward some t s at)
-
-    by_flight : (pending : Option InFlight) → s.post.pending ≡ pending → IfSome pending (λ flight. low ≤ flight.first)
-    by_flight None flies = tt
-    by_flight (Some flight) flies =
-        let is : IsAwaited (plain setup (before ++ some)).now (2 * within) s.post.pending = awaited_then some t s at flight flies in
-        subst (λ (pending : Option InFlight). IfSome pending (λ (x : InFlight). low ≤ x.first)) (sym is.flies ∙ flies)
-        (lately_since low (plain setup before).now (plain setup (before ++ some)).now is.flight.first within early past is.lately)
-
   -- So its quarantine is out.
 
   module _ (was : Endpoint) (asking : ℕ) (at : endpoint_at (plain setup before).endpoints line ≡ Some was) (asked : IsAskedWithin setup line before after asking)
@@ -235,9 +190,6 @@ module _ (setup : Setup) (steps : List WorldStep) (since within line : ℕ) (bef
 
     pub out_then : length (of_telephone endpoint.line.quarantined.events) ≤ length (done_in (course_from setup (plain setup before) line after))
     out_then = out_in_time setup before after line (2 * within) asking was endpoint at there_last given_nothing_up answered_then asked over
-
-    pub rests_then : done_in (course_from setup (plain setup before) line after) ≡ [] → of_telephone endpoint.line.quarantined.events ≡ []
-    rests_then rests = rests_in_time setup before after line (2 * within) asking was endpoint at there_last given_nothing_up answered_then asked over rests
 
 -- By the last send whose answer comes in time
 
@@ -259,21 +211,6 @@ module _ (setup : Setup) (steps : List WorldStep) (since within line : ℕ) (bef
   bound_so : since + answer_wait + setup.disconnected_wait + 2 * within ≤ (plain setup before).now + last_wait
   bound_so = gap_front since within setup.disconnected_wait (plain setup before).now last_wait few late
 
-  pub serving_behind : (some later : List GatewayEvent) (s : Endpoint) → after ≡ some ++ later → endpoint_at (plain setup (before ++ some)).endpoints line ≡ Some s
-      → is_serving s.post.restart ≡ true
-  serving_behind some later s order at =
-      serving_at setup steps since within line before after endpoint set_up taken fair roomy reach took serving there last_wait among few bound_so some later s order at
-
-  pub calm_behind : (some later : List GatewayEvent) (s : Endpoint) → after ≡ some ++ later → endpoint_at (plain setup (before ++ some)).endpoints line ≡ Some s
-      → has_given_up (of_line line (sent_from setup (plain setup before) some)) s.post ≡ false
-  calm_behind some later s order at =
-      calm_at setup steps since within line before after endpoint set_up taken fair roomy reach took serving there last_wait among few bound_so some later s order at
-
-  pub since_behind : (low : ℕ) → low + 2 * within ≤ (plain setup before).now → (some later : List GatewayEvent) (s : Endpoint) → after ≡ some ++ later
-      → endpoint_at (plain setup (before ++ some)).endpoints line ≡ Some s → IfSome s.post.pending (λ flight. low ≤ flight.first)
-  since_behind low early some later s order at =
-      since_at setup steps since within line before after endpoint set_up taken fair roomy reach took serving there last_wait among few bound_so low early some later s order at
-
   pub answered_behind : IsAnsweredWithin setup line before after (2 * within)
   answered_behind = answered_then setup steps since within line before after endpoint set_up taken fair roomy reach took serving there last_wait among few bound_so
 
@@ -282,7 +219,3 @@ module _ (setup : Setup) (steps : List WorldStep) (since within line : ℕ) (bef
     pub out_behind : length (of_telephone endpoint.line.quarantined.events) ≤ length (done_in (course_from setup (plain setup before) line after))
     out_behind =
         out_then setup steps since within line before after endpoint set_up taken fair roomy reach took serving there last_wait among few bound_so was asking at asked last
-
-    pub rests_behind : done_in (course_from setup (plain setup before) line after) ≡ [] → of_telephone endpoint.line.quarantined.events ≡ []
-    rests_behind rests =
-        rests_then setup steps since within line before after endpoint set_up taken fair roomy reach took serving there last_wait among few bound_so was asking at asked last rests

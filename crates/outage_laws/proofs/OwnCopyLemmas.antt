@@ -8,7 +8,8 @@ use Rattle.plain_machine.specs.declared.setup.Setup.{Setup}
 use Rattle.plain_machine.specs.Lists.{sent_of}
 use Rattle.plain_machine.specs.Setup.{IsSetUp}
 use Rattle.machine_laws.specs.Belonging.{of_line}
-use Rattle.machine_laws.specs.Saying.{Begun, OneOf, Tells, begun_in}
+use Rattle.plain_machine.specs.Message.{Begun}
+use Rattle.machine_laws.specs.Saying.{OneOf, Tells, begun_in}
 use Rattle.machine_laws.proofs.EachLemmas.{Each, any_from_one, each_at, one_from_any, one_of_each, one_to}
 use Rattle.machine_laws.proofs.PostLogs.{WasBegun}
 use Rattle.agent_core.specs.declared.packet.End.{End}
@@ -17,15 +18,15 @@ use Rattle.agent_core.specs.declared.packet.Posted.{Posted}
 use Rattle.agent_core.specs.World.{World, WorldStep, delivering, gateway_in, now_in, plain_world, steps_are_taken, world_opening}
 use Rattle.world_laws.specs.Reached.{Reached, own_in, taken_in}
 use Rattle.world_laws.proofs.LinkLaws.{GatewayPosts, GatewaySends, world_linked}
-use Rattle.delivery_laws.specs.Copies.{IsCopy}
-use Rattle.delivery_laws.specs.Fairness.{GoesToAgent}
-use Rattle.delivery_laws.specs.OwnChances.{HasCome, IsOfLine, IsToldAfter}
-use Rattle.delivery_laws.specs.Taking.{AgentHasRoom, IsOwn, IsTaken, agent_history}
-use Rattle.delivery_laws.proofs.FirstBroughtLaws.{begun_of_all}
-use Rattle.delivery_laws.proofs.ReturnedLaws.{has_come, plain_so, reads_so}
-use Rattle.delivery_laws.proofs.StepLemmas.{handed_to_agent, step_more, taken_front}
-use Rattle.delivery_laws.proofs.TakeLaws.{agent_takes}
-use Rattle.delivery_laws.proofs.TakenLemmas.{taken_stays}
+use Rattle.world_laws.specs.Copies.{IsCopy}
+use Rattle.world_laws.specs.Fairness.{GoesToAgent}
+use Rattle.world_laws.specs.OwnChances.{HasCome, IsOfLine, IsToldAfter}
+use Rattle.world_laws.specs.Taking.{AgentHasRoom, IsOwn, IsTaken, agent_history}
+use Rattle.world_laws.proofs.FirstBroughtLaws.{begun_of_all}
+use Rattle.world_laws.proofs.ReturnedLaws.{has_come, plain_so, reads_so}
+use Rattle.world_laws.proofs.PostedFinal.{handed_to_agent, step_more, taken_front}
+use Rattle.world_laws.proofs.TakeLaws.{agent_takes}
+use Rattle.world_laws.proofs.TakenLaws.{taken_stays}
 
 -- what a line began the gateway began
 pub own_of : (setup : Setup) (w : World) (line : ℕ) (b : Begun) → IsOfLine setup w line b → IsOwn setup w b

@@ -55,11 +55,10 @@ use Rattle.plain_machine.specs.Requesting.{deed_done, deed_on, done_for, done_th
 use Rattle.plain_machine.specs.Responding.{lines_told, opened_on, own_heard, redirected_on, responded, responded_on, response_with}
 use Rattle.machine_laws.specs.Belonging.{is_of, of_line}
 use Rattle.machine_laws.specs.Passing.{PassesAlone, goes_on, own_happens, rests}
-use Rattle.machine_laws.proofs.AlikeLemmas.{behind_acknowledged}
+use Rattle.machine_laws.proofs.AnnouncementLaws.{behind_acknowledged}
 use Rattle.machine_laws.proofs.EachLemmas.{Each, each_both}
 use Rattle.machine_laws.proofs.FlightLaws.{heard_same, repeated_same}
-use Rattle.machine_laws.proofs.LineLemmas.{own_stays, own_stays_on}
-use Rattle.machine_laws.proofs.OwningLemmas.{OwnedBy, acted_owned, deed_owned, of_both, on_many_lines, on_one_line, opened_owned, own_responded_owned, owned_here, redirected_owned, responded_owned}
+use Rattle.machine_laws.proofs.OwningLemmas.{own_stays, own_stays_on, OwnedBy, acted_owned, deed_owned, of_both, on_many_lines, on_one_line, opened_owned, own_responded_owned, owned_here, redirected_owned, responded_owned}
 use Rattle.machine_laws.proofs.PassLemmas.{own_passes}
 use Rattle.agent_core.specs.World.{is_among}
 use Rattle.outage_laws.proofs.PlainArrivals.{IsPlain}

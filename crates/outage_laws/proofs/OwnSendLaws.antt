@@ -9,21 +9,21 @@ use Rattle.plain_machine.specs.Arriving.{TextArrival, arrivals_of}
 use Rattle.plain_machine.specs.Event.{GatewayEvent}
 use Rattle.plain_machine.specs.Lists.{plain, sent_of}
 use Rattle.plain_machine.specs.Machine.{endpoint_at, opening}
-use Rattle.plain_machine.specs.Message.{Sent}
+use Rattle.plain_machine.specs.Message.{Begun, Sent}
 use Rattle.machine_laws.specs.Belonging.{of_line}
-use Rattle.machine_laws.specs.Saying.{Begun, begun_in}
+use Rattle.machine_laws.specs.Saying.{begun_in}
 use Rattle.machine_laws.proofs.EachLemmas.{all_from_each, any_from_one, one_from_any, one_of_each, one_to}
-use Rattle.machine_laws.proofs.LineLemmas.{place_of}
-use Rattle.delivery_laws.specs.Chances.{chances}
-use Rattle.delivery_laws.specs.Copies.{answer_wait}
-use Rattle.delivery_laws.specs.OwnChances.{IsResponse}
-use Rattle.delivery_laws.proofs.ChanceLaws.{eight}
-use Rattle.delivery_laws.proofs.GatewayChanceLaws.{OwnSends, events_later, events_own, opening_own}
-use Rattle.delivery_laws.proofs.LaterTurns.{DueLater}
-use Rattle.delivery_laws.proofs.OnTurns.{FliesIn, IsIt, IsOn, IsOver, Sends}
-use Rattle.delivery_laws.proofs.OwnChanceLaws.{Came, SaidBy, flying_said, hear_came, line_later, line_on}
-use Rattle.delivery_laws.proofs.PostedLemmas.{SaysAt}
-use Rattle.delivery_laws.proofs.WaitLemmas.{offset, offset_last, offset_rises}
+use Rattle.machine_laws.proofs.OwningLemmas.{place_of}
+use Rattle.world_laws.specs.Chances.{chances}
+use Rattle.world_laws.specs.Copies.{answer_wait}
+use Rattle.world_laws.specs.OwnChances.{IsResponse}
+use Rattle.world_laws.proofs.ChanceLaws.{eight}
+use Rattle.world_laws.proofs.GatewayChanceLaws.{OwnSends, events_later, events_own, opening_own}
+use Rattle.world_laws.proofs.WaitingTurns.{DueLater}
+use Rattle.world_laws.proofs.OnTurns.{FliesIn, IsIt, IsOn, IsOver, Sends}
+use Rattle.world_laws.proofs.OwnChanceLaws.{Came, SaidBy, flying_said, hear_came, line_later, line_on}
+use Rattle.world_laws.proofs.PostedLemmas.{SaysAt}
+use Rattle.world_laws.proofs.PassLaws.{offset, offset_last, offset_rises}
 use Rattle.outage_laws.specs.Alone.{HasBegun, HasResponse, IsSentAt}
 
 module _ (setup : Setup) (events : List GatewayEvent) (line : ℕ) where

@@ -23,11 +23,10 @@ use Rattle.agent_core.specs.World.{World, WorldStep, delivered, delivered_from, 
 use Rattle.world_laws.specs.Landing.{is_final}
 use Rattle.world_laws.specs.Reached.{Reached, taken_in}
 use Rattle.world_laws.proofs.TakenLaws.{heard_was_taken}
-use Rattle.delivery_laws.specs.GoingOn.{IsPlainAnswer}
-use Rattle.delivery_laws.specs.OwnChances.{HasCome, IsResponse}
-use Rattle.delivery_laws.proofs.PlaceLemmas.{each_member, each_two}
-use Rattle.delivery_laws.proofs.PostedFinal.{posted_plain}
-use Rattle.delivery_laws.proofs.StepLemmas.{step_more, taken_front}
+use Rattle.world_laws.specs.Copies.{IsPlainAnswer}
+use Rattle.world_laws.specs.OwnChances.{HasCome, IsResponse}
+use Rattle.world_laws.proofs.LookLemmas.{each_member, each_two}
+use Rattle.world_laws.proofs.PostedFinal.{posted_plain, step_more, taken_front}
 
 abbrev pub IsPlain : Outcome → Type 0
 IsPlain outcome = (code id : ℕ) (params : List Param) (body : List ℕ) → outcome ≡ message (messages.Response code id params body) → (is_final code ≡ true) × (code ≢ 521)

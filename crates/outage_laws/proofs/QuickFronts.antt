@@ -5,18 +5,18 @@ use Rattle.std.specs.Prelude.{◌⊎◌, nat_lt, slice_get}
 use Rattle.plain_machine.specs.declared.setup.Setup.{Setup}
 use Rattle.plain_machine.specs.Event.{GatewayEvent}
 use Rattle.plain_machine.specs.Lists.{plain}
-use Rattle.machine_laws.specs.Saying.{Begun}
+use Rattle.plain_machine.specs.Message.{Begun}
 use Rattle.agent_core.specs.declared.packet.Posted.{Posted}
 use Rattle.agent_core.specs.World.{World, WorldStep, delivering, now_in, oldest_packet, plain_world, steps_are_taken, world_after, world_opening}
-use Rattle.delivery_laws.specs.Chances.{chances, last_chance}
-use Rattle.delivery_laws.specs.Copies.{answer_wait}
-use Rattle.delivery_laws.specs.Fairness.{GoesToAgent, IsHandedOver}
-use Rattle.delivery_laws.specs.OwnChances.{IsOfLine}
-use Rattle.delivery_laws.specs.Rounds.{IsAskedWithin}
-use Rattle.delivery_laws.proofs.ClockLemmas.{front_forward, handed_now}
-use Rattle.delivery_laws.proofs.FairLaws.{IsBefore, one_first, stays_found}
-use Rattle.delivery_laws.proofs.FrontSteps.{TookMore, TookThem, same_front, took_more, took_them}
-use Rattle.delivery_laws.proofs.StepLemmas.{steps_more, taken_front}
+use Rattle.world_laws.specs.Chances.{chances, last_chance}
+use Rattle.world_laws.specs.Copies.{answer_wait}
+use Rattle.world_laws.specs.Fairness.{GoesToAgent, IsHandedOver}
+use Rattle.world_laws.specs.OwnChances.{IsOfLine}
+use Rattle.world_laws.specs.Rounds.{IsAskedWithin}
+use Rattle.world_laws.proofs.ChanceLaws.{front_forward, handed_now}
+use Rattle.world_laws.proofs.FairLaws.{IsBefore, one_first, stays_found}
+use Rattle.world_laws.proofs.TakenLaws.{TookMore, TookThem, same_front, took_more, took_them}
+use Rattle.world_laws.proofs.PostedFinal.{steps_more, taken_front}
 use Rattle.outage_laws.specs.AfterOutage.{AgentHasRoomFrom, IsFairFrom, gap_of, last_in_time}
 use Rattle.outage_laws.proofs.OldestServes.{Cut, cut_from, handed_young, of_stays, opening_now}
 use Rattle.outage_laws.proofs.ServesLaws.{IsQuick}

@@ -11,7 +11,7 @@ use Rattle.transmission.specs.Packing.{same_address}
 use Rattle.machine_laws.specs.Saying.{OneOf}
 use Rattle.machine_laws.proofs.EachLemmas.{any_from_one, one_weaker}
 use Rattle.agent_core.specs.World.{is_among}
-use Rattle.delivery_laws.proofs.SenderLemmas.{address_itself}
+use Rattle.world_laws.proofs.PostedFinal.{address_itself}
 
 abbrev IsIn : SocketAddrV4 → List SocketAddrV4 → Type 0
 IsIn a all = OneOf (λ (b : SocketAddrV4). b ≡ a) all

@@ -5,16 +5,17 @@ use Rattle.plain_machine.specs.Event.{GatewayEvent}
 use Rattle.plain_machine.specs.Lists.{plain}
 use Rattle.plain_machine.specs.Machine.{serves}
 use Rattle.plain_machine.specs.Setup.{IsSetUp}
-use Rattle.machine_laws.specs.Saying.{Begun, OneOf}
+use Rattle.plain_machine.specs.Message.{Begun}
+use Rattle.machine_laws.specs.Saying.{OneOf}
 use Rattle.machine_laws.proofs.EachLemmas.{one_of_each, one_to}
 use Rattle.agent_core.specs.World.{WorldStep, gateway_in, now_in, plain_world, steps_are_taken, world_opening}
-use Rattle.delivery_laws.specs.Chances.{chances, last_chance}
-use Rattle.delivery_laws.specs.Copies.{answer_wait}
-use Rattle.delivery_laws.specs.Fairness.{GoesToAgent}
-use Rattle.delivery_laws.specs.OwnChances.{IsOfLine}
-use Rattle.delivery_laws.proofs.CarryLaws.{chances_low}
-use Rattle.delivery_laws.proofs.FrontSteps.{TookThem, took_them}
-use Rattle.delivery_laws.proofs.StepLemmas.{taken_front}
+use Rattle.world_laws.specs.Chances.{chances, last_chance}
+use Rattle.world_laws.specs.Copies.{answer_wait}
+use Rattle.world_laws.specs.Fairness.{GoesToAgent}
+use Rattle.world_laws.specs.OwnChances.{IsOfLine}
+use Rattle.world_laws.proofs.TakeLaws.{chances_low}
+use Rattle.world_laws.proofs.TakenLaws.{TookThem, took_them}
+use Rattle.world_laws.proofs.PostedFinal.{taken_front}
 use Rattle.outage_laws.specs.AfterOutage.{AgentHasRoomFrom, IsFairFrom, gap_of, last_in_time}
 use Rattle.outage_laws.proofs.FirstServes.{fair_on, first_serves_so, roomy_on}
 use Rattle.outage_laws.proofs.LineFrontLaws.{back, of_whole}

@@ -8,27 +8,26 @@ use Rattle.transmission.specs.Texts.{texts_of}
 use Rattle.plain_machine.specs.declared.setup.Setup.{Setup}
 use Rattle.plain_machine.specs.Lists.{sent_of}
 use Rattle.plain_machine.specs.Machine.{serves}
-use Rattle.plain_machine.specs.Message.{Sent}
+use Rattle.plain_machine.specs.Message.{Begun, Sent}
 use Rattle.plain_machine.specs.Setup.{IsSetUp}
 use Rattle.machine_laws.specs.Belonging.{is_of, of_line}
-use Rattle.machine_laws.specs.Saying.{Begun, OneOf, begun_in}
+use Rattle.machine_laws.specs.Saying.{OneOf, begun_in}
 use Rattle.machine_laws.proofs.EachLemmas.{Each, all_from_each, any_from_one, each_weaker, one_from_any, one_of_each, one_to}
 use Rattle.agent_core.specs.World.{World, WorldStep, delivering, gateway_in, now_in, oldest_packet, plain_world, steps_are_taken, world_opening}
-use Rattle.delivery_laws.specs.Chances.{chances, last_chance}
-use Rattle.delivery_laws.specs.Copies.{answer_wait}
-use Rattle.delivery_laws.specs.Fairness.{GoesToAgent}
-use Rattle.delivery_laws.specs.GoingOn.{IsPlainAnswer}
-use Rattle.delivery_laws.specs.OwnChances.{IsOfLine, IsToldAfter}
-use Rattle.delivery_laws.proofs.CarryLaws.{chances_low}
-use Rattle.delivery_laws.proofs.ChanceLaws.{eight}
-use Rattle.delivery_laws.proofs.OnTurns.{IsOn}
-use Rattle.delivery_laws.proofs.OwnChanceLaws.{flying_said, one_unfiltered, told_after}
-use Rattle.delivery_laws.proofs.PostedLemmas.{SaysAt, said_posted}
-use Rattle.delivery_laws.proofs.ServingLaws.{gateway_goes_on_amid}
-use Rattle.delivery_laws.proofs.StepLemmas.{taken_front}
-use Rattle.delivery_laws.proofs.WaitLemmas.{offset, offset_last, offset_rises}
+use Rattle.world_laws.specs.Chances.{chances, last_chance}
+use Rattle.world_laws.specs.Copies.{answer_wait, IsPlainAnswer}
+use Rattle.world_laws.specs.Fairness.{GoesToAgent}
+use Rattle.world_laws.specs.OwnChances.{IsOfLine, IsToldAfter}
+use Rattle.world_laws.proofs.TakeLaws.{chances_low}
+use Rattle.world_laws.proofs.ChanceLaws.{eight}
+use Rattle.world_laws.proofs.OnTurns.{IsOn}
+use Rattle.world_laws.proofs.OwnChanceLaws.{flying_said, one_unfiltered, told_after}
+use Rattle.world_laws.proofs.PostedLemmas.{SaysAt, said_posted}
+use Rattle.world_laws.proofs.ServingLaws.{gateway_goes_on_amid}
+use Rattle.world_laws.proofs.PostedFinal.{taken_front}
+use Rattle.world_laws.proofs.PassLaws.{offset, offset_last, offset_rises}
 use Rattle.outage_laws.specs.AfterOutage.{AgentHasRoomFrom, IsFairFrom, last_in_time, longest_pause}
-use Rattle.outage_laws.proofs.NextSendLemmas.{IsNext, next_send}
+use Rattle.outage_laws.proofs.UnservedRoom.{IsNext, next_send}
 use Rattle.outage_laws.proofs.PlainArrivals.{packet_plain}
 use Rattle.outage_laws.proofs.SinceLaws.{IsBack, comes_in_time}
 use Rattle.outage_laws.proofs.TrackLaws.{Behind, Closed, IsTracked, closed_front, world_tracked}

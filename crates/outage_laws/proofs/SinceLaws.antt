@@ -5,24 +5,23 @@ use Rattle.history.specs.KeptFirst.{KeptFirst}
 use Rattle.history.specs.Kept.{firsts_in}
 use Rattle.plain_machine.specs.declared.setup.Setup.{Setup}
 use Rattle.plain_machine.specs.Setup.{IsSetUp}
-use Rattle.machine_laws.specs.Saying.{Begun, IsAnswerTo, OneOf}
-use Rattle.machine_laws.proofs.EachLemmas.{each_from_all, one_from_any, one_weaker}
+use Rattle.plain_machine.specs.Message.{Begun}
+use Rattle.machine_laws.specs.Saying.{IsAnswerTo}
+use Rattle.machine_laws.proofs.EachLemmas.{each_from_all, one_from_any}
 use Rattle.agent_core.specs.declared.packet.End.TheVariants.{AgentEnd as agent_end}
 use Rattle.agent_core.specs.World.{World, WorldStep, delivering, now_in, plain_world, steps_are_taken, world_opening}
 use Rattle.world_laws.specs.Reached.{Reached, taken_in}
-use Rattle.delivery_laws.specs.Chances.{chances, last_chance}
-use Rattle.delivery_laws.specs.Copies.{IsCopy}
-use Rattle.delivery_laws.specs.Fairness.{GoesToAgent, IsHandedOver}
-use Rattle.delivery_laws.specs.OwnChances.{HasCome, IsOfLine, IsToldAfter}
-use Rattle.delivery_laws.specs.Taking.{IsTaken, agent_history}
-use Rattle.delivery_laws.proofs.ClockLemmas.{front_forward, handed_now}
-use Rattle.delivery_laws.proofs.FairLaws.{IsBefore, found_within, later_before, stays_found}
-use Rattle.delivery_laws.proofs.ReturnedLaws.{reads_so}
-use Rattle.delivery_laws.proofs.StandsTakenLemmas.{taken_lately}
-use Rattle.delivery_laws.proofs.StepLemmas.{taken_front}
-use Rattle.delivery_laws.proofs.TakenLemmas.{taken_stays}
+use Rattle.world_laws.specs.Chances.{chances, last_chance}
+use Rattle.world_laws.specs.Copies.{IsCopy}
+use Rattle.world_laws.specs.Fairness.{GoesToAgent, IsHandedOver}
+use Rattle.world_laws.specs.OwnChances.{HasCome, IsOfLine, IsToldAfter}
+use Rattle.world_laws.specs.Taking.{IsTaken, agent_history}
+use Rattle.world_laws.proofs.ChanceLaws.{front_forward, handed_now}
+use Rattle.world_laws.proofs.FairLaws.{IsBefore, found_within, later_before, stays_found}
+use Rattle.world_laws.proofs.ReturnedLaws.{reads_so}
+use Rattle.world_laws.proofs.PostedFinal.{taken_front}
 use Rattle.outage_laws.specs.AfterOutage.{AgentHasRoomFrom, IsFairFrom, longest_pause}
-use Rattle.outage_laws.proofs.NextSendLemmas.{IsNext, next_send}
+use Rattle.outage_laws.proofs.UnservedRoom.{IsNext, next_send}
 use Rattle.outage_laws.proofs.OwnCopyLemmas.{comes_back, own_of, posted_past, stays_taken, take_copy, told_copy}
 use Rattle.outage_laws.proofs.PlainArrivals.{come_taken}
 
@@ -55,9 +54,6 @@ wait_late since first wait more now (inr soon) late by = omega (arith, soon, by)
 
 wait_past : (first wait more now : ℕ) → first + wait + more ≤ now → first + wait ≤ now
 wait_past first wait more now late = omega (arith, late)
-
-began_before : (first wait sent now next came : ℕ) → sent ≡ first + wait → sent ≤ now → next ≡ now → next < came + 40000 → first < came + 40000
-began_before first wait sent now next came at past same young = omega (arith, at, past, same, young)
 
 -- the answer to the copy that was sent so many ms behind the first is handed over at that moment, or up to twice the network's time later
 pub record IsBack (setup : Setup) (steps : List WorldStep) (within : ℕ) (b : Begun) (wait : ℕ) : Type 0 where
@@ -112,23 +108,6 @@ module _ (setup : Setup) (steps : List WorldStep) (since within line : ℕ) (b :
         take_copy setup steps b set_up taken (own_of setup w line b of) there.before there.later told.number there.order
         (told_copy setup steps b set_up taken (own_of setup w line b of) reach wait told (plain_world setup there.before) there.sent)
         (roomy (there.before ++ delivering told.number ∷ []) there.later there.order clock)
-
-    -- as itself, or as one with its id that the agent remembers
-    pub lately_by : OneOf (λ (one : Reached). (one.asked.id ≡ b.id) × (b.moment < one.asked.moment + 40000)) (taken_in w)
-    lately_by =
-        subst (λ (s : List WorldStep). OneOf (λ (one : Reached). (one.asked.id ≡ b.id) × (b.moment < one.asked.moment + 40000)) (taken_in (plain_world setup s))) (sym there.order)
-        (taken_stays (λ (one : Reached). (one.asked.id ≡ b.id) × (b.moment < one.asked.moment + 40000)) setup front there.later
-        (one_weaker (λ (one : Reached). (one.asked.id ≡ b.id) × (now_in setup (plain_world setup front) < one.asked.moment + 40000))
-        (λ (one : Reached). (one.asked.id ≡ b.id) × (b.moment < one.asked.moment + 40000))
-        (λ one is. (
-          is.0,
-          began_before b.moment wait told.post.packet.moment (now_in setup (plain_world setup there.before)) (now_in setup (plain_world setup front)) one.asked.moment told.moment past
-              (handed_now setup there.before told.number) is.1,
-        )) (taken_in (plain_world setup front))
-        (taken_lately setup b.id (plain_world setup there.before) front set_up
-        (taken_front setup world_opening front there.later (subst (λ (s : List WorldStep). steps_are_taken setup world_opening s ≡ true) there.order taken)) took))) where
-          front : List WorldStep
-          front = there.before ++ delivering told.number ∷ []
 
     pub taken_by : WasTaken
     taken_by = stays_taken setup steps b set_up taken (own_of setup w line b of) there.before there.later told.number there.order took

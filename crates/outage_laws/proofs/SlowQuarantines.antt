@@ -12,19 +12,19 @@ use Rattle.plain_machine.specs.Lists.{plain}
 use Rattle.plain_machine.specs.Machine.{Machine, endpoint_at, opening, serves}
 use Rattle.plain_machine.specs.Setup.{IsSetUp}
 use Rattle.plain_machine.proofs.ListLaws.{machine_on}
-use Rattle.machine_laws.specs.Saying.{Begun}
-use Rattle.machine_laws.proofs.LineLemmas.{place_of}
+use Rattle.plain_machine.specs.Message.{Begun}
+use Rattle.machine_laws.proofs.OwningLemmas.{place_of}
 use Rattle.agent_core.specs.World.{WorldStep, gateway_in, now_in, plain_world, steps_are_taken, world_opening}
-use Rattle.delivery_laws.specs.Chances.{last_chance}
-use Rattle.delivery_laws.specs.Copies.{answer_wait}
-use Rattle.delivery_laws.specs.Course.{CourseStep, course_from}
-use Rattle.delivery_laws.specs.Dialled.{done_in}
-use Rattle.delivery_laws.specs.Fairness.{GoesToAgent}
-use Rattle.delivery_laws.specs.OwnChances.{IsOfLine}
-use Rattle.delivery_laws.specs.Rounds.{IsAskedWithin, of_telephone, rounds_take}
-use Rattle.delivery_laws.proofs.GivenUpFronts.{was_there}
-use Rattle.delivery_laws.proofs.RoundLaws.{course_on}
-use Rattle.delivery_laws.proofs.RoundTurns.{done_more}
+use Rattle.world_laws.specs.Chances.{last_chance}
+use Rattle.world_laws.specs.Copies.{answer_wait}
+use Rattle.world_laws.specs.Course.{CourseStep, course_from}
+use Rattle.world_laws.specs.Dialled.{done_in}
+use Rattle.world_laws.specs.Fairness.{GoesToAgent}
+use Rattle.world_laws.specs.OwnChances.{IsOfLine}
+use Rattle.world_laws.specs.Rounds.{IsAskedWithin, of_telephone, rounds_take}
+use Rattle.world_laws.proofs.NumberTurns.{was_there}
+use Rattle.world_laws.proofs.RoundLaws.{course_on}
+use Rattle.world_laws.proofs.RoundTurns.{done_more}
 use Rattle.outage_laws.specs.AfterOutage.{AgentHasRoomFrom, IsFairFrom, gap_of, longer_wait, well_by}
 use Rattle.outage_laws.proofs.FewLemmas.{few_on}
 use Rattle.outage_laws.proofs.LineWindowLaws.{out_behind}

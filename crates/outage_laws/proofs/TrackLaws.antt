@@ -31,8 +31,7 @@ use Rattle.machine_laws.proofs.AnnouncementLaws.{answer_serves, serving_lasts}
 use Rattle.machine_laws.proofs.EachLemmas.{Each}
 use Rattle.machine_laws.proofs.FlightLaws.{a_stranger_to_itself, own_stays as own_stays_at}
 use Rattle.machine_laws.proofs.GatewayEvents.{gateway_forward}
-use Rattle.machine_laws.proofs.LineLemmas.{own_stays_on}
-use Rattle.machine_laws.proofs.OwningLemmas.{of_both}
+use Rattle.machine_laws.proofs.OwningLemmas.{own_stays_on, of_both}
 use Rattle.machine_laws.proofs.PassLemmas.{own_passes}
 use Rattle.machine_laws.proofs.WaitLaws.{events_wait, text_waits}
 use Rattle.call_agent.specs.Hearing.{hears}
@@ -42,12 +41,12 @@ use Rattle.agent_core.specs.declared.packet.Posted.{Posted}
 use Rattle.agent_core.specs.World.{World, WorldStep, delivered, delivered_from, delivering, dialling, gateway_address, gateway_in, is_among, issuing, now_in, plain_world, step_refusal, steps_are_taken, ticking, to_agent, to_gateway, went, world_after, world_opening}
 use Rattle.world_laws.specs.Landing.{is_final}
 use Rattle.world_laws.proofs.WorldLaws.{gateway_alone, gateway_clock, gateway_taken}
-use Rattle.delivery_laws.proofs.FairLaws.{taken_last}
-use Rattle.delivery_laws.proofs.FrontSteps.{took_more}
-use Rattle.delivery_laws.proofs.LineLaws.{heard_is}
-use Rattle.delivery_laws.proofs.PostedLemmas.{sent_more}
-use Rattle.delivery_laws.proofs.ServingLaws.{own_keeps, texts_serve}
-use Rattle.delivery_laws.proofs.StepLemmas.{step_more, steps_more, taken_front}
+use Rattle.world_laws.proofs.FairLaws.{taken_last}
+use Rattle.world_laws.proofs.TakenLaws.{took_more}
+use Rattle.world_laws.proofs.LineLaws.{heard_is}
+use Rattle.world_laws.proofs.PostedLemmas.{sent_more}
+use Rattle.world_laws.proofs.ServingLaws.{own_keeps, texts_serve}
+use Rattle.world_laws.proofs.PostedFinal.{step_more, steps_more, taken_front}
 use Rattle.outage_laws.proofs.PlainArrivals.{IsPlain, plain_texts}
 use Rattle.outage_laws.proofs.TrackLemmas.{Anytime, Tracked, opening_tracked, passed, tracked_on}
 

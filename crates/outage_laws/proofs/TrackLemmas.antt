@@ -1,6 +1,11 @@
 -- Where the gateway itself is with its announcements while none is answered: by their starts, one behind the other, and what went out.
-use Rattle.std.proofs.Common.{◌≡◌, ℕ, zero, suc, ◌+◌, ◌-◌, ◌<◌, ◌≤◌, Bool, true, false, if◌then◌else◌, List, [], ◌∷◌, ◌++◌, Option, Some, None, inl, inr, refl, sym, ap, ◌∙◌, subst, arith, append-nil, append_assoc}
-use Rattle.std.specs.Prelude.{◌⊎◌, nat_le}
+use Rattle.std.proofs.Common.{◌≡◌, ℕ, Option, Some, None, ap, ◌∙◌, zero, suc, ◌+◌, ◌-◌, ◌<◌, ◌≤◌, Bool, true, false, if◌then◌else◌, List, [], ◌∷◌, ◌++◌, inl, inr, refl, sym, subst, arith, append-nil, append_assoc}
+use Rattle.std.specs.Prelude.{option_map, ◌⊎◌, nat_le}
+use Rattle.outbound.specs.Flight.{InFlight, repeat_of, repeated, sent_first}
+use Rattle.restart.specs.Restarting.{announced_at}
+use Rattle.timers.specs.Order.{earlier}
+use Rattle.plain_machine.specs.declared.post.Post.{Post}
+use Rattle.plain_machine.specs.Falling.{announcement_item, command_item, post_due, happened_under, if_by}
 use Rattle.std.specs.Option.{unwrap_or}
 use Rattle.std.proofs.lemmas.Bool.{leb-true, leb-false}
 use Rattle.std.proofs.lemmas.Option.{none-some}
@@ -8,31 +13,33 @@ use Rattle.mgcp_text.specs.Writing.{written}
 use Rattle.outbound.specs.declared.repeat.Repeat.{Repeat}
 use Rattle.outbound.specs.declared.repeat.Repeat.TheVariants.{Sent as SentAgain, GivenUp}
 use Rattle.outbound.specs.Sends.{most_repeats, sending_time}
-use Rattle.outbound.specs.Flight.{InFlight, repeat_of, repeated, sent_first}
 use Rattle.outbound.proofs.LifeLaws.{repeat_same}
-use Rattle.restart.specs.Restarting.{announced_at}
 use Rattle.restart.specs.declared.restart.Restart.{Restart}
 use Rattle.restart.specs.declared.restart.Restart.TheVariants.{Waiting, Announced}
 use Rattle.timers.specs.declared.due_item.DueItem.{DueItem}
 use Rattle.timers.specs.declared.kind.DueKind.TheVariants.{Resend, Announce}
-use Rattle.plain_machine.specs.declared.post.Post.{Post}
 use Rattle.plain_machine.specs.declared.setup.Setup.{Setup}
 use Rattle.plain_machine.specs.Announcing.{announcement}
 use Rattle.plain_machine.specs.Effect.{Effect, silently}
-use Rattle.plain_machine.specs.Falling.{announcement_item, command_item, happened_under, if_by, post_due}
 use Rattle.plain_machine.specs.Machine.{opening}
-use Rattle.plain_machine.specs.Message.{Sent}
+use Rattle.plain_machine.specs.Message.{Begun, Sent}
 use Rattle.plain_machine.specs.Posting.{id_on, number_after, repeated_as, resent_by, wait_of, with_command}
 use Rattle.machine_laws.specs.Passing.{PassesAlone, goes_on, own_happens, rests}
-use Rattle.machine_laws.specs.Saying.{Begun, OneOf, begun_in}
+use Rattle.machine_laws.specs.Saying.{OneOf, begun_in}
 use Rattle.machine_laws.proofs.AnnouncementLaws.{waits_anew, waits_due, waits_sent}
 use Rattle.machine_laws.proofs.EachLemmas.{Each, each_both, one_before, one_behind}
-use Rattle.delivery_laws.specs.Copies.{answer_wait}
-use Rattle.delivery_laws.proofs.ChanceLemmas.{offset_low}
-use Rattle.delivery_laws.proofs.OnTurns.{IsIt, IsOn, WentOut, all_out, its_sends, on_again, on_begins, on_more, went_on}
-use Rattle.delivery_laws.proofs.RestLemmas.{begun_both}
-use Rattle.delivery_laws.proofs.WaitLemmas.{given_up, offset, offset_last}
-use Rattle.outage_laws.proofs.ResponseLaws.{falls_due}
+use Rattle.world_laws.specs.Copies.{answer_wait}
+use Rattle.world_laws.proofs.ChanceLemmas.{offset_low}
+use Rattle.world_laws.proofs.OnTurns.{IsIt, IsOn, WentOut, all_out, its_sends, on_again, on_begins, on_more, went_on, begun_both}
+use Rattle.world_laws.proofs.PassLaws.{given_up, offset, offset_last}
+
+-- What a response that is no answer does to what is in flight, and what 521 does.
+
+pub falls_due : (line : ℕ) (post : Post) (message : InFlight) → post.pending ≡ Some message → announced_at post.restart ≡ None → post_due line post ≡ Some (command_item line message)
+unfolding post_due
+falls_due line post message flies none =
+    ap (λ (pending : Option InFlight). earlier (option_map (command_item line) pending) (option_map (announcement_item line) (announced_at post.restart))) flies
+    ∙ ap (λ (at : Option ℕ). earlier (Some (command_item line message)) (option_map (announcement_item line) at)) none
 
 -- The announcements, where none is answered
 

@@ -1,7 +1,10 @@
 -- Until a gateway serves its agent has room: what it is told of then are announcements, of which a few alone are young at a time.
-use Rattle.std.proofs.Common.{◌≡◌, ◌≢◌, ℕ, zero, suc, ◌+◌, ◌-◌, ◌<◌, ◌≤◌, Bool, true, false, ◌==◌, if◌then◌else◌, List, [], ◌∷◌, map, length, filter, inl, inr, refl, sym, ap, ◌∙◌, subst, arith}
-use Rattle.std.specs.Prelude.{◌⊎◌, AllPairs, flat_map, nat_le}
-use Rattle.std.proofs.lemmas.Bool.{eqb-false, eqb-true, leb-false, leb-true, ltb-true}
+use Rattle.std.proofs.Common.{◌≡◌, ℕ, ◌+◌, ◌<◌, ◌≤◌, Bool, true, false, List, [], ◌∷◌, inl, inr, refl, arith, ◌≢◌, zero, suc, ◌-◌, ◌==◌, if◌then◌else◌, map, length, filter, sym, ap, ◌∙◌, subst}
+use Rattle.std.specs.Prelude.{◌⊎◌, nat_le, AllPairs, flat_map}
+use Rattle.std.proofs.lemmas.Bool.{leb-true, leb-false, eqb-false, eqb-true, ltb-true}
+use Rattle.machine_laws.proofs.EachLemmas.{Each, each_from_all, each_weaker, one_of_each, one_to}
+use Rattle.world_laws.specs.Chances.{chances, last_chance}
+use Rattle.outage_laws.specs.AfterOutage.{longest_pause, AgentHasRoomFrom}
 use Rattle.history.specs.Entry.{Entry}
 use Rattle.history.specs.Entry.TheVariants.{Confirmation, First}
 use Rattle.history.specs.Kept.{firsts_in, young_firsts}
@@ -10,20 +13,59 @@ use Rattle.plain_machine.specs.declared.setup.Setup.{Setup}
 use Rattle.plain_machine.specs.Arriving.{arrivals_of}
 use Rattle.plain_machine.specs.Machine.{serves}
 use Rattle.plain_machine.specs.Setup.{IsSetUp}
-use Rattle.machine_laws.specs.Saying.{Begun, OneOf}
-use Rattle.machine_laws.proofs.EachLemmas.{Each, each_from_all, each_weaker, one_of_each, one_to}
+use Rattle.plain_machine.specs.Message.{Begun}
+use Rattle.machine_laws.specs.Saying.{OneOf}
 use Rattle.agent_core.specs.World.{World, WorldStep, agent_in, gateway_in, now_in, plain_world, steps_are_taken, world_opening}
 use Rattle.world_laws.specs.Reached.{Reached, heard_in, key_kept, key_reached, own_in, reached, taken_in}
 use Rattle.world_laws.proofs.LinkLaws.{Linked, Rises, world_linked}
 use Rattle.world_laws.proofs.ReachedLaws.{executed_apart, executed_each}
 use Rattle.world_laws.proofs.TakenLaws.{agent_keys}
 use Rattle.world_laws.proofs.WorldLaws.{Came, Comes, world_sound}
-use Rattle.delivery_laws.specs.Taking.{AgentHasRoom, agent_history}
-use Rattle.delivery_laws.proofs.StepLemmas.{taken_front}
-use Rattle.outage_laws.specs.AfterOutage.{AgentHasRoomFrom}
+use Rattle.world_laws.specs.Taking.{AgentHasRoom, agent_history}
+use Rattle.world_laws.proofs.PostedFinal.{taken_front}
 use Rattle.outage_laws.proofs.TrackLaws.{Closed, closed_front}
 use Rattle.outage_laws.proofs.TrackLemmas.{IsAnnounced, announcement_at, start_of, start_rises}
 use Rattle.outage_laws.proofs.UnservedSends.{all_announced}
+
+-- Of the moments of a command's sends the first that isn't before a moment is 3,999 ms behind that at the latest, or the very first.
+
+-- of these waits
+pub record IsNext (P : ℕ → Type 0) (since first : ℕ) : Type 0 where
+  pub wait : ℕ
+  pub has : P wait
+  pub late : since ≤ first + wait
+  pub soon : (wait ≡ 0) ⊎ (first + wait + 1 ≤ since + longest_pause)
+
+-- each so long behind the one before at the latest
+abbrev RiseBy : ℕ → List ℕ → Type 0
+RiseBy was [] = Unit {0}
+RiseBy was (wait ∷ waits) = (wait ≤ was + longest_pause) × RiseBy wait waits
+
+abbrev last_of : ℕ → List ℕ → ℕ
+last_of was [] = was
+last_of was (wait ∷ waits) = last_of wait waits
+
+behind : (P : ℕ → Type 0) (since first was : ℕ) (waits : List ℕ) → first + was < since → RiseBy was waits → since ≤ first + last_of was waits → Each P waits → IsNext P since first
+behind P since first was [] before rises late all = absurd (omega (arith, before, late))
+behind P since first was (wait ∷ waits) before rises late all = by_test (nat_le since (first + wait)) refl (λ past. behind P since first wait waits past rises.1 late all.1) where
+  by_test : (b : Bool) → nat_le since (first + wait) ≡ b → (first + wait < since → IsNext P since first) → IsNext P since first
+  by_test true is on = record {
+    wait = wait;
+    has = all.0;
+    late = leb-true since (first + wait) is;
+    soon = inr (let rise : wait ≤ was + longest_pause = rises.0 in omega (arith, before, rise));
+  }
+  by_test false is on = on (leb-false since (first + wait) is)
+
+rise : RiseBy 0 (500 ∷ 1500 ∷ 3500 ∷ 7500 ∷ 11500 ∷ 15500 ∷ last_chance ∷ [])
+rise = (omega arith, (omega arith, (omega arith, (omega arith, (omega arith, (omega arith, (omega arith, tt)))))))
+
+pub next_send : (P : ℕ → Type 0) (since first : ℕ) → since ≤ first + last_chance → Each P chances → IsNext P since first
+next_send P since first late all = by_test (nat_le since (first + 0)) refl where
+  by_test : (b : Bool) → nat_le since (first + 0) ≡ b → IsNext P since first
+  by_test true is = record { wait = 0; has = all.0; late = leb-true since (first + 0) is; soon = inl refl }
+  by_test false is =
+      behind P since first 0 (500 ∷ 1500 ∷ 3500 ∷ 7500 ∷ 11500 ∷ 15500 ∷ last_chance ∷ []) (leb-false since (first + 0) is) rise late all.1
 
 -- Lists of ids
 

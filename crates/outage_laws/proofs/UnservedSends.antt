@@ -1,8 +1,15 @@
 -- Until it serves a gateway begins nothing but its own announcements.
-use Rattle.std.proofs.Common.{◌≡◌, ◌≢◌, ℕ, zero, suc, ◌≤◌, Bool, true, false, ◌==◌, if◌then◌else◌, List, [], ◌∷◌, ◌++◌, Option, Some, None, refl, sym, ap, ◌∙◌, subst, arith, append-nil, append_assoc}
-use Rattle.std.specs.Prelude.{IfSome, slice_get}
-use Rattle.std.proofs.lemmas.Bool.{eq-eqb}
+use Rattle.std.proofs.Common.{◌≡◌, ℕ, zero, suc, ◌+◌, Bool, true, false, ◌||◌, ◌&&◌, List, [], ◌∷◌, Option, Some, refl, ap, subst, arith, ◌≢◌, ◌≤◌, ◌==◌, if◌then◌else◌, ◌++◌, None, sym, ◌∙◌, append-nil, append_assoc}
+use Rattle.std.specs.Prelude.{nat_le, nat_lt, slice_get, unwrap_or, IfSome}
+use Rattle.std.proofs.lemmas.Bool.{and_parts, leb-true, eq-eqb}
 use Rattle.std.proofs.lemmas.Option.{none-some}
+use Rattle.plain_machine.specs.declared.setup.Setup.{Setup}
+use Rattle.agent_core.specs.declared.packet.Posted.{Posted}
+use Rattle.agent_core.specs.World.{WorldStep, now_in, plain_world, world_after, world_opening, World, delivered, delivered_from, delivering, dialling, gateway_address, gateway_in, is_among, issuing, step_refusal, steps_are_taken, ticking, to_agent, to_gateway, went}
+use Rattle.world_laws.specs.Fairness.{AgentAlwaysHasRoom}
+use Rattle.world_laws.proofs.ExampleLemmas.{hand_over, none_handed}
+use Rattle.world_laws.proofs.ServingLaws.{handed, is_handed, is_in_time, not_young, texts_serve}
+use Rattle.outage_laws.specs.AfterOutage.{AgentHasRoomFrom, IsFairFrom}
 use Rattle.std.specs.declared.net.socket_addr.SocketAddrV4.{SocketAddrV4}
 use Rattle.mgcp_text.specs.Confirmation.{k_of}
 use Rattle.mgcp_text.specs.declared.message.Message.TheVariants as messages
@@ -28,7 +35,6 @@ use Rattle.timers.specs.declared.kind.DueKind.TheVariants.{OfLine, Resend, Annou
 use Rattle.plain_machine.specs.declared.endpoint.Endpoint.{Endpoint}
 use Rattle.plain_machine.specs.declared.post.Post.{Post}
 use Rattle.plain_machine.specs.declared.response.Response.{Response}
-use Rattle.plain_machine.specs.declared.setup.Setup.{Setup}
 use Rattle.plain_machine.specs.Acting.{acted_on}
 use Rattle.plain_machine.specs.Announcing.{announced_by, heard_by, heard_on, replied, replied_on}
 use Rattle.plain_machine.specs.Answering.{Transaction, executed, handled, read_command, refusing, took_all, transacted_by}
@@ -39,7 +45,7 @@ use Rattle.plain_machine.specs.Flights.{AreInOrder, InOrderWhile, IsClosed}
 use Rattle.plain_machine.specs.Happening.{effect}
 use Rattle.plain_machine.specs.Lists.{sent_from, sent_of}
 use Rattle.plain_machine.specs.Machine.{Endpoints, Machine, endpoint_at, on_line, opening, serves, with_own}
-use Rattle.plain_machine.specs.Message.{Said, Sent, acknowledgement, again, answer, command, of_none, own_of, resent}
+use Rattle.plain_machine.specs.Message.{Begun, Said, Sent, acknowledgement, again, answer, command, of_none, own_of, resent}
 use Rattle.plain_machine.specs.Notifying.{noted, posted}
 use Rattle.plain_machine.specs.Posting.{line_of_id, resent_by}
 use Rattle.plain_machine.specs.Refusing.{refusal_of}
@@ -49,7 +55,7 @@ use Rattle.plain_machine.proofs.EffectLaws.{on_nothing, on_this}
 use Rattle.plain_machine.proofs.ListLaws.{machine_on}
 use Rattle.machine_laws.specs.Belonging.{is_of, of_line}
 use Rattle.machine_laws.specs.Passing.{PassesAlone, goes_on, line_due, line_happens, rests}
-use Rattle.machine_laws.specs.Saying.{Begun, begun_at, begun_by, begun_in}
+use Rattle.machine_laws.specs.Saying.{begun_at, begun_by, begun_in}
 use Rattle.machine_laws.specs.Waiting.{KeepOrder}
 use Rattle.machine_laws.proofs.AnnouncementLaws.{nothing_done}
 use Rattle.machine_laws.proofs.EachLemmas.{Each, each_back, each_both, each_from_all, each_front}
@@ -60,20 +66,66 @@ use Rattle.machine_laws.proofs.WaitLaws.{events_wait, text_waits}
 use Rattle.call_agent.specs.Hearing.{hears}
 use Rattle.agent_core.specs.declared.packet.End.{End}
 use Rattle.agent_core.specs.declared.packet.End.TheVariants.{AgentEnd as agent_end, GatewayEnd as gateway_end}
-use Rattle.agent_core.specs.declared.packet.Posted.{Posted}
-use Rattle.agent_core.specs.World.{World, WorldStep, delivered, delivered_from, delivering, dialling, gateway_address, gateway_in, is_among, issuing, now_in, plain_world, step_refusal, steps_are_taken, ticking, to_agent, to_gateway, went, world_after, world_opening}
 use Rattle.world_laws.specs.Reached.{own_in}
 use Rattle.world_laws.proofs.WorldLaws.{gateway_alone, gateway_taken}
-use Rattle.delivery_laws.proofs.FairLaws.{taken_last}
-use Rattle.delivery_laws.proofs.PostedLemmas.{sent_more}
-use Rattle.delivery_laws.proofs.RestLemmas.{begun_both, noted_silent}
-use Rattle.delivery_laws.proofs.ServingLaws.{texts_serve}
-use Rattle.delivery_laws.proofs.StepLemmas.{step_more, taken_front}
-use Rattle.delivery_laws.proofs.WellLemmas.{IsWell, SaysWell, sent_well}
+use Rattle.world_laws.proofs.FairLaws.{taken_last}
+use Rattle.world_laws.proofs.PostedLemmas.{sent_more}
+use Rattle.world_laws.proofs.OnTurns.{begun_both, noted_silent}
+use Rattle.world_laws.proofs.PostedFinal.{step_more, taken_front}
+use Rattle.world_laws.proofs.WellLemmas.{IsWell, SaysWell, sent_well}
 use Rattle.outage_laws.proofs.OwnRoutes.{not_redirected, told_still}
 use Rattle.outage_laws.proofs.PlainArrivals.{IsPlain, plain_texts}
 use Rattle.outage_laws.proofs.TrackLaws.{Behind, Closed, IsTracked, closed_front, world_tracked}
 use Rattle.outage_laws.proofs.TrackLemmas.{Anytime, IsAnnounced, Tracked, begun_passed, tracked_on}
+
+-- Whether a network is fair from a moment on, computed; for worked examples.
+
+-- all packets that were sent since are handed over in time, or aren't so old yet; the first of these has this number
+abbrev pub all_handed_from : ℕ → Setup → ℕ → ℕ → List WorldStep → ℕ → List Posted → Bool
+all_handed_from since setup within now steps number [] = true
+all_handed_from since setup within now steps number (post ∷ posts) =
+    (nat_lt post.packet.moment since || is_in_time setup within now steps number post.packet.moment) && all_handed_from since setup within now steps (number + 1) posts
+
+handed_at : (since : ℕ) (setup : Setup) (within now : ℕ) (steps : List WorldStep) (first : ℕ) (posts : List Posted) (place : ℕ) (post : Posted) → slice_get posts place ≡ Some post
+    → all_handed_from since setup within now steps first posts ≡ true → (nat_lt post.packet.moment since || is_in_time setup within now steps (first + place) post.packet.moment) ≡ true
+handed_at since setup within now steps first [] place post found all = absurd (none-some post found)
+handed_at since setup within now steps first (one ∷ posts) zero post found all =
+    subst (λ (p : Posted). (nat_lt p.packet.moment since || is_in_time setup within now steps (first + 0) p.packet.moment) ≡ true) (ap (λ (o : Option Posted). unwrap_or o one) found)
+    (subst (λ (n : ℕ). (nat_lt one.packet.moment since || is_in_time setup within now steps n one.packet.moment) ≡ true) (same first)
+    (and_parts (nat_lt one.packet.moment since || is_in_time setup within now steps first one.packet.moment) (all_handed_from since setup within now steps (first + 1) posts) all).0) where
+      same : (n : ℕ) → n ≡ n + 0
+      same n = omega arith
+handed_at since setup within now steps first (one ∷ posts) (suc place) post found all =
+    subst (λ (n : ℕ). (nat_lt post.packet.moment since || is_in_time setup within now steps n post.packet.moment) ≡ true) (same first place)
+    (handed_at since setup within now steps (first + 1) posts place post found
+    (and_parts (nat_lt one.packet.moment since || is_in_time setup within now steps first one.packet.moment) (all_handed_from since setup within now steps (first + 1) posts) all).1) where
+      same : (n m : ℕ) → n + 1 + m ≡ n + suc m
+      same n m = omega arith
+
+pub fair_from_is : (setup : Setup) (steps : List WorldStep) (since within : ℕ)
+    → all_handed_from since setup within (now_in setup (plain_world setup steps)) steps 0 (plain_world setup steps).posted ≡ true → IsFairFrom setup steps since within
+unfolding world_after
+fair_from_is setup steps since within all = λ number post found past late.
+    let now = now_in setup (plain_world setup steps) in
+    handed setup within steps number post found [] steps world_opening refl refl
+    (not_young now (post.packet.moment + within) (is_handed setup within number post.packet.moment world_opening steps) late
+    (not_young post.packet.moment since (is_in_time setup within now steps number post.packet.moment) past
+    (subst (λ (n : ℕ). (nat_lt post.packet.moment since || is_in_time setup within now steps n post.packet.moment) ≡ true) (same number)
+    (handed_at since setup within now steps 0 (plain_world setup steps).posted number post found all)))) where
+      same : (n : ℕ) → 0 + n ≡ n
+      same n = omega arith
+
+-- one that should have been handed over, and wasn't
+pub not_fair_from : (setup : Setup) (steps : List WorldStep) (since within number : ℕ) (post : Posted) → slice_get (plain_world setup steps).posted number ≡ Some post
+    → nat_le since post.packet.moment ≡ true → nat_le (post.packet.moment + within) (now_in setup (plain_world setup steps)) ≡ true → hand_over number steps ≡ false
+    → IsFairFrom setup steps since within → ⊥
+not_fair_from setup steps since within number post found past old none fair =
+    none_handed setup steps within number post none
+    (fair number post found (leb-true since post.packet.moment past) (leb-true (post.packet.moment + within) (now_in setup (plain_world setup steps)) old))
+
+-- always there is from any moment on
+pub room_from : (setup : Setup) (steps : List WorldStep) (since : ℕ) → AgentAlwaysHasRoom setup steps → AgentHasRoomFrom setup steps since
+room_from setup steps since always = λ before later order past. always before later order
 
 -- A line of it
 

@@ -1,5 +1,5 @@
 -- A while behind an outage all is well again: what the laws of the gateway, of its lines, of their commands and of a quarantine come to.
-use Rattle.std.proofs.Common.{◌≡◌, ℕ, ◌+◌, ◌-◌, ◌*◌, ◌<◌, ◌≤◌, Bool, true, false, if◌then◌else◌, List, [], ◌++◌, length, Some, refl, subst, arith}
+use Rattle.std.proofs.Common.{◌≡◌, ℕ, ◌+◌, ◌-◌, ◌*◌, ◌<◌, ◌≤◌, Bool, true, false, if◌then◌else◌, List, ◌++◌, length, Some, refl, subst, arith}
 use Rattle.std.specs.Prelude.{nat_lt}
 use Rattle.std.proofs.lemmas.Bool.{ltb-false, ltb-true}
 use Rattle.plain_machine.specs.declared.endpoint.Endpoint.{Endpoint}
@@ -8,22 +8,22 @@ use Rattle.plain_machine.specs.Event.{GatewayEvent}
 use Rattle.plain_machine.specs.Lists.{plain}
 use Rattle.plain_machine.specs.Machine.{endpoint_at, serves}
 use Rattle.plain_machine.specs.Setup.{IsSetUp}
-use Rattle.machine_laws.specs.Saying.{Begun}
+use Rattle.plain_machine.specs.Message.{Begun}
 use Rattle.machine_laws.proofs.EachLemmas.{one_of_each, one_to}
 use Rattle.agent_core.specs.World.{World, WorldStep, gateway_in, now_in, plain_world, steps_are_taken, world_opening}
-use Rattle.delivery_laws.specs.Chances.{chances, last_chance}
-use Rattle.delivery_laws.specs.Copies.{answer_wait}
-use Rattle.delivery_laws.specs.Course.{course_from}
-use Rattle.delivery_laws.specs.Dialled.{done_in}
-use Rattle.delivery_laws.specs.Fairness.{GoesToAgent}
-use Rattle.delivery_laws.specs.OwnChances.{IsOfLine}
-use Rattle.delivery_laws.specs.Rounds.{IsAnsweredWithin, IsAskedWithin, of_telephone, rounds_take}
-use Rattle.delivery_laws.proofs.CarryLaws.{chances_low}
-use Rattle.delivery_laws.proofs.GatewayChanceLaws.{announced_eight_times}
-use Rattle.delivery_laws.proofs.OwnChanceLaws.{told_eight_times}
+use Rattle.world_laws.specs.Chances.{chances, last_chance}
+use Rattle.world_laws.specs.Copies.{answer_wait}
+use Rattle.world_laws.specs.Course.{course_from}
+use Rattle.world_laws.specs.Dialled.{done_in}
+use Rattle.world_laws.specs.Fairness.{GoesToAgent}
+use Rattle.world_laws.specs.OwnChances.{IsOfLine}
+use Rattle.world_laws.specs.Rounds.{IsAnsweredWithin, IsAskedWithin, of_telephone, rounds_take}
+use Rattle.world_laws.proofs.TakeLaws.{chances_low}
+use Rattle.world_laws.proofs.GatewayChanceLaws.{announced_eight_times}
+use Rattle.world_laws.proofs.OwnChanceLaws.{told_eight_times}
 use Rattle.outage_laws.specs.AfterOutage.{AgentHasRoomFrom, IsDone, IsFairFrom, IsWell, gap_of, last_in_time, longer_wait, longest_pause, well_by}
 use Rattle.outage_laws.proofs.LineServesLaws.{agent_is_there}
-use Rattle.outage_laws.proofs.LineWindowLaws.{answered_behind, out_behind, rests_behind}
+use Rattle.outage_laws.proofs.LineWindowLaws.{answered_behind, out_behind}
 use Rattle.outage_laws.proofs.OwnReaches.{own_reaches}
 use Rattle.outage_laws.proofs.ServesFrontLaws.{serves_before}
 use Rattle.outage_laws.proofs.ServesByThen.{serves_behind_the_last}
@@ -120,7 +120,3 @@ module _ (setup : Setup) (steps : List WorldStep) (since within : ℕ) (set_up :
         (last : (plain setup before).now + rounds_take (length was.line.quarantined.events) (2 * within) asking < now) where
       pub well_out : length (of_telephone endpoint.line.quarantined.events) ≤ length (done_in (course_from setup (plain setup before) line after))
       well_out = out_behind setup steps since within line before after endpoint set_up taken quick fair roomy (reach line) took serving there line_late was asking at asked last
-
-      pub well_rests : done_in (course_from setup (plain setup before) line after) ≡ [] → of_telephone endpoint.line.quarantined.events ≡ []
-      well_rests rests =
-          rests_behind setup steps since within line before after endpoint set_up taken quick fair roomy (reach line) took serving there line_late was asking at asked last rests

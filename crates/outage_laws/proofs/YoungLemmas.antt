@@ -7,7 +7,7 @@ use Rattle.history.specs.Firsts.{young_of}
 use Rattle.history.specs.Memory.{is_young, memory_time, most_firsts}
 use Rattle.machine_laws.specs.Saying.{OneOf}
 use Rattle.machine_laws.proofs.EachLemmas.{Each, each_from_all, one_from_any}
-use Rattle.delivery_laws.specs.Copies.{HasRoom}
+use Rattle.world_laws.specs.Copies.{HasRoom}
 use Rattle.outage_laws.specs.AfterOutage.{grown_old}
 
 -- what is old isn't young

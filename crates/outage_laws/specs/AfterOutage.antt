@@ -1,21 +1,20 @@
 -- A network that was down and came back, and by when what is in flight is taken and answered (RFC 3435, 3.5.3 and 4.3).
-use Rattle.std.specs.Prelude.{◌≡◌, ℕ, ◌+◌, ◌-◌, ◌*◌, ◌≤◌, nat_lt, if◌then◌else◌, List, []}
-use Rattle.std.specs.Prelude.{◌∷◌, ◌++◌, Any, Some, filter, nat_le, slice_get, true}
+use Rattle.std.specs.Prelude.{◌≡◌, ℕ, ◌+◌, ◌-◌, ◌*◌, ◌≤◌, nat_lt, if◌then◌else◌, List, [], ◌∷◌, ◌++◌, Any, Some, filter, nat_le, slice_get, true}
 use Rattle.history.specs.Arrival.{Arrival}
 use Rattle.history.specs.Memory.{memory_time}
 use Rattle.restart.specs.declared.restart.Restart.TheVariants.{Serving}
 use Rattle.plain_machine.specs.declared.endpoint.Endpoint.{Endpoint}
 use Rattle.plain_machine.specs.declared.setup.Setup.{Setup}
 use Rattle.plain_machine.specs.Machine.{endpoint_at, serves}
-use Rattle.machine_laws.specs.Saying.{Begun}
+use Rattle.plain_machine.specs.Message.{Begun}
 use Rattle.agent_core.specs.declared.packet.Posted.{Posted}
 use Rattle.agent_core.specs.World.{World, WorldStep, gateway_in, now_in, plain_world}
 use Rattle.world_laws.specs.Reached.{Reached, taken_in}
-use Rattle.delivery_laws.specs.Chances.{chances, last_chance}
-use Rattle.delivery_laws.specs.Copies.{answer_wait}
-use Rattle.delivery_laws.specs.Fairness.{GoesToAgent, IsHandedOver}
-use Rattle.delivery_laws.specs.OwnChances.{HasCome, IsOfLine}
-use Rattle.delivery_laws.specs.Taking.{AgentHasRoom}
+use Rattle.world_laws.specs.Chances.{chances, last_chance}
+use Rattle.world_laws.specs.Copies.{answer_wait}
+use Rattle.world_laws.specs.Fairness.{GoesToAgent, IsHandedOver}
+use Rattle.world_laws.specs.OwnChances.{HasCome, IsOfLine}
+use Rattle.world_laws.specs.Taking.{AgentHasRoom}
 
 -- each packet that is sent at this moment or later is handed over, so many ms after it was sent at the latest; whatever was before
 abbrev pub IsFairFrom : Setup → List WorldStep → ℕ → ℕ → Type 0

@@ -4,13 +4,13 @@ use Rattle.outbound.specs.Flight.{InFlight}
 use Rattle.restart.specs.declared.restart.Restart.{Restart}
 use Rattle.restart.specs.declared.restart.Restart.TheVariants.{Announced, Serving, Waiting}
 use Rattle.plain_machine.specs.declared.setup.Setup.{Setup}
-use Rattle.plain_machine.specs.Arriving.{TextArrival, arrivals_from, arrivals_of}
+use Rattle.plain_machine.specs.Arriving.{TextArrival, arrivals_of}
 use Rattle.plain_machine.specs.Event.{GatewayEvent}
-use Rattle.plain_machine.specs.Lists.{plain, sent_from, sent_of}
-use Rattle.plain_machine.specs.Message.{Sent, text_of}
+use Rattle.plain_machine.specs.Lists.{sent_of}
+use Rattle.plain_machine.specs.Message.{Begun, Sent, text_of}
 use Rattle.machine_laws.specs.Belonging.{of_line}
-use Rattle.machine_laws.specs.Saying.{Begun, begun_in}
-use Rattle.delivery_laws.specs.OwnChances.{IsResponse}
+use Rattle.machine_laws.specs.Saying.{begun_in}
+use Rattle.world_laws.specs.OwnChances.{IsResponse}
 
 -- a line began this command, a notification or its announcement; or the gateway itself did, as line 0, an announcement
 abbrev pub HasBegun : Setup → List GatewayEvent → ℕ → Begun → Type 0
@@ -26,14 +26,6 @@ IsSentAt setup events line text moment =
     Any (λ (one : Sent). (text_of one.said ≡ text) × (one.moment ≡ moment)) (of_line line (sent_of setup events))
 
 -- The same behind some events
-
-abbrev pub HasResponseSince : Setup → List GatewayEvent → List GatewayEvent → ℕ → Type 0
-HasResponseSince setup before after id =
-    Any (λ (a : TextArrival). IsResponse id a.outcome) (arrivals_from (plain setup before).now after)
-
-abbrev pub IsSentSince : Setup → List GatewayEvent → List GatewayEvent → ℕ → List ℕ → ℕ → Type 0
-IsSentSince setup before after line text moment =
-    Any (λ (one : Sent). (text_of one.said ≡ text) × (one.moment ≡ moment)) (of_line line (sent_from setup (plain setup before) after))
 
 -- A line announces itself, unless it has its agent: its announcement is in flight, or falls due by then (RFC 3435, 4.4.7)
 abbrev pub AnnouncesBy : Restart → Option InFlight → ℕ → Type 0

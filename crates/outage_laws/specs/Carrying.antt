@@ -2,11 +2,11 @@
 -- (RFC 3435, 3.5).
 use Rattle.std.specs.Prelude.{◌≡◌, ℕ, List, [], ◌∷◌, ◌++◌}
 use Rattle.plain_machine.specs.declared.setup.Setup.{Setup}
-use Rattle.machine_laws.specs.Saying.{Begun}
+use Rattle.plain_machine.specs.Message.{Begun}
 use Rattle.agent_core.specs.declared.packet.End.TheVariants.{GatewayEnd as gateway_end}
 use Rattle.agent_core.specs.World.{WorldStep, delivering, plain_world}
-use Rattle.delivery_laws.specs.Copies.{IsCopy}
-use Rattle.delivery_laws.specs.Taking.{AgentHasRoom, IsTaken}
+use Rattle.world_laws.specs.Copies.{IsCopy}
+use Rattle.world_laws.specs.Taking.{AgentHasRoom, IsTaken}
 
 -- these steps hand the packet with this number over
 pub record IsHandedBack (rest : List WorldStep) (number : ℕ) : Type 0 where

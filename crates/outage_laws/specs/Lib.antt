@@ -1,13 +1,7 @@
 pub mod Alone
 pub mod Carrying
 pub mod AfterOutage
-pub mod HadTime
-pub mod ToldSince
 pub mod Example
-pub mod Premises
-pub mod LinePremises
-pub mod ToldLaterExample
-pub mod SinceThenExample
-pub mod Roomless
-pub mod MorePremises
-pub mod Crowded
+pub mod Lives
+pub mod Apart
+pub mod LifeExample

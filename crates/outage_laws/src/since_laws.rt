@@ -5,23 +5,17 @@ ghost use Rattle.history.specs.Firsts.{young_of};
 ghost use Rattle.history.specs.Memory.{memory_time};
 ghost use Rattle.plain_machine.specs.declared.setup.Setup.{Setup};
 ghost use Rattle.plain_machine.specs.Machine.{serves};
-ghost use Rattle.machine_laws.specs.Saying.{Begun};
+ghost use Rattle.plain_machine.specs.Message.{Begun};
 ghost use Rattle.agent_core.specs.World.{WorldStep, gateway_in, now_in, plain_world};
 ghost use Rattle.world_laws.specs.Reached.{Reached, taken_in};
-ghost use Rattle.delivery_laws.specs.Chances.{chances, last_chance};
-ghost use Rattle.delivery_laws.specs.Copies.{HasRoom, IsRun, answer_wait};
-ghost use Rattle.delivery_laws.specs.Fairness.{GoesToAgent, IsFair};
-ghost use Rattle.delivery_laws.specs.OwnChances.{HasCome, IsOfLine};
+ghost use Rattle.world_laws.specs.Chances.{chances, last_chance};
+ghost use Rattle.world_laws.specs.Copies.{HasRoom, IsRun, answer_wait, IsCopy};
+ghost use Rattle.world_laws.specs.Fairness.{GoesToAgent};
+ghost use Rattle.world_laws.specs.OwnChances.{HasCome, IsOfLine};
 ghost use Rattle.outage_laws.specs.AfterOutage.{AgentHasRoomFrom, IsFairFrom, gap_of, grown_old, longest_pause};
-
-/// A network is fair where it is so from the first moment on; and one that is so from a moment on is so from each later one.
-pub fn a_fair_network_is_fair_from_any_moment_on()
-    ensures fair { (setup : Setup) (steps : List WorldStep) (within : ℕ) → IsFair setup steps within → IsFairFrom setup steps 0 within }
-    ensures from_the_first { (setup : Setup) (steps : List WorldStep) (within : ℕ) → IsFairFrom setup steps 0 within →
-        IsFair setup steps within }
-    ensures later { (setup : Setup) (steps : List WorldStep) (since later within : ℕ) → since ≤ later →
-        IsFairFrom setup steps since within → IsFairFrom setup steps later within }
-{}
+ghost use Rattle.outbound.specs.Sends.{most_repeats};
+ghost use Rattle.agent_core.specs.declared.packet.End.TheVariants.{GatewayEnd};
+ghost use Rattle.outage_laws.specs.Carrying.{IsCarriedBack};
 
 /// A notification or an announcement that was in flight when the network came back, or began since, is taken 3,999 ms and the time of the
 /// network behind that moment at the latest, or that time behind its first send; and a response to it comes by twice that time: unless the
@@ -77,4 +71,18 @@ pub fn a_full_history_takes_a_command_again()
         now + memory_time ≤ later → young_of later firsts ≡ [] }
     ensures room { (firsts : List Arrival) (now later : ℕ) → All (λ (first : Arrival). first.moment ≤ now) firsts →
         now + memory_time ≤ later → HasRoom later firsts }
+{}
+
+/// A notification or an announcement of which at most seven copies are lost, each with its answer, is taken, and a response to it comes,
+/// where it goes to the agent, which has room when a copy comes (RFC 3435, 2.3.4, 2.3.12 and 3.5.3).
+pub fn one_copy_of_eight_of_its_own_is_enough()
+    ensures line { (setup : Setup) (steps : List WorldStep) (line : ℕ) (b : Begun) (lost : List ℕ) → IsRun setup steps →
+        let w = plain_world setup steps in IsOfLine setup w line b → GoesToAgent setup w b.text →
+        b.moment + last_chance ≤ now_in setup w → length lost ≤ most_repeats →
+        ((number : ℕ) → IsCopy setup w GatewayEnd b.text number → ¬ Any (λ (n : ℕ). n ≡ number) lost →
+        IsCarriedBack setup steps b number) → Any (λ (one : Reached). one.asked.id ≡ b.id) (taken_in w) × HasCome w b.id }
+    ensures own { (setup : Setup) (steps : List WorldStep) (b : Begun) (lost : List ℕ) → IsRun setup steps →
+        let w = plain_world setup steps in IsOfLine setup w 0 b → b.moment + last_chance ≤ now_in setup w →
+        length lost ≤ most_repeats → ((number : ℕ) → IsCopy setup w GatewayEnd b.text number → ¬ Any (λ (n : ℕ). n ≡ number) lost →
+        IsCarriedBack setup steps b number) → Any (λ (one : Reached). one.asked.id ≡ b.id) (taken_in w) × HasCome w b.id }
 {}

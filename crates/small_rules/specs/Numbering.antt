@@ -1,5 +1,5 @@
 -- Which numbers commands of one's own get in turn (RFC 3435, 3.2.1.2; the numbers are this gateway's profile).
-use Rattle.std.specs.Prelude.{ℕ, ◌+◌, ◌==◌, if◌then◌else◌}
+use Rattle.std.specs.Prelude.{ℕ, ◌+◌, ◌/◌, ◌%◌, ◌==◌, if◌then◌else◌}
 
 -- so many numbers there are for the commands of one line, or of the gateway itself
 abbrev pub numbers : ℕ
@@ -9,6 +9,10 @@ numbers = 10000000
 -- one higher
 abbrev pub firsts : ℕ
 firsts = 9999999
+
+-- at this time of day, in ms, a gateway starts with this number: one more for each 50 ms, going round
+abbrev pub first_at : ℕ → ℕ
+first_at time = (time / 50) % firsts
 
 -- after the greatest number comes the least
 abbrev pub next_number : ℕ → ℕ → ℕ

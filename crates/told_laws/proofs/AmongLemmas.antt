@@ -42,13 +42,13 @@ use Rattle.mg_line.specs.Falling.{ended_by, fired}
 use Rattle.mg_line.specs.Laws.{Awaits, AwaitsIfNotified}
 use Rattle.mg_line.proofs.DrainLemmas.{occurred_keeps}
 use Rattle.mg_line.proofs.OnceLemmas.{notifies_once}
-use Rattle.delivery_laws.specs.Rounds.{is_of_telephone, of_telephone}
+use Rattle.world_laws.specs.Rounds.{is_of_telephone, of_telephone}
 use Rattle.told_laws.specs.Among.{AreAmong, kept_by, IsToldInOrder}
-use Rattle.delivery_laws.specs.Course.{CourseStep, acts, accepts}
-use Rattle.delivery_laws.specs.Dialled.{done_in, told_along}
-use Rattle.delivery_laws.specs.Keeping.{told_of}
-use Rattle.delivery_laws.proofs.DialledLemmas.{done_both, told_both}
-use Rattle.delivery_laws.proofs.EndpointLemmas.{steps_of, Calls}
+use Rattle.world_laws.specs.Course.{CourseStep, acts, accepts}
+use Rattle.world_laws.specs.Dialled.{done_in, told_along}
+use Rattle.world_laws.specs.Keeping.{told_of}
+use Rattle.world_laws.proofs.DialledLemmas.{done_both, told_both}
+use Rattle.world_laws.proofs.EndpointLemmas.{steps_of, Calls}
 use Rattle.told_laws.proofs.StepLemmas.{none_done, told_is, of_key}
 
 -- Some of a list, in its order

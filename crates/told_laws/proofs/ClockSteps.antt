@@ -8,9 +8,9 @@ use Rattle.plain_machine.specs.Event.{phone, tick}
 use Rattle.plain_machine.specs.Refusing.{refusal_of, tick_refusal}
 use Rattle.agent_core.specs.World.{World, WorldStep, delivering, dialling, gateway_in, issuing, now_in, plain_world, step_refusal, steps_are_taken, ticking, went, world_opening}
 use Rattle.world_laws.proofs.WorldLaws.{gateway_clock, gateway_taken, tick_is}
-use Rattle.delivery_laws.proofs.ClockLemmas.{handed_now}
-use Rattle.delivery_laws.proofs.FairLaws.{taken_last}
-use Rattle.delivery_laws.proofs.StepLemmas.{step_more}
+use Rattle.world_laws.proofs.ChanceLaws.{handed_now}
+use Rattle.world_laws.proofs.FairLaws.{taken_last}
+use Rattle.world_laws.proofs.PostedFinal.{step_more}
 
 same_soon : (a b : ℕ) → a ≡ b → a ≤ b + 1000
 same_soon a b same = omega (arith, same)

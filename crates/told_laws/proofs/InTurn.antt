@@ -1,6 +1,6 @@
 -- What each call of a line keeps beside its course, where an answer comes to a line that waits for it alone: so it is after every list of
 -- events, from the opening on, and from any front of them.
-use Rattle.std.proofs.Common.{◌≡◌, ℕ, ◌≤◌, Bool, true, false, List, [], ◌∷◌, ◌++◌, Option, Some, None, inl, refl, sym, ap, subst, ◌∙◌, append-nil}
+use Rattle.std.proofs.Common.{◌≡◌, ℕ, ◌≤◌, Bool, true, false, List, [], ◌∷◌, ◌++◌, Option, Some, None, inl, refl, sym, subst, ◌∙◌, append-nil}
 use Rattle.endpoint_names.specs.declared.entity.Entity.{Entity}
 use Rattle.mg_line.specs.State.TheVariants.{Notification}
 use Rattle.mg_line.specs.declared.phone.Act.{Act}
@@ -23,26 +23,25 @@ use Rattle.plain_machine.specs.declared.post.Post.{Post}
 use Rattle.plain_machine.specs.declared.response.Response.{Response}
 use Rattle.plain_machine.specs.declared.setup.Setup.{Setup}
 use Rattle.plain_machine.specs.Announcing.{announced_on, announcement, announced, heard_by, heard_on, replied}
-use Rattle.plain_machine.specs.Arriving.{arrivals_from, arrivals_of}
+use Rattle.plain_machine.specs.Arriving.{arrivals_of}
 use Rattle.plain_machine.specs.Effect.{silently}
 use Rattle.plain_machine.specs.Event.{GatewayEvent}
 use Rattle.plain_machine.specs.Falling.{happened_on}
-use Rattle.plain_machine.specs.Lists.{machine_after, plain, sent_of}
-use Rattle.plain_machine.specs.Machine.{Machine, endpoint_at, opening, opening_endpoint, serves}
+use Rattle.plain_machine.specs.Lists.{plain, sent_of}
+use Rattle.plain_machine.specs.Machine.{endpoint_at, opening, opening_endpoint, serves}
 use Rattle.plain_machine.specs.Message.{Sent}
 use Rattle.plain_machine.specs.Notifying.{noted, posted}
 use Rattle.plain_machine.specs.Posting.{resent_on}
 use Rattle.plain_machine.specs.Requesting.{asked_if, deed_on, with_connections, with_entity}
 use Rattle.plain_machine.specs.Responding.{opened_on, redirected_on, responded_as, responded_on}
-use Rattle.plain_machine.proofs.ListLaws.{machine_on}
 use Rattle.machine_laws.specs.Belonging.{of_line}
 use Rattle.machine_laws.proofs.TurnLemmas.{of_line as of_its_line, on_made}
 use Rattle.machine_laws.proofs.WaitLaws.{opening_waits}
-use Rattle.delivery_laws.specs.Course.{CourseStep, accepted, accepts, acts, course_from, course_of}
-use Rattle.delivery_laws.proofs.CourseLemmas.{AnyResponse, EndpointTurns, Stands, events_stand, hear_all}
-use Rattle.delivery_laws.proofs.EndpointLemmas.{Calls, Goes, TurnGoes, announced_steps, noted_goes, resent_steps, steps_of, still_goes}
-use Rattle.delivery_laws.proofs.ReadingLemmas.{answered_readable, asked_readable, fired_readable, opened_readable, opening_readable, phoned_readable, IsReadable}
-use Rattle.delivery_laws.proofs.RestLemmas.{Rests, flight_waits}
+use Rattle.world_laws.specs.Course.{CourseStep, accepted, accepts, acts, course_of}
+use Rattle.world_laws.proofs.CourseLemmas.{AnyResponse, EndpointTurns, Stands, events_stand, hear_all}
+use Rattle.world_laws.proofs.EndpointLemmas.{Calls, Goes, TurnGoes, announced_steps, noted_goes, resent_steps, steps_of, still_goes}
+use Rattle.world_laws.proofs.ReadingLemmas.{answered_readable, asked_readable, fired_readable, opened_readable, opening_readable, phoned_readable, IsReadable}
+use Rattle.world_laws.proofs.OnTurns.{Rests, flight_waits}
 use Rattle.told_laws.proofs.SettlingLemmas.{Flies, flight_turns}
 
 -- The calls
@@ -70,15 +69,6 @@ any_calls = record {
   answering = λ serving course line moment any. tt;
   serving = λ course line moment any. tt;
   firing = λ serving course line at due moment is any. tt;
-}
-
-any_in_turn : CallsInTurn AnyLine
-any_in_turn = record {
-  act = λ serving course line act moment any. tt;
-  request = λ course line request moment any. tt;
-  answering = λ serving course line moment waits any. tt;
-  serving = λ course line moment any. tt;
-  firing = λ serving course line due moment any. tt;
 }
 
 abbrev AnyId : ℕ → Type 0
@@ -227,23 +217,3 @@ module _ (setup : Setup) (line : ℕ) (some : 1 ≤ line) where
   pub from_opening : (Q : Bool → List CourseStep → LineState → Type 0) → CallsInTurn Q → Q false [] opening_line → (events : List GatewayEvent)
       (endpoint : Endpoint) → IsThere setup line events endpoint → Q (serves (plain setup events).endpoints) (course_of setup line events) endpoint.line
   from_opening Q calls begins events endpoint at = ((stands_then Q calls begins events).holds endpoint at).0.holds
-
-  -- and from a front of the events on
-  pub from_front : (Q : Bool → List CourseStep → LineState → Type 0) → CallsInTurn Q → (before after : List GatewayEvent)
-      → ((was : Endpoint) → IsThere setup line before was → Q (serves (plain setup before).endpoints) [] was.line)
-      → (last : Endpoint) → IsThere setup line (before ++ after) last
-      → Q (serves (plain setup (before ++ after)).endpoints) (course_from setup (plain setup before) line after) last.line
-  from_front Q calls before after begins last at =
-      let m : Machine = plain setup before in
-      let stood = stands_then AnyLine any_in_turn tt before in
-      let from : Stands setup AnyResponse (GoesInTurn setup Q calls) (in_turn setup Q calls) line some [] (of_line line (sent_of setup before)) m = record {
-        order = stood.order;
-        holds = λ s there.
-            let is = stood.holds s there in (record { readable = is.0.readable; holds = begins s there }, is.1);
-      } in
-      let to =
-      events_stand setup AnyResponse (GoesInTurn setup Q calls) (in_turn setup Q calls) line some m [] (of_line line (sent_of setup before)) 0 after
-      (hear_all setup AnyResponse (λ response. tt) (arrivals_from 0 after)) from in
-      let same : machine_after setup m after ≡ plain setup (before ++ after) = sym (machine_on setup (opening setup) before after) in
-      let there : endpoint_at (machine_after setup m after).endpoints line ≡ Some last = ap (λ (n : Machine). endpoint_at n.endpoints line) same ∙ at in
-      subst (λ (n : Machine). Q (serves n.endpoints) (course_from setup m line after) last.line) same (to.holds last there).0.holds

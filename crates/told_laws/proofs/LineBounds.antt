@@ -32,35 +32,31 @@ use Rattle.command_forms.specs.declared.forms.Target.TheVariants.{One, All as Al
 use Rattle.command_forms.specs.Meaning.{is_for}
 use Rattle.command_forms.specs.Order.{form_while}
 use Rattle.transmission.specs.Transacting.{is_new}
-use Rattle.plain_machine.specs.Announcing.{announcement, announced, announced_by, announced_on, heard_on, replied}
-use Rattle.plain_machine.specs.Machine.{Endpoints, serves}
+use Rattle.plain_machine.specs.Announcing.{announcement, announced, announced_by, announced_on, heard_on, replied, replied_on}
+use Rattle.plain_machine.specs.Machine.{Endpoints, serves, Machine, endpoint_at, opening, opening_endpoint}
 use Rattle.plain_machine.specs.Posting.{repeated_as, resent_by, resent_on}
-use Rattle.plain_machine.specs.Requesting.{line_with_place, refused_by}
-use Rattle.delivery_laws.specs.Course.{CourseStep, accepted, accepted_at, accepted_by, accepted_for, accepted_of, accepted_there, acted_on as course_act, acts, course_at, course_from, course_in, course_of, notified_by, notified_in}
-use Rattle.delivery_laws.specs.Dialled.{told_along}
-use Rattle.delivery_laws.proofs.DialledLemmas.{told_both}
+use Rattle.plain_machine.specs.Requesting.{line_with_place, refused_by, deed_on}
+use Rattle.world_laws.specs.Course.{CourseStep, accepted, accepted_at, accepted_by, accepted_for, accepted_of, accepted_there, acted_on as course_act, acts, course_at, course_from, course_in, course_of, notified_by, notified_in}
+use Rattle.world_laws.specs.Dialled.{told_along}
+use Rattle.world_laws.proofs.DialledLemmas.{told_both}
 use Rattle.plain_machine.specs.declared.response.Response.{Response}
 use Rattle.plain_machine.specs.declared.post.Post.{Post}
 use Rattle.plain_machine.specs.declared.setup.Setup.{Setup}
 use Rattle.plain_machine.specs.declared.endpoint.Endpoint.{Endpoint}
 use Rattle.plain_machine.specs.Acting.{acted_on}
-use Rattle.plain_machine.specs.Announcing.{replied_on}
 use Rattle.plain_machine.specs.Answering.{Transaction, executed, transacted_by, handled, took_all}
 use Rattle.plain_machine.specs.Event.{GatewayEvent, datagram, phone, tick}
 use Rattle.plain_machine.specs.Falling.{happened_on, happened_under}
 use Rattle.plain_machine.specs.Happening.{effect}
 use Rattle.plain_machine.specs.Lists.{plain, sent_from, sent_of}
-use Rattle.plain_machine.specs.Machine.{Machine, endpoint_at, opening, opening_endpoint}
-use Rattle.plain_machine.specs.Message.{Sent, acknowledgement, of_none}
-use Rattle.plain_machine.specs.Requesting.{deed_on}
+use Rattle.plain_machine.specs.Message.{Begun, Sent, acknowledgement, of_none}
 use Rattle.plain_machine.specs.Responding.{acknowledged, opened_on, redirected_on, responded_on, response_with}
 use Rattle.plain_machine.proofs.ListLaws.{lines_after, lines_of_opening}
 use Rattle.machine_laws.specs.Belonging.{is_of, of_line}
-use Rattle.machine_laws.specs.Saying.{Begun, OneOf, begun_at, begun_in}
+use Rattle.machine_laws.specs.Saying.{OneOf, begun_at, begun_in}
 use Rattle.machine_laws.proofs.EachLemmas.{Each, all_from_each, each_from_all, one_from_any}
-use Rattle.machine_laws.proofs.LineLemmas.{place_of}
 use Rattle.machine_laws.proofs.OwningLemmas.{OwnedBy, acted_owned, deed_owned, happened_owned, opened_owned, own_happened_owned, own_responded_owned, redirected_owned, responded_owned}
-use Rattle.delivery_laws.proofs.PlaceLemmas.{one_parted}
+use Rattle.world_laws.proofs.LookLemmas.{one_parted}
 use Rattle.machine_laws.proofs.TurnLemmas.{Holds, OwnTurns, Turns, acted_goes, command_goes, event_on_all, handled_on_all, on_made, pass_goes, responded_goes, response_read}
 
 -- Who owns what is sent
@@ -177,9 +173,6 @@ endpoint_there m line some low = by_zero (line == 0) refl where
 
 there_by : (line most list : ℕ) → line ≤ most → list ≡ most → line < 1 + list
 there_by line most list low same = omega (arith, low, same)
-
-low_of : (line most list : ℕ) → line < 1 + list → list ≡ most → line ≤ most
-low_of line most list less same = omega (arith, less, same)
 
 module _ (setup : Setup) where
   abbrev most : ℕ
@@ -316,13 +309,6 @@ module _ (setup : Setup) where
   who_began_is_there events line b some began =
       line_is_there events line some
       (began_within line b (sent_of setup events) (sent_within events) (one_from_any (λ (one : Begun). one ≡ b) (begun_in (of_line line (sent_of setup events))) began))
-
-  -- and stays
-  pub who_is_there_stays : (before after : List GatewayEvent) (line : ℕ) (s : Endpoint) → endpoint_at (plain setup before).endpoints line ≡ Some s → Exists (before ++ after) line
-  who_is_there_stays before after line s at =
-      let place = place_of (plain setup before).endpoints line s at in
-      let then_list : length (plain setup before).endpoints.list ≡ most = lines_after setup (opening setup) before ∙ lines_of_opening setup in
-      line_is_there (before ++ after) line place.0 (low_of line most (length (plain setup before).endpoints.list) place.1 then_list)
 
   -- What a line tells that there isn't
 

@@ -53,12 +53,12 @@ use Rattle.plain_machine.proofs.EffectLaws.{handled_now}
 use Rattle.machine_laws.specs.Belonging.{is_of, of_line}
 use Rattle.machine_laws.specs.Passing.{PassesAlone, rests, goes_on, line_due, line_happens}
 use Rattle.machine_laws.specs.Waiting.{KeepOrder}
-use Rattle.machine_laws.proofs.AlikeLemmas.{behind_acknowledged}
+use Rattle.machine_laws.proofs.AnnouncementLaws.{behind_acknowledged}
 use Rattle.machine_laws.proofs.FlightLaws.{own_free}
 use Rattle.machine_laws.proofs.OwningLemmas.{of_both, turn_if, sent_by, LineTurns, on_one_line, on_many_lines, acted_owned, deed_owned, responded_owned, redirected_owned, opened_owned}
 use Rattle.machine_laws.proofs.PassLemmas.{line_passes}
 use Rattle.machine_laws.proofs.WaitLaws.{text_waits}
-use Rattle.delivery_laws.proofs.CourseLemmas.{AllHear, Hears}
+use Rattle.world_laws.proofs.CourseLemmas.{AllHear, Hears}
 
 -- a turn of the line's endpoint, beside what the line sent so far
 abbrev pub TurnKeeps : (List Sent → Endpoint → Type 0) → List Sent → Effect Endpoint → Type 0

@@ -19,8 +19,8 @@ use Rattle.event_requests.specs.Requests.{EventRequests, with_embedded}
 use Rattle.mg_line.specs.State.TheVariants.{Notification}
 use Rattle.mg_line.specs.Line.{LineState, Notice, LineDone, still, most_accumulated}
 use Rattle.mg_line.specs.Occurring.{notified, notified_if_full, with_event, letter_of, verdict_by, judged, timed, with_letter, dialled_by, embedded, acted, signals_after, occurred}
-use Rattle.delivery_laws.specs.Keeping.{is_bare}
-use Rattle.delivery_laws.specs.Rounds.{is_of_telephone, of_telephone}
+use Rattle.world_laws.specs.Keeping.{is_bare}
+use Rattle.world_laws.specs.Rounds.{is_of_telephone, of_telephone}
 use Rattle.told_laws.specs.Walking.{is_collected, is_quiet, reaction_to, collects, are_quiet, quiet_before, quiet_but_last}
 
 -- What an event does that occurs

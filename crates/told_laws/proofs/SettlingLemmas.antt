@@ -36,20 +36,19 @@ use Rattle.plain_machine.specs.Effect.{Effect, silently}
 use Rattle.plain_machine.specs.Announcing.{announcement, announced, announced_by, announced_on, heard_by, heard_on, replied}
 use Rattle.plain_machine.specs.Falling.{happened_on}
 use Rattle.plain_machine.specs.Flights.{IsClosed}
-use Rattle.plain_machine.specs.Message.{Sent}
+use Rattle.plain_machine.specs.Message.{Begun, Sent}
 use Rattle.plain_machine.specs.Notifying.{posted, notification, with_notice, noted}
 use Rattle.plain_machine.specs.Posting.{repeated_as, resent_by, resent_on}
 use Rattle.plain_machine.specs.Requesting.{with_entity, with_connections, asked_if, deed_on}
 use Rattle.plain_machine.specs.Responding.{responded_as, responded_on, redirected_on, opened_on}
 use Rattle.machine_laws.proofs.FlightLaws.{WaitsOn, phoned_waits, fired_waits, asked_waits, redirected_announced}
-use Rattle.machine_laws.specs.Saying.{Begun, begun_in}
+use Rattle.machine_laws.specs.Saying.{begun_in}
 use Rattle.machine_laws.proofs.EachLemmas.{Each, each_push}
 use Rattle.world_laws.proofs.LinkLaws.{final_is}
-use Rattle.delivery_laws.specs.GivenUp.{announces}
-use Rattle.delivery_laws.proofs.RestLemmas.{Rests, rests_is, rests_on, rests_again, flight_waits, noted_silent, asked_awaits, begun_both, answer_begins}
-use Rattle.delivery_laws.specs.Course.{CourseStep}
-use Rattle.delivery_laws.proofs.CourseLemmas.{EndpointTurns}
-use Rattle.delivery_laws.proofs.DialledFlightLemmas.{Gone, flying, has_announced}
+use Rattle.world_laws.specs.Course.{announces, CourseStep}
+use Rattle.world_laws.proofs.OnTurns.{Rests, rests_is, rests_on, rests_again, flight_waits, noted_silent, asked_awaits, begun_both, answer_begins}
+use Rattle.world_laws.proofs.CourseLemmas.{EndpointTurns}
+use Rattle.world_laws.proofs.DialledFlightLemmas.{Gone, flying, has_announced}
 
 announced_before : (sent more : List Sent) → has_announced sent ≡ true → has_announced (sent ++ more) ≡ true
 announced_before [] more is = absurd cc

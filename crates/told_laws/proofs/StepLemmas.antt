@@ -6,9 +6,9 @@ use Rattle.mg_line.specs.declared.phone.Key.{Key as OneKey}
 use Rattle.mg_line.specs.declared.phone.Key.TheVariants as keys
 use Rattle.mg_line.specs.Line.{Notice}
 use Rattle.mg_line.specs.Acting.{letter_at}
-use Rattle.delivery_laws.specs.Keeping.{is_of_phone, told_of}
-use Rattle.delivery_laws.specs.Dialled.{done_in, told_along}
-use Rattle.delivery_laws.proofs.EndpointLemmas.{steps_of}
+use Rattle.world_laws.specs.Keeping.{is_of_phone, told_of}
+use Rattle.world_laws.specs.Dialled.{done_in, told_along}
+use Rattle.world_laws.proofs.EndpointLemmas.{steps_of}
 
 pub none_done : (notice : Option Notice) → done_in (steps_of notice) ≡ []
 none_done None = refl

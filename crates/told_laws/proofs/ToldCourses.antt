@@ -1,28 +1,53 @@
 -- What lines tell, for whole courses from the opening on.
-use Rattle.std.proofs.Common.{◌≡◌, ℕ, ◌+◌, ◌≤◌, min, false, List, [], ◌∷◌, ◌++◌, Some, None, inl, inr, sym, subst, arith}
-use Rattle.std.specs.Prelude.{◌⊎◌}
+use Rattle.std.proofs.Common.{◌≡◌, suc, ◌+◌, Bool, true, List, [], ◌∷◌, ◌++◌, length, refl, ap, ◌∙◌, arith, ℕ, ◌≤◌, min, Some, inl, inr, sym, subst}
+use Rattle.std.specs.Prelude.{filter, if◌then◌else◌, ◌⊎◌}
 use Rattle.event_values.specs.declared.observed.Observed.{Observed}
+use Rattle.quarantine.proofs.GivenLaws.{counted_out}
+use Rattle.told_laws.specs.Among.{AreAmong, IsToldInOrder}
 use Rattle.event_requests.specs.declared.request.Request.{Request}
 use Rattle.quarantine.specs.Held.{most_lost}
-use Rattle.mg_line.specs.Answering.{is_loop}
 use Rattle.plain_machine.specs.declared.setup.Setup.{Setup}
 use Rattle.plain_machine.specs.declared.endpoint.Endpoint.{Endpoint}
 use Rattle.plain_machine.specs.Event.{GatewayEvent}
 use Rattle.plain_machine.specs.Lists.{plain}
 use Rattle.plain_machine.specs.Machine.{endpoint_at, serves}
-use Rattle.machine_laws.proofs.LineLemmas.{place_of}
-use Rattle.delivery_laws.specs.Course.{CourseStep, accepts, notifies, course_of}
-use Rattle.delivery_laws.specs.Dialled.{done_in, told_along, latest_from}
-use Rattle.delivery_laws.specs.Rounds.{of_telephone}
-use Rattle.told_laws.specs.Among.{AreAmong, IsToldInOrder}
-use Rattle.told_laws.specs.Walking.{nothing_asked, EmbedsNone, Walks, Stays, WalksButLost, AreActs, TellsAFront, TellsWhatWasKept}
+use Rattle.machine_laws.proofs.OwningLemmas.{place_of}
+use Rattle.world_laws.specs.Course.{CourseStep, accepts, notifies, course_of}
+use Rattle.world_laws.specs.Dialled.{done_in, told_along}
+use Rattle.world_laws.specs.Rounds.{of_telephone}
+use Rattle.told_laws.specs.Walking.{nothing_asked, EmbedsNone, Walks, Stays, WalksButLost, AreActs, TellsAFront}
 use Rattle.told_laws.proofs.AmongLemmas.{ToldInOrder, among_front, calls_in_order, opening_in_order, told_alone}
 use Rattle.told_laws.proofs.LineBounds.{Exists, there_or_quiet}
 use Rattle.told_laws.proofs.InTurn.{from_opening}
 use Rattle.told_laws.proofs.WalkLemmas.{walks_map}
 use Rattle.told_laws.proofs.WalkCourses.{StandsAt, Walked, calls_walk, none_lost, opening_walks, stays}
-use Rattle.told_laws.proofs.WalkFrontLemmas.{tells_a_front, tells_what_was_kept}
-use Rattle.delivery_laws.proofs.OverLists.{always}
+use Rattle.told_laws.proofs.WalkFrontLemmas.{tells_a_front}
+use Rattle.world_laws.proofs.OverLists.{always}
+
+-- What the worked examples are compared by.
+
+-- Some among others
+
+pub none_among : (some : List Observed) → AreAmong some [] → some ≡ []
+none_among [] so = refl
+none_among (event ∷ some) (n, so) =
+    let count : suc (length some) + n ≡ 0 = counted_out n (event ∷ some) [] so in absurd (omega (arith, count))
+
+-- What a notification tells begins with the first that waits, where R has that told.
+pub tells_first : (test : Observed → Bool) (first other : Observed) (front held rest more : List Observed) → test first ≡ true → first ∷ rest ≡ front ++ held
+    → other ∷ more ≡ filter test front → other ≡ first
+tells_first test first other [] held rest more is order told = absurd cc
+tells_first test first other (x ∷ front) held rest more is order told =
+    let same : x ≡ first = cc in
+    let has : test x ≡ true = (ap test same ∙ is) in
+    let begins : filter test (x ∷ front) ≡ x ∷ filter test front =
+    ap (λ (b : Bool). if b then x ∷ filter test front else filter test front) has in
+    cc
+
+pub none_left_among : (first : Observed) (left : List Observed) → AreAmong (first ∷ left) (first ∷ []) → left ≡ []
+none_left_among first [] so = refl
+none_left_among first (x ∷ left) (n, so) =
+    let count : length (first ∷ x ∷ left) + n ≡ length (first ∷ []) = counted_out n (first ∷ x ∷ left) (first ∷ []) so in absurd (omega (arith, count))
 
 -- a line that there is has a number from 1 on
 numbered : (setup : Setup) (line : ℕ) (events : List GatewayEvent) (endpoint : Endpoint) → endpoint_at (plain setup events).endpoints line ≡ Some endpoint → 1 ≤ line
@@ -85,14 +110,4 @@ pub first_tells : (setup : Setup) (line : ℕ) (events : List GatewayEvent) (end
     → TellsAFront request (of_telephone (told_along before)) (done_in before) (done_in between) observed
 first_tells setup line events endpoint before between after request identifier observed at bare none order only =
     tells_a_front before between after request identifier observed (Stays endpoint.line) only bare
-    (subst (λ (c : List CourseStep). Walks nothing_asked [] c (Stays endpoint.line)) order (course_walks setup line events endpoint at none))
-
-pub meanwhile_told : (setup : Setup) (line : ℕ) (events : List GatewayEvent) (endpoint : Endpoint) (before some between after : List CourseStep)
-    (latest request : Request) (first second : List ℕ) (earlier observed : List Observed) → endpoint_at (plain setup events).endpoints line ≡ Some endpoint
-    → EmbedsNone latest.events → EmbedsNone request.events → endpoint.line.quarantined.lost ≡ 0
-    → course_of setup line events ≡ before ++ notifies first earlier ∷ (some ++ accepts request ∷ (between ++ notifies second observed ∷ after))
-    → latest_from None before ≡ Some latest → is_loop latest.handling.notifying ≡ false → AreActs some → AreActs between
-    → TellsWhatWasKept latest request (of_telephone (told_along before) ++ of_telephone earlier) (done_in before) (done_in some) (done_in between) observed
-meanwhile_told setup line events endpoint before some between after latest request first second earlier observed at bare then_bare none order is in_step kept only =
-    tells_what_was_kept before some between after latest request first second earlier observed (Stays endpoint.line) in_step kept only bare then_bare is
     (subst (λ (c : List CourseStep). Walks nothing_asked [] c (Stays endpoint.line)) order (course_walks setup line events endpoint at none))

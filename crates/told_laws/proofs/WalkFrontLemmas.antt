@@ -1,6 +1,6 @@
 -- What the first notification behind a request tells.
-use Rattle.std.proofs.Common.{◌≡◌, ℕ, Bool, true, false, Option, Some, None, List, [], ◌∷◌, ◌++◌, refl, sym, ap, subst, ◌∙◌, append_assoc, append-nil}
-use Rattle.std.specs.Prelude.{filter, not, if◌then◌else◌}
+use Rattle.std.proofs.Common.{◌≡◌, ℕ, Bool, true, false, List, [], ◌∷◌, ◌++◌, refl, sym, ap, subst, ◌∙◌, append_assoc, append-nil}
+use Rattle.std.specs.Prelude.{filter, if◌then◌else◌}
 use Rattle.std.proofs.lemmas.Bool.{true≢false}
 use Rattle.std.proofs.lemmas.List.Elements.{filter-append}
 use Rattle.event_values.specs.declared.handling.Quarantined.{Quarantined}
@@ -15,13 +15,12 @@ use Rattle.event_requests.specs.Requests.{EventRequests}
 use Rattle.event_requests.specs.declared.request.Request.{Request}
 use Rattle.mg_line.specs.Acting.{observed_at}
 use Rattle.mg_line.specs.Answering.{is_loop}
-use Rattle.delivery_laws.specs.Rounds.{is_of_telephone, of_telephone}
+use Rattle.world_laws.specs.Rounds.{is_of_telephone, of_telephone}
 use Rattle.told_laws.specs.Among.{AreAmong}
-use Rattle.delivery_laws.specs.Course.{CourseStep, acts, accepts, notifies}
-use Rattle.delivery_laws.specs.Dialled.{done_in, told_along, latest_from}
+use Rattle.world_laws.specs.Course.{CourseStep, acts, accepts, notifies}
+use Rattle.world_laws.specs.Dialled.{done_in, told_along}
 use Rattle.told_laws.specs.Walking.{reaction_to, collects, are_quiet, left_by, EmbedsNone, Place, nothing_asked, behind_request, behind_notification, End, with_act, told_of_front, Brings, behind_embedded, Embeds, no_more, by_event, Walks, AreActs, TellsAFront, TellsWhatWasKept, TellsOf}
-use Rattle.delivery_laws.specs.Keeping.{is_bare}
-use Rattle.told_laws.proofs.WalkLemmas.{embeds_keeps}
+use Rattle.world_laws.specs.Keeping.{is_bare}
 use Rattle.told_laws.proofs.AmongLemmas.{some_left, some_kept, among_none, among_same, among_is, among_front, among_both, among_pass}
 
 -- a walk along two courses
@@ -252,44 +251,7 @@ tells_a_front before between after request identifier observed end only bare wal
             told_so = then_told.3;
           }
 
--- Where the walk stands: R, where it embeds no request, and Q of the latest request
-
-abbrev pub IsPlaceOf : Option Request → Place → Type 0
-IsPlaceOf None place = Unit {0}
-IsPlaceOf (Some request) place =
-    (EmbedsNone request.events → place.requests ≡ request.events) × (place.in_step ≡ not (is_loop request.handling.notifying))
-
-place_behind : (latest : Option Request) (place : Place) → IsPlaceOf latest place → IsPlaceOf latest (behind_notification place)
-place_behind None place is = tt
-place_behind (Some request) place is = is
-
--- where embedded requests come into force
-pub place_then : (latest : Option Request) (place next : Place) (waiting left : List Observed) → Embeds place waiting next left → IsPlaceOf latest place
-    → IsPlaceOf latest next
-place_then None place next waiting left moves is = tt
-place_then (Some request) place next waiting left moves is = (λ (bare : EmbedsNone request.events). (let never : NoneBrought place = none_by_requests place (subst EmbedsNone (sym (is.0 bare)) bare) in sym (embeds_none (λ (p : Place) (w : List Observed). p.requests ≡ next.requests) place next waiting left never moves refl) ∙ is.0 bare), (embeds_keeps place next waiting left moves).0 ∙ is.1)
-
-pub walk_place : (course : List CourseStep) (end : End) (place : Place) (waiting : List Observed) (latest : Option Request) → IsPlaceOf latest place
-    → Walks place waiting course end → Walks place waiting course (λ (p : Place) (w : List Observed). IsPlaceOf (latest_from latest course) p × end p w)
-walk_place [] end place waiting latest is (next, left, moves, walk) =
-    (next, left, moves, (place_then latest place next waiting left moves is, walk))
-walk_place (acts act ∷ course) end place waiting latest is (next, left, moves, walk) =
-    let then_is = place_then latest place next waiting left moves is in
-    (next, left, moves, walk_place course end next (with_act next.requests left (observed_at act)) latest then_is walk)
-walk_place (accepts request ∷ course) end place waiting latest is (next, left, moves, (past, held, order, quiet, shut, walk)) =
-    let then_walks =
-    walk_place course end (behind_request request) (left_by request.handling.quarantined held) (Some request) (λ (bare : EmbedsNone request.events). refl, refl)
-    walk in
-    (next, left, moves, (past, held, order, quiet, shut, then_walks))
-walk_place (notifies identifier observed ∷ course) end place waiting latest is (next, left, moves, (front, held, order, told, walk)) =
-    let then_is = place_behind latest next (place_then latest place next waiting left moves is) in
-    (next, left, moves, (front, held, order, told, walk_place course end (behind_notification next) held latest then_is walk))
-
 -- Behind a notification, in step: what is kept of the acts since is quarantined still at the next request
-
-pub shut_at : (latest : Request) (place : Place) → IsPlaceOf (Some latest) place → is_loop latest.handling.notifying ≡ false
-    → (behind_notification place).is_shut ≡ true
-shut_at latest place is steps = is.1 ∙ ap not steps
 
 module _ (before some between after : List CourseStep) (latest request : Request) (first second : List ℕ) (earlier observed : List Observed) (end : End)
     (in_step : is_loop latest.handling.notifying ≡ false) (kept : AreActs some) (only : AreActs between) (bare : EmbedsNone latest.events)
@@ -327,35 +289,3 @@ module _ (before some between after : List CourseStep) (latest request : Request
               order = ap (λ (xs : List Observed). left_by request.handling.quarantined xs ++ filter (is_kept request.events) (done_in between)) all ∙ told.2;
               told_so = told.3;
             }
-
-  at_notification : (place : Place) (waiting : List Observed) → IsPlaceOf (Some latest) place
-      → AreAmong (of_telephone (told_along before) ++ all_of place waiting) (done_in before)
-      → Walks place waiting (notifies first earlier ∷ (some ++ then_asked)) end
-      → TellsWhatWasKept latest request told_before (done_in before) (done_in some) (done_in between) observed
-  at_notification place waiting is among (next, here, moves, (front, left, order, told, walk)) =
-      let then_is = place_then (Some latest) place next waiting here moves is in
-      let behind : Place = behind_notification next in
-      let shut : behind.is_shut ≡ true = shut_at latest next then_is in_step in
-      let front_in : AreAmong (of_telephone earlier ++ left) (all_of next here) =
-      subst (λ (xs : List Observed). AreAmong (of_telephone earlier ++ left) xs)
-      (append_assoc next.carried front left ∙ ap (λ (xs : List Observed). next.carried ++ xs) (sym order))
-      (among_both (of_telephone earlier) (next.carried ++ front) left left
-      (subst (λ (xs : List Observed). AreAmong xs (next.carried ++ front)) (sym told.0) (told_among next front)) (among_same left)) in
-      at_request behind left (then_is.0 bare) shut
-      (among_pass (told_before ++ left) (of_telephone (told_along before) ++ all_of place waiting) (done_in before)
-      (subst (λ (xs : List Observed). AreAmong xs (of_telephone (told_along before) ++ all_of place waiting))
-      (sym (append_assoc (of_telephone (told_along before)) (of_telephone earlier) left))
-      (among_both (of_telephone (told_along before)) (of_telephone (told_along before)) (of_telephone earlier ++ left) (all_of place waiting)
-      (among_same (of_telephone (told_along before)))
-      (among_pass (of_telephone earlier ++ left) (all_of next here) (all_of place waiting) front_in (embeds_among place next waiting here moves)))) among)
-      (acts_alone some (λ (p : Place) (w : List Observed). Walks p w then_asked end) behind left kept (none_where_shut behind shut)
-      (walks_split some then_asked end behind left walk))
-
-  pub tells_what_was_kept : latest_from None before ≡ Some latest → Walks nothing_asked [] (before ++ notifies first earlier ∷ (some ++ then_asked)) end
-      → TellsWhatWasKept latest request told_before (done_in before) (done_in some) (done_in between) observed
-  tells_what_was_kept is walk =
-      let more = notifies first earlier ∷ (some ++ then_asked) in
-      let ends =
-      walk_ends before (λ (p : Place) (w : List Observed). IsPlaceOf (latest_from None before) p × Walks p w more end) nothing_asked []
-      (walk_place before (λ (p : Place) (w : List Observed). Walks p w more end) nothing_asked [] None tt (walks_split before more end nothing_asked [] walk)) in
-      at_notification ends.place ends.waiting (subst (λ (found : Option Request). IsPlaceOf found ends.place) is ends.stands.0) ends.among ends.stands.1

@@ -19,13 +19,13 @@ use Rattle.mg_line.specs.Acting.{observed_at}
 use Rattle.mg_line.specs.Answering.{is_loop}
 use Rattle.mg_line.proofs.DrainLemmas.{occurred_keeps}
 use Rattle.mg_line.proofs.LoseLemmas.{unasked_events_do_nothing}
-use Rattle.delivery_laws.specs.Rounds.{is_of_telephone, of_telephone}
-use Rattle.delivery_laws.specs.Course.{CourseStep, acts, accepts, notifies}
+use Rattle.world_laws.specs.Rounds.{is_of_telephone, of_telephone}
+use Rattle.world_laws.specs.Course.{CourseStep, acts, accepts, notifies}
 use Rattle.told_laws.specs.Walking.{is_collected, is_quiet, reaction_to, collects, are_quiet, left_by, Place, nothing_asked, behind_request, behind_notification, End, with_act, told_of_front, Brings, behind_embedded, Embeds, no_more, by_event, Then, Walks, TellsOf, is_waiting, awaits_request}
 use Rattle.told_laws.proofs.AmongLemmas.{IsDrained}
 use Rattle.told_laws.proofs.OccursLemmas.{GathersAll, TellsAll, Collects, Same, Ignores, Turns, OccursBy, occurred_occurs, with_one, one_if, phone_more, collected_by, ignored_by, quiet_by, next_in, one_more, split_one, but_last_by}
 use Rattle.told_laws.proofs.StateLemmas.{occurred_state}
-use Rattle.delivery_laws.proofs.EndpointLemmas.{steps_of}
+use Rattle.world_laws.proofs.EndpointLemmas.{steps_of}
 
 -- Embedded requests
 

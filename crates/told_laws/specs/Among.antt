@@ -3,9 +3,9 @@ use Rattle.std.specs.Prelude.{ℕ, List, ◌++◌}
 use Rattle.event_values.specs.declared.observed.Observed.{Observed}
 use Rattle.quarantine.specs.Given.{InOrderBut}
 use Rattle.mg_line.specs.Line.{LineState}
-use Rattle.delivery_laws.specs.Course.{CourseStep}
-use Rattle.delivery_laws.specs.Dialled.{done_in, told_along}
-use Rattle.delivery_laws.specs.Rounds.{of_telephone}
+use Rattle.world_laws.specs.Course.{CourseStep}
+use Rattle.world_laws.specs.Dialled.{done_in, told_along}
+use Rattle.world_laws.specs.Rounds.{of_telephone}
 
 -- these events are some of those: in their order, and none of them twice
 abbrev pub AreAmong : List Observed → List Observed → Type 0

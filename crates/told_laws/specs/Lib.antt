@@ -1,15 +1,3 @@
 pub mod Among
 pub mod Walking
-pub mod Fronts
-pub mod Counting
-pub mod Stretch
-pub mod Fate
 pub mod Example
-pub mod WorldExample
-pub mod Premises
-pub mod WorldPremises
-pub mod WalkExample
-pub mod FateExample
-pub mod FrontExample
-pub mod DeliveryPremises
-pub mod SetupPremises

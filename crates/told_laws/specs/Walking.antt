@@ -1,8 +1,7 @@
 -- How what a line tells walks through what was done at its telephone (RFC 3435, 2.3.3 and 4.4.1): each act is told, or is kept to be told,
 -- or was lost, and counted, or was dropped where the walk says so: neither R nor T named it, and it isn't persistent; R gave it nothing,
 -- or I; E without A took it, or emptied the list in which it was; or a request emptied that list.
-use Rattle.std.specs.Prelude.{◌≡◌, ◌⊎◌, ℕ, zero, suc, ◌≤◌, ◌<◌, min, Bool, true, false}
-use Rattle.std.specs.Prelude.{not, ◌&&◌, if◌then◌else◌, List, [], ◌∷◌, ◌++◌, filter}
+use Rattle.std.specs.Prelude.{◌≡◌, ◌⊎◌, ℕ, zero, suc, ◌≤◌, min, Bool, true, false, not, ◌&&◌, if◌then◌else◌, List, [], ◌∷◌, ◌++◌, filter}
 use Rattle.std.specs.List.{list_all}
 use Rattle.mg_packages.specs.declared.event.LineEvent.{LineEvent}
 use Rattle.event_values.specs.declared.handling.Quarantined.{Quarantined}
@@ -23,9 +22,9 @@ use Rattle.mg_line.specs.Answering.{is_loop}
 use Rattle.mg_line.specs.Line.{LineState}
 use Rattle.mg_line.specs.State.{State}
 use Rattle.mg_line.specs.State.TheVariants.{Normal, Notification, Lockstep}
-use Rattle.delivery_laws.specs.Course.{CourseStep, acts, accepts, notifies}
-use Rattle.delivery_laws.specs.Keeping.{is_bare}
-use Rattle.delivery_laws.specs.Rounds.{of_telephone}
+use Rattle.world_laws.specs.Course.{CourseStep, acts, accepts, notifies}
+use Rattle.world_laws.specs.Keeping.{is_bare}
+use Rattle.world_laws.specs.Rounds.{of_telephone}
 use Rattle.told_laws.specs.Among.{AreAmong}
 
 -- What R does with an event
@@ -199,10 +198,6 @@ pub record WalksButLost (course : List CourseStep) (line : LineState) : Type 0 w
   pub counted : min most_lost lost ≤ line.quarantined.lost
   pub walk : Walks nothing_asked [] left (Stays line)
 
--- none was lost between these: the count is the same, and below the greatest, at which it stays
-abbrev pub NoneLostSince : LineState → LineState → Type 0
-NoneLostSince was is = (is.quarantined.lost ≤ was.quarantined.lost) × (is.quarantined.lost < most_lost)
-
 -- The first notification behind a request
 
 -- nothing but acts
@@ -231,12 +226,4 @@ pub record TellsWhatWasKept (latest request : Request) (told done some since obs
   pub before : AreAmong (told ++ left) done
   pub order : left_by request.handling.quarantined (left ++ filter (is_kept latest.events) some) ++ filter (is_kept request.events) since
       ≡ front ++ rest
-  pub told_so : of_telephone observed ≡ filter (collects request.events) front
-
--- It tells, in their order, all that R has told of a front of these: what the request left of what was quarantined, and what of the acts
--- since is kept.
-pub record TellsOfHeld (request : Request) (held since observed : List Observed) : Type 0 where
-  pub front : List Observed
-  pub rest : List Observed
-  pub order : left_by request.handling.quarantined held ++ filter (is_kept request.events) since ≡ front ++ rest
   pub told_so : of_telephone observed ≡ filter (collects request.events) front

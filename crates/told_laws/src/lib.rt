@@ -5,15 +5,5 @@
 //! `specs/` says what is among what, and how what is told walks through what was done.
 #![tactic(auto)]
 
-pub mod delivery_examples;
 pub mod examples;
-pub mod fate_examples;
-pub mod fewer_premises;
-pub mod front_examples;
 pub mod laws;
-pub mod premise_examples;
-pub mod premise_worlds;
-pub mod setup_examples;
-pub mod walk_examples;
-pub mod way_examples;
-pub mod world_examples;

@@ -27,7 +27,7 @@ use Rattle.history.specs.KeptFirst.{KeptFirst}
 use Rattle.history.specs.Entry.{Entry}
 use Rattle.history.specs.Entry.TheVariants.{First, Confirmation}
 use Rattle.history.specs.Kept.{first_entry, firsts_in}
-use Rattle.machine_laws.proofs.YoungLemmas.{repeat_gives}
+use Rattle.machine_laws.proofs.GatewayEvents.{repeat_gives, tells_on}
 use Rattle.history.specs.Memory.{most_firsts}
 use Rattle.history.specs.Looking.{Looked, new, repeat, confirmed, full, look_of}
 use Rattle.endpoint_names.specs.declared.route.Route.TheVariants.{One}
@@ -44,18 +44,17 @@ use Rattle.transmission.specs.Texts.{largest_datagram, texts_of}
 use Rattle.plain_machine.specs.Event.{datagram, phone, tick}
 use Rattle.machine_laws.proofs.EachLemmas.{Each, all_from_each, each_both, each_push, each_weaker, one_before, one_behind, one_of_each, one_to, one_weaker}
 use Rattle.machine_laws.proofs.FlightLemmas.{IsSame}
-use Rattle.machine_laws.proofs.TellsLemmas.{tells_on}
 use Rattle.outbound.specs.Issued.{is_command_as}
-use Rattle.machine_laws.specs.Saying.{Gives, Carries, IsAnswerTo, Begun, OneOf, Tells}
+use Rattle.plain_machine.specs.Message.{Begun}
+use Rattle.machine_laws.specs.Saying.{Gives, Carries, IsAnswerTo, OneOf, Tells}
 use Rattle.transmission.specs.Transacting.{message_to}
 use Rattle.call_agent.specs.declared.setup.AgentSetup.{AgentSetup}
 use Rattle.call_agent.specs.Agent.{AgentEffect, AgentMachine, agent_opening}
 use Rattle.call_agent.specs.Hearing.{AgentEvent, agent_after, agent_effect, agent_refusal, event_refused, issue_refused, handled, handled_as, hears, issued_from, issued_with, issues, took_all}
-use Rattle.call_agent.specs.Flying.{Flown, first_flight, flown_on, fly_on, if_due, pass, passed, sooner, with_flight, without_flight}
+use Rattle.call_agent.specs.Flying.{Flown, first_flight, flown_on, fly_on, if_due, pass, passed, sooner, with_flight, without_flight, has_id}
 use Rattle.call_agent.specs.Taking.{GatewayCommand, answer_to, code_for, command_of, transacted_by, faulty_command, read_command}
 use Rattle.call_agent.specs.Issuing.{IssueRefusal, bad_command, command_text, greatest_id, is_good, issue_refusal, issued, no_more_ids}
 use Rattle.call_agent.specs.Responding.{replied, responded, responded_to}
-use Rattle.call_agent.specs.Flying.{has_id}
 use Rattle.call_agent.proofs.EventLemmas.{agent_clock, tick_forward}
 use Rattle.outbound.specs.Sends.{sending_time}
 
@@ -425,10 +424,6 @@ pub record AgentGoesOn (all : List Begun) (m : AgentMachine) (moment : ℕ) (don
   pub more : List KeptFirst
   pub grown : firsts_in done.machine.history ≡ firsts_in m.history ++ more
   pub sent : Each (Speaks all (firsts_in done.machine.history) moment) done.sent
-
-none_false : (b : Bool) {X : Type 0} (x : X) → (if b then Some x else None) ≡ None → b ≡ false
-none_false true x e = absurd (none-some x (sym e))
-none_false false x e = refl
 
 may_issue : (b c : Bool) (x y : IssueRefusal) → (if b then Some x else (if c then None else Some y)) ≡ None → c ≡ true
 may_issue true c x y e = absurd (none-some x (sym e))

@@ -20,7 +20,7 @@ use Rattle.transmission.specs.declared.output.OutDatagram.{OutDatagram}
 use Rattle.endpoint_names.specs.Route.{at}
 use Rattle.plain_machine.specs.Setup.{IsSetUp}
 use Rattle.plain_machine.specs.Event.{GatewayEvent, datagram, phone, tick}
-use Rattle.plain_machine.specs.Message.{Sent, datagram_of, datagrams_of}
+use Rattle.plain_machine.specs.Message.{Begun, Sent, datagram_of, datagrams_of}
 use Rattle.plain_machine.specs.Machine.{Machine, opening}
 use Rattle.transmission.specs.Texts.{texts_of}
 use Rattle.plain_machine.specs.Arriving.{TextArrival, arrival, clock_after, arrivals_at, arrivals_from, arrivals_of}
@@ -35,10 +35,9 @@ use Rattle.plain_machine.proofs.EffectLaws.{effect_now}
 use Rattle.machine_laws.proofs.MessageLaws.{event_goes}
 use Rattle.plain_machine.specs.declared.setup.Setup.{Setup}
 use Rattle.machine_laws.proofs.EachLemmas.{Each, all_from_each, any_from_one, each_at, each_both, each_from_all, each_mapped, each_weaker, is_none-None, one_before, one_weaker}
-use Rattle.machine_laws.proofs.GatewayEvents.{EventGoes, GatewayHolds, event_holds, opening_gateway, gateway_forward}
+use Rattle.machine_laws.proofs.GatewayEvents.{EventGoes, GatewayHolds, event_holds, opening_gateway, gateway_forward, AreAnswers, IsAnsweredBy, IsCommand, IsGivenBy, final_answers, final_gives}
 use Rattle.machine_laws.proofs.PostLogs.{Logged, WasBegun}
-use Rattle.machine_laws.proofs.TellsLemmas.{AreAnswers, IsAnsweredBy, IsCommand, IsGivenBy, final_answers, final_gives}
-use Rattle.machine_laws.specs.Saying.{HasNumbersLeft, Begun, OneOf, Tells, begun_at, begun_in}
+use Rattle.machine_laws.specs.Saying.{HasNumbersLeft, OneOf, Tells, begun_at, begun_in}
 use Rattle.call_agent.specs.Hearing.{AgentEvent, agent_after, agent_effect, agent_refusal, handled, handled_as, heard_with, hears, issued_with, issues, took_all}
 use Rattle.call_agent.specs.declared.setup.AgentSetup.{AgentSetup}
 use Rattle.call_agent.specs.Agent.{AgentMachine, FinalAnswer, agent_opening}

@@ -10,7 +10,7 @@ use Rattle.plain_machine.specs.Event.{datagram, phone, tick}
 use Rattle.plain_machine.specs.Machine.{opening}
 use Rattle.plain_machine.specs.Refusing.{tick_refusal}
 use Rattle.transmission.specs.Texts.{texts_of}
-use Rattle.machine_laws.proofs.ClockLaws.{ticks_below, clock_below}
+use Rattle.machine_laws.proofs.MessageLaws.{ticks_below, clock_below}
 use Rattle.gateway_core.proofs.SharedLists.{stands_shared}
 use Rattle.call_agent.specs.declared.setup.AgentSetup.{AgentSetup}
 use Rattle.call_agent.specs.Agent.{AgentMachine, agent_opening}

@@ -1,3 +1,17 @@
 pub mod Landing
 pub mod Reached
 pub mod Example
+pub mod Copies
+pub mod Chances
+pub mod OwnChances
+pub mod Taking
+pub mod Fairness
+pub mod Rounds
+pub mod DeliveryExample
+pub mod Untaken
+pub mod DialledExample
+pub mod Course
+pub mod Keeping
+pub mod Following
+pub mod Dialled
+pub mod OnceExample

@@ -10,7 +10,8 @@ use Rattle.plain_machine.specs.Event.{GatewayEvent}
 use Rattle.plain_machine.specs.Arriving.{TextArrival, arrivals_of}
 use Rattle.plain_machine.specs.Lists.{sent_of}
 use Rattle.plain_machine.specs.Transactions.{Asked, asked}
-use Rattle.machine_laws.specs.Saying.{Begun, begun_in}
+use Rattle.plain_machine.specs.Message.{Begun}
+use Rattle.machine_laws.specs.Saying.{begun_in}
 use Rattle.event_values.specs.declared.observed.Observed.{Observed}
 use Rattle.call_agent.specs.declared.setup.AgentSetup.{AgentSetup}
 use Rattle.call_agent.specs.declared.taking.Taken.{Taken}

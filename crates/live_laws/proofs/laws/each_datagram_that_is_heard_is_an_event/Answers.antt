@@ -1,5 +1,5 @@
 use Rattle.surroundings.proofs.TrafficLemmas.{known}
-use Rattle.live_laws.proofs.HearingLaws.{all_are_taken}
+use Rattle.live_laws.proofs.LiveLaws.{all_are_taken}
 use Rattle.live_laws.proofs.laws.each_datagram_that_is_heard_is_an_event.Goals as goal
 
 pub returns : goal.returns

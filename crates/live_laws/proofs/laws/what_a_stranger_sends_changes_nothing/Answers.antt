@@ -1,5 +1,5 @@
 use Rattle.live_play.proofs.RunLemmas.{handed_known}
-use Rattle.live_laws.proofs.HearingLaws.{are_from}
+use Rattle.live_laws.proofs.LiveLaws.{are_from}
 use Rattle.live_laws.proofs.laws.what_a_stranger_sends_changes_nothing.Goals as goal
 
 pub returns : goal.returns

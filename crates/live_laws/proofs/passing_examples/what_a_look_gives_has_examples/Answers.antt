@@ -2,7 +2,7 @@ use Rattle.std.proofs.Common.{◌≡◌, ℕ, refl, sym, ◌∙◌, ap}
 use Rattle.live_journal.specs.declared.capture.Capture.{Capture}
 use Rattle.live_gateway.specs.declared.exchange.Exchange.{Exchange}
 use Rattle.live_laws.specs.Example.{at_port}
-use Rattle.live_laws.proofs.PassingExampleLemmas.{not_given, handed_alone, looked_there}
+use Rattle.live_laws.proofs.WayExampleLemmas.{not_given, handed_alone, looked_there}
 use Rattle.live_laws.proofs.passing_examples.what_a_look_gives_has_examples.Goals as goal
 
 pub returns-clause-lost : goal.returns-clause-lost

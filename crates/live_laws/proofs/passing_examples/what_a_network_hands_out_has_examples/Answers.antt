@@ -6,7 +6,7 @@ use Rattle.live_gateway.specs.declared.exchange.Exchange.{Exchange}
 use Rattle.live_gateway.specs.Passing.{SendsNext, TurnsNextAway, GivesNext}
 use Rattle.live_laws.specs.Example.{at_port}
 use Rattle.live_laws.specs.WayExample.{sends_any}
-use Rattle.live_laws.proofs.PassingExampleLemmas.{nothing_due, last_due, still_kept}
+use Rattle.live_laws.proofs.WayExampleLemmas.{nothing_due, last_due, still_kept}
 use Rattle.live_laws.proofs.passing_examples.what_a_network_hands_out_has_examples.Goals as goal
 
 pub returns-clause-nowhere : goal.returns-clause-nowhere

@@ -1,10 +1,10 @@
 use Rattle.std.proofs.Common.{refl}
 use Rattle.plain_machine.specs.Example.{two_lines}
-use Rattle.delivery_laws.proofs.ExampleLemmas.{to_agent, two_lines_set_up}
-use Rattle.delivery_laws.proofs.FrontLemmas.{agent_has_room}
+use Rattle.world_laws.proofs.ExampleLemmas.{to_agent, two_lines_set_up}
+use Rattle.world_laws.proofs.FrontLemmas.{agent_has_room}
 use Rattle.outage_laws.specs.Example.{serving_late}
 use Rattle.outage_laws.proofs.Computing.{on_examples}
-use Rattle.outage_laws.proofs.FairFromExamples.{fair_from_is, not_fair_from, room_from}
+use Rattle.outage_laws.proofs.UnservedSends.{fair_from_is, not_fair_from, room_from}
 use Rattle.outage_laws.proofs.examples.a_gateway_that_gave_up_serves_at_last.Goals as goal
 
 pub returns : goal.returns

@@ -6,10 +6,11 @@ use Rattle.plain_machine.specs.Event.{tick}
 use Rattle.plain_machine.specs.Example.{response, two_lines}
 use Rattle.plain_machine.specs.Lists.{sent_of}
 use Rattle.machine_laws.specs.Belonging.{of_line}
-use Rattle.machine_laws.specs.Saying.{Begun, OneOf, begun_in}
+use Rattle.plain_machine.specs.Message.{Begun}
+use Rattle.machine_laws.specs.Saying.{OneOf, begun_in}
 use Rattle.machine_laws.proofs.EachLemmas.{any_from_one, one_from_any}
-use Rattle.delivery_laws.specs.OwnChances.{IsResponse}
-use Rattle.delivery_laws.proofs.PostedLemmas.{SaysAt}
+use Rattle.world_laws.specs.OwnChances.{IsResponse}
+use Rattle.world_laws.proofs.PostedLemmas.{SaysAt}
 use Rattle.outage_laws.specs.Example.{announcement, put_off}
 use Rattle.outage_laws.proofs.Computing.{on_examples}
 use Rattle.outage_laws.proofs.examples.an_announcement_goes_out_again.Goals as goal

@@ -4,10 +4,10 @@ use Rattle.plain_machine.specs.Example.{two_lines}
 use Rattle.agent_core.specs.declared.packet.End.TheVariants.{GatewayEnd}
 use Rattle.agent_core.specs.World.{delivering, ticking}
 use Rattle.world_laws.specs.Example.{world}
-use Rattle.delivery_laws.specs.Example.{lifted, notification}
-use Rattle.delivery_laws.specs.Taking.{IsTaken}
-use Rattle.delivery_laws.proofs.ExampleLemmas.{copy_at, two_lines_set_up}
-use Rattle.delivery_laws.proofs.FairLaws.{found_within}
+use Rattle.world_laws.specs.DeliveryExample.{lifted, notification}
+use Rattle.world_laws.specs.Taking.{IsTaken}
+use Rattle.world_laws.proofs.ExampleLemmas.{copy_at, two_lines_set_up}
+use Rattle.world_laws.proofs.FairLaws.{found_within}
 use Rattle.outage_laws.specs.Carrying.{IsHandedBack}
 use Rattle.outage_laws.specs.Example.{last_copy}
 use Rattle.outage_laws.proofs.Computing.{on_examples}

@@ -1,11 +1,11 @@
 use Rattle.std.proofs.Common.{refl}
 use Rattle.plain_machine.specs.Example.{two_lines}
-use Rattle.delivery_laws.specs.Example.{took_between, took_first}
-use Rattle.delivery_laws.proofs.ExampleLemmas.{to_agent, took_split, two_lines_set_up}
-use Rattle.delivery_laws.proofs.FrontLemmas.{agent_has_room, asked_within}
+use Rattle.world_laws.specs.DeliveryExample.{took_between, took_first}
+use Rattle.world_laws.proofs.ExampleLemmas.{to_agent, took_split, two_lines_set_up}
+use Rattle.world_laws.proofs.FrontLemmas.{agent_has_room, asked_within}
 use Rattle.outage_laws.specs.Example.{asked_again, connected_in_step}
 use Rattle.outage_laws.proofs.Computing.{on_examples}
-use Rattle.outage_laws.proofs.FairFromExamples.{fair_from_is, not_fair_from, room_from}
+use Rattle.outage_laws.proofs.UnservedSends.{fair_from_is, not_fair_from, room_from}
 use Rattle.outage_laws.proofs.line_examples.what_was_dialled_is_out_after_an_outage.Goals as goal
 
 pub returns : goal.returns

@@ -1,4 +1,4 @@
-use Rattle.delivery_laws.proofs.GatewayChanceLaws.{announced_eight_times}
+use Rattle.world_laws.proofs.GatewayChanceLaws.{announced_eight_times}
 use Rattle.outage_laws.proofs.EachLine.{each_told}
 use Rattle.outage_laws.proofs.OwnReaches.{own_reaches}
 use Rattle.outage_laws.proofs.SinceLaws.{answered_since, taken_since}

@@ -1,11 +1,11 @@
 use Rattle.std.proofs.Common.{◌≡◌, List, [], ◌∷◌, ◌++◌, refl, sym, ap, ◌∙◌}
 use Rattle.event_values.specs.declared.observed.Observed.{Observed}
 use Rattle.quarantine.specs.Given.{none, kept}
-use Rattle.delivery_laws.specs.OnceExample.{five, lifted, six}
+use Rattle.world_laws.specs.OnceExample.{five, lifted, six}
 use Rattle.told_laws.specs.Example.{has_keys_collected}
 use Rattle.told_laws.specs.Walking.{collects}
 use Rattle.told_laws.proofs.Computing.{on_examples}
-use Rattle.told_laws.proofs.ExampleLemmas.{none_among, none_left_among, tells_first}
+use Rattle.told_laws.proofs.ToldCourses.{none_among, none_left_among, tells_first}
 use Rattle.told_laws.proofs.examples.a_front_is_told.Goals as goal
 
 pub returns : goal.returns

@@ -1,5 +1,5 @@
 use Rattle.std.proofs.Common.{[], ◌∷◌, inl, refl}
-use Rattle.delivery_laws.specs.OnceExample.{five, lifted, six}
+use Rattle.world_laws.specs.OnceExample.{five, lifted, six}
 use Rattle.told_laws.specs.Walking.{no_more}
 use Rattle.told_laws.proofs.Computing.{on_examples}
 use Rattle.told_laws.proofs.examples.keys_are_told_together.Goals as goal

@@ -1,5 +1,0 @@
-use Rattle.call_laws.proofs.DescriptionLaws.{described_there}
-use Rattle.call_laws.proofs.laws.a_description_is_that_of_the_other_end.Goals as goal
-
-pub returns : goal.returns
-returns c = described_there

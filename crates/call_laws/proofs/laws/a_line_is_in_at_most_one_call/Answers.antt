@@ -1,8 +1,0 @@
-use Rattle.call_laws.proofs.CallLaws.{one_call, never_itself}
-use Rattle.call_laws.proofs.laws.a_line_is_in_at_most_one_call.Goals as goal
-
-pub returns-clause-one : goal.returns-clause-one
-returns-clause-one c = one_call
-
-pub returns-clause-another : goal.returns-clause-another
-returns-clause-another c = never_itself

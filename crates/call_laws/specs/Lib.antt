@@ -1,3 +1,0 @@
-pub mod Turns
-pub mod Example
-pub mod Premises

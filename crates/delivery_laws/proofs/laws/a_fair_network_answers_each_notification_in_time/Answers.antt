@@ -1,5 +1,0 @@
-use Rattle.delivery_laws.proofs.InTimeLaws.{waits_in_time}
-use Rattle.delivery_laws.proofs.laws.a_fair_network_answers_each_notification_in_time.Goals as goal
-
-pub returns : goal.returns
-returns c = λ setup steps within line some later endpoint run. waits_in_time setup steps within line some later endpoint run.0 run.1

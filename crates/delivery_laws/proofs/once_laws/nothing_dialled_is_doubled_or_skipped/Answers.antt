@@ -1,5 +1,0 @@
-use Rattle.delivery_laws.proofs.OverLists.{course_told}
-use Rattle.delivery_laws.proofs.once_laws.nothing_dialled_is_doubled_or_skipped.Goals as goal
-
-pub returns : goal.returns
-returns c = course_told
