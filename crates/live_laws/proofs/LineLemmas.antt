@@ -460,7 +460,7 @@ resting_asked (Some BusyTone) e = absurd (true≢false (sym e))
 resting_asked (Some ReorderTone) e = absurd (true≢false (sym e))
 resting_asked (Some Talk) e = absurd (true≢false (sym e))
 
-none_in_flight : (flight : Option Command) → is_some flight ≡ false → flight ≡ None
+pub none_in_flight : (flight : Option Command) → is_some flight ≡ false → flight ≡ None
 none_in_flight None e = refl
 none_in_flight (Some command) e = absurd (true≢false e)
 

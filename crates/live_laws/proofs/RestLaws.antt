@@ -26,7 +26,7 @@ use Rattle.live_laws.specs.CallTurns.{Turn, tells, answers, sends, clears, after
 use Rattle.call_routing.proofs.ElementLemmas.{set_here, set_other, changed_here, changed_other}
 use Rattle.live_laws.proofs.PhaseLemmas.{AreMutual}
 use Rattle.live_laws.proofs.CallLaws.{found_mutual, sent_to_phases, one_mutual, always_mutual}
-use Rattle.live_laws.proofs.LineLemmas.{left_of, three_most, landed_lands, landed_idle, cleared_less, sent_if, sent_no_more, clear_at_none, clear_at_idle}
+use Rattle.live_laws.proofs.LineLemmas.{left_of, three_most, landed_lands, landed_idle, cleared_less, sent_if, sent_no_more, clear_at_none, clear_at_idle, none_in_flight as no_flight}
 use Rattle.live_laws.proofs.RowLaws.{row_of, sent_row, cleared_row, one_short, all_short, always_short}
 
 -- A line that rests goes on to rest
@@ -272,10 +272,6 @@ no_less line exchange turn none same =
 
 abbrev settled_as : Bool → Outcome → Bool → Bool
 settled_as flies outcome put = (flies && not (is_given_up outcome)) && not put
-
-no_flight : (flight : Option Command) → is_some flight ≡ false → flight ≡ None
-no_flight None e = refl
-no_flight (Some command) e = absurd (true≢false e)
 
 landed_flying : (outcome : Outcome) (line : Line) (b : Bool) → is_some line.flight ≡ b → times_of line.put_off ≤ most_put_off
     → Leaves (left_of line) (left_of (landed (fate_in (Some line) (Some Resting) outcome) outcome line)) (count_if (b && not (is_given_up outcome)))

@@ -1,6 +1,6 @@
 -- What announcements do: when the gateway serves, and what becomes of a line that gave up.
 use Rattle.std.proofs.Common.{◌≡◌, ℕ, ◌+◌, ◌≤◌, Bool, true, false, ◌==◌, if◌then◌else◌, List, [], ◌∷◌, ◌++◌, Option, Some, None, refl, sym, ap, subst, ◌∙◌, arith, ◌≢◌, zero, suc, Result, Ok, Err}
-use Rattle.std.specs.Prelude.{◌⊎◌, option_map}
+use Rattle.std.specs.Prelude.{option_map}
 use Rattle.std.proofs.lemmas.Bool.Decides.{Decides-eqb}
 use Rattle.std.specs.declared.net.socket_addr.SocketAddrV4.{SocketAddrV4}
 use Rattle.mgcp_text.specs.declared.message.Message.TheVariants as messages
@@ -18,13 +18,14 @@ use Rattle.plain_machine.specs.declared.endpoint.Endpoint.{Endpoint}
 use Rattle.plain_machine.specs.Effect.{Effect, silently, afterwards, effect_map}
 use Rattle.plain_machine.specs.Message.{of_none, acknowledgement, Sent}
 use Rattle.plain_machine.specs.Posting.{line_of_id, id_on, wait_of, with_command, repeated_as, resent_by, resent_on}
-use Rattle.plain_machine.specs.Machine.{Endpoints, endpoint_at, on_line, on_lines, on_own, Machine, serves, opening, with_own}
+use Rattle.plain_machine.specs.Machine.{Endpoints, endpoint_at, on_line, on_own, Machine, serves, opening, with_own}
 use Rattle.plain_machine.specs.Acting.{acted_on, acted}
 use Rattle.plain_machine.specs.Announcing.{heard_on, replied_on, announcement, announced, announced_by, announced_on, heard_by, replied}
 use Rattle.plain_machine.specs.Falling.{post_due, pass, command_item, announcement_item, due_by, happened_under, happened_on, happened, go_on, passed, room}
 use Rattle.plain_machine.specs.Responding.{acknowledged, response_with, responded_on, redirected_on, opened_on, on_all, lines_told, own_heard, responded, heard_from}
-use Rattle.machine_laws.proofs.OwningLemmas.{own_stays_on, own_stays, passing_from, OwnedBy, of_both, turn_if, sent_by, LineTurns, silent_stays, silent_sends, on_one_line, on_many_lines, acted_owned, responded_owned, own_responded_owned, redirected_owned, opened_owned, owned_here, owned_elsewhere}
-use Rattle.machine_laws.specs.Belonging.{is_of, of_line}
+use Rattle.machine_laws.proofs.OwningLemmas.{own_stays, passing_from, OwnedBy, of_both, turn_if, sent_by, LineTurns, silent_stays, silent_sends, on_one_line, on_many_lines, acted_owned, responded_owned, redirected_owned, opened_owned, own_stays as several_own}
+use Rattle.machine_laws.proofs.FlightLaws.{own_stays_at as own_stays_on, Orders, OwnOrders, own_free, orders_on, orders_happened, orders_handled, all_order, is_own, own_stays_at}
+use Rattle.machine_laws.specs.Belonging.{of_line}
 use Rattle.machine_laws.specs.Passing.{seen, PassesAlone, line_due, line_happens, own_happens}
 use Rattle.machine_laws.proofs.PassLemmas.{passes_once, line_passes, own_passes}
 use Rattle.std.proofs.lemmas.Option.{none-some}
@@ -68,7 +69,6 @@ use Rattle.plain_machine.specs.Lists.{machine_after, plain}
 use Rattle.plain_machine.specs.Flights.{OwnIsInOrder, OwnInOrderBy}
 use Rattle.plain_machine.proofs.ListLaws.{machine_on}
 use Rattle.machine_laws.proofs.TurnLemmas.{Holds, happening_serves}
-use Rattle.machine_laws.proofs.FlightLaws.{Orders, OwnOrders, own_free, orders_on, orders_happened, orders_handled, all_order, is_own, own_stays_at}
 
 -- Two gateways that are alike in a line, and in what they keep for themselves, go on so.
 
@@ -245,12 +245,6 @@ module _ (setup : Setup) (line : ℕ) where
 
 -- The gateway's own stays, but at what comes to it
 
--- what lines do leaves it
-several_own : (lines : List ℕ) (endpoints : Endpoints) (turn : ℕ → Endpoint → Effect Endpoint) → (on_lines lines endpoints turn).value.own ≡ endpoints.own
-unfolding on_lines
-several_own [] endpoints turn = refl
-several_own (line ∷ lines) endpoints turn = several_own lines (on_line endpoints line (turn line)).value turn ∙ own_stays_at endpoints line (turn line)
-
 same_own : (endpoints others : Endpoints) → others.own ≡ endpoints.own → serves others ≡ serves endpoints
 same_own endpoints others same = ap (λ (own : Post). is_serving own.restart) same
 
@@ -261,7 +255,7 @@ unless_own : (refusal : Option ℕ) (endpoints : Endpoints) (done : Done) → do
 unless_own None endpoints done same = same
 unless_own (Some code) endpoints done same = refl
 
-deed_own : (setup : Setup) (endpoints : Endpoints) (lines : Target) (more : List Param) (deed : Deed) (moment : ℕ)
+pub deed_own : (setup : Setup) (endpoints : Endpoints) (lines : Target) (more : List Param) (deed : Deed) (moment : ℕ)
     → (deed_done setup endpoints lines more deed moment).told.value.own ≡ endpoints.own
 deed_own setup endpoints lines more deed moment =
     unless_own (refused_by endpoints lines deed) endpoints _ (several_own (lines_meant endpoints lines) endpoints (deed_on setup deed moment))

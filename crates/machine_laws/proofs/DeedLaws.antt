@@ -17,7 +17,7 @@ use Rattle.plain_machine.specs.Done.{Done, only_answer}
 use Rattle.plain_machine.specs.Machine.{Endpoints, endpoint_at, numbered}
 use Rattle.plain_machine.specs.Requesting.{refusal_on, refused_by, lines_meant, deed_on, deed_on_all, shown_of, answer_with, unless_refused, deed_done}
 use Rattle.machine_laws.specs.Refusals.{refusal_at, IsRefused, NoneRefuses}
-use Rattle.machine_laws.proofs.OwningLemmas.{own_stays, not_among, among_from, none_stays, sent_from_each, passing_from, place_of, all_there}
+use Rattle.machine_laws.proofs.OwningLemmas.{not_among, among_from, none_stays, sent_from_each, passing_from, place_of, all_there}
 
 -- what a deed does and is answered where no line refuses it
 abbrev done_whole : Setup → Endpoints → Target → List Param → Deed → ℕ → Done
@@ -179,11 +179,3 @@ done_sent setup endpoints lines more deed moment none =
     ∙ sent_from_each (is_for lines) 1 endpoints.list endpoints (deed_on setup deed moment) (all_there endpoints)
 
 -- One line
-
-pub own_alone : (setup : Setup) (endpoints : Endpoints) (lines : Target) (more : List Param) (deed : Deed) (moment : ℕ)
-    → (deed_done setup endpoints lines more deed moment).told.value.own ≡ endpoints.own
-own_alone setup endpoints lines more deed moment = by_refusal (refused_by endpoints lines deed) where
-  by_refusal : (refusal : Option ℕ)
-      → (unless_refused refusal endpoints (done_whole setup endpoints lines more deed moment)).told.value.own ≡ endpoints.own
-  by_refusal None = own_stays (lines_meant endpoints lines) endpoints (deed_on setup deed moment)
-  by_refusal (Some code) = refl

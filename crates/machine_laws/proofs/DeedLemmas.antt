@@ -30,11 +30,11 @@ use Rattle.plain_machine.specs.Message.{Sent}
 use Rattle.plain_machine.specs.Reporting.{line_report}
 use Rattle.plain_machine.specs.Requesting.{refusal_by, refusal_on, deed_on, shown_on, shown_of, answer_with, deed_done, done_for}
 use Rattle.machine_laws.specs.Refusals.{refusal_at, IsRefused, NoneRefuses}
-use Rattle.machine_laws.proofs.DeedLaws.{refused_deed, refused_or_not, done_answer, done_endpoint, done_sent, own_alone}
+use Rattle.machine_laws.proofs.DeedLaws.{refused_deed, refused_or_not, done_answer, done_endpoint, done_sent}
+use Rattle.machine_laws.proofs.AnnouncementLaws.{deed_own as own_alone, AreAlike, ToldAlike, nothing_told, turn_alike}
 use Rattle.machine_laws.proofs.OwningLemmas.{sent_from_each, all_there, turn_if, LineTurns, silent_stays, silent_sends, on_many_lines, deed_owned}
 use Rattle.machine_laws.specs.Apart.{is_single}
 use Rattle.machine_laws.specs.Belonging.{of_line}
-use Rattle.machine_laws.proofs.AnnouncementLaws.{AreAlike, ToldAlike, nothing_told, turn_alike}
 use Rattle.machine_laws.proofs.TargetLemmas.{for_the_line, for_no_line}
 
 -- both do the same to the line, and answer the same

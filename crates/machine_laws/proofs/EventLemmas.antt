@@ -58,7 +58,7 @@ texts_are_parts bytes = by_length (nat_lt largest_datagram (length bytes)) refl 
       all_parts bytes (parts_of bytes) (ltb-false _ _ e) (each_from_all (λ (part : List ℕ). parts_of part ≡ part ∷ []) (parts_of bytes) (parts-parts bytes))
       (each_from_all (λ (part : List ℕ). length part ≤ length bytes) (parts_of bytes) (short-parts_of bytes))
 
-sent_on : (setup : Setup) (m : Machine) (es fs : List GatewayEvent) → sent_from setup m (es ++ fs) ≡ sent_from setup m es ++ sent_from setup (machine_after setup m es) fs
+pub sent_on : (setup : Setup) (m : Machine) (es fs : List GatewayEvent) → sent_from setup m (es ++ fs) ≡ sent_from setup m es ++ sent_from setup (machine_after setup m es) fs
 unfolding sent_from machine_after
 sent_on setup m [] fs = refl
 sent_on setup m (event ∷ es) fs =

@@ -51,7 +51,7 @@ all_among {X} (x ∷ xs) = (
   each_weaker (Among xs) (Among (x ∷ xs)) (λ y in_rest p is. ap (λ (b : Bool). p x || b) (in_rest p is) ∙ or_true (p x)) xs (all_among xs),
 )
 
-each_two : {X : Type 0} (P Q : X → Type 0) (xs : List X) → Each P xs → Each Q xs → Each (λ x. P x × Q x) xs
+pub each_two : {X : Type 0} (P Q : X → Type 0) (xs : List X) → Each P xs → Each Q xs → Each (λ x. P x × Q x) xs
 each_two P Q [] a b = tt
 each_two P Q (x ∷ xs) a b = ((a.0, b.0), each_two P Q xs a.1 b.1)
 

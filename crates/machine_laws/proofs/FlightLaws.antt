@@ -85,7 +85,7 @@ unfolding detected quarantining
 detected_waits line event moment waits =
     subst (λ (s : State). WaitsOn (detected_in s line event moment)) (sym waits) (record { state = waits; silent = refl })
 
-hooked_state : (line : LineState) (act : Act) → (hooked line act).state ≡ line.state
+pub hooked_state : (line : LineState) (act : Act) → (hooked line act).state ≡ line.state
 hooked_state line OffHook = refl
 hooked_state line OnHook = refl
 hooked_state line Flash = refl
@@ -134,7 +134,7 @@ heard_same message id code moment = by_reply (reply_of message id code) where
 
 -- Ids
 
-line_of_its_id : (line number : ℕ) → number < numbers → line_of_id (id_on line number) ≡ line
+pub line_of_its_id : (line number : ℕ) → number < numbers → line_of_id (id_on line number) ≡ line
 line_of_its_id line number below = div-mul-add line numbers number below
 
 first_below : (line : ℕ) → first_number line < numbers
@@ -220,7 +220,7 @@ all_any [] = All-nil Any
 all_any (one ∷ sent) = All-cons Any one sent tt (all_any sent)
 
 -- it tells nothing, or waits from then on for the answer to what it tells
-noted_silent : (setup : Setup) (line moment : ℕ) (endpoint : Endpoint) (done : LineDone) → done.notice ≡ None → noted setup line moment endpoint done ≡ silently (record endpoint { line = done.line })
+pub noted_silent : (setup : Setup) (line moment : ℕ) (endpoint : Endpoint) (done : LineDone) → done.notice ≡ None → noted setup line moment endpoint done ≡ silently (record endpoint { line = done.line })
 unfolding noted
 noted_silent setup line moment endpoint done none = ap (with_notice setup line moment (record endpoint { line = done.line })) none
 
@@ -270,7 +270,7 @@ acted_orders setup false line moment act endpoint orders =
 acted_orders setup true line moment act endpoint orders =
     noted_orders setup line moment endpoint (phoned endpoint.line act moment) orders (notifies_once.act endpoint.line act moment) (phoned_waits endpoint.line act moment)
 
-asked_awaits : (request : Option Request) (line : LineState) (moment : ℕ) → AwaitsIfNotified (asked_if request line moment)
+pub asked_awaits : (request : Option Request) (line : LineState) (moment : ℕ) → AwaitsIfNotified (asked_if request line moment)
 asked_awaits None line moment = tt
 asked_awaits (Some request) line moment = notifies_once.request line request moment
 

@@ -193,7 +193,7 @@ pub record TextGoes (setup : Setup) (log : List Begun) (m : Machine) (done : Eff
 own_said : (until : ℕ) (log : List Begun) (firsts : List KeptFirst) (sent : List Sent) → Each (Own until log) sent → Each (Said log firsts until) sent
 own_said until log firsts sent own = each_weaker (Own until log) (Said log firsts until) (λ one is. (inl is.carries, is.early)) sent own
 
-firsts_append : (some more : List Entry) → firsts_in (some ++ more) ≡ firsts_in some ++ firsts_in more
+pub firsts_append : (some more : List Entry) → firsts_in (some ++ more) ≡ firsts_in some ++ firsts_in more
 firsts_append [] more = refl
 firsts_append (First first ∷ some) more = ap (λ (rest : List KeptFirst). first ∷ rest) (firsts_append some more)
 firsts_append (Confirmation spans ∷ some) more = firsts_append some more
@@ -249,7 +249,7 @@ transacted_goes setup log full m source t stands answered is goes at = still_goe
 only_goes : (setup : Setup) (log : List Begun) (until : ℕ) (endpoints : Endpoints) → EndpointsStand setup until log endpoints → ToldGoes setup until log (silently endpoints)
 only_goes setup log until endpoints stands = record { stands = endpoints_same setup until log endpoints [] refl stands; sent_own = tt }
 
-none_acknowledged : (now : ℕ) (source : SocketAddrV4) (code id : ℕ) (params : List Param) → begun_in (acknowledged now source code id params) ≡ []
+pub none_acknowledged : (now : ℕ) (source : SocketAddrV4) (code id : ℕ) (params : List Param) → begun_in (acknowledged now source code id params) ≡ []
 none_acknowledged now source code id params = by_test (asks_for_acknowledgement code params) where
   by_test : (b : Bool) → begun_in (if b then (record { to = source; moment = now; owner = of_none; said = acknowledgement (messages.Response 0 id [] []) }) ∷ [] else []) ≡ []
   by_test true = refl
@@ -348,7 +348,7 @@ pub record EventGoes (setup : Setup) (log : List Begun) (m : Machine) (done : Ef
   pub grown : firsts_in done.value.history ≡ firsts_in m.history ++ more
   pub sent_says : Each (Said (log ++ begun_in done.sent) (firsts_in done.value.history) done.value.now) done.sent
 
-flight_later : (now later : ℕ) → now ≤ later → (log : List Begun) (found : Option InFlight) → IfSome found (InLog now log) → IfSome found (InLog later log)
+pub flight_later : (now later : ℕ) → now ≤ later → (log : List Begun) (found : Option InFlight) → IfSome found (InLog now log) → IfSome found (InLog later log)
 flight_later now later past log None is = tt
 flight_later now later past log (Some flight) is = record { known = is.known; later = is.later; past = omega (arith, past, is.past) }
 

@@ -114,11 +114,11 @@ clock_below setup m (event ∷ events) lt taken =
 
 -- An answer
 
-comment_length : (b : Bool) → length (if b then codes " OK" else []) ≤ 3
+pub comment_length : (b : Bool) → length (if b then codes " OK" else []) ≤ 3
 comment_length true = omega arith
 comment_length false = omega arith
 
-first_line : (code id : ℕ) → id ≤ 999999999 → length (ended (response_line code id)) ≤ 20
+pub first_line : (code id : ℕ) → id ≤ 999999999 → length (ended (response_line code id)) ≤ 20
 unfolding response_line
 first_line code id small =
     let digits : length (decimal id) ≤ 9 = length-decimal-le 9 id (lit< tt) (omega arith) (omega arith) in
@@ -141,7 +141,7 @@ pub code_is : (code : ℕ) → code ≤ 999 → IsAnswer (plain_code code)
 unfolding is_writable_body
 code_is code small = record { three_digits = small; each = refl; whole = refl }
 
-code_short : (code id : ℕ) → id ≤ 999999999 → length (written (response_of id (plain_code code))) ≤ largest_datagram
+pub code_short : (code id : ℕ) → id ≤ 999999999 → length (written (response_of id (plain_code code))) ≤ largest_datagram
 unfolding written
 code_short code id small =
     let head = first_line code id small in

@@ -39,6 +39,7 @@ use Rattle.plain_machine.specs.Requesting.{with_entity, with_connections, asked_
 use Rattle.plain_machine.specs.Responding.{responded_as, responded_on, redirected_on, opened_on}
 use Rattle.plain_machine.specs.Falling.{happened_on, happened_under, happened}
 use Rattle.machine_laws.specs.Belonging.{is_of, of_line}
+use Rattle.machine_laws.proofs.FlightLaws.{own_stays_at as own_stays_on}
 
 -- What comes to one line, and to several, each once.
 
@@ -82,14 +83,6 @@ this_turns endpoints line turn = by_endpoint (endpoint_at endpoints line) refl w
       → endpoint_at (turned_at found endpoints line turn).value line ≡ option_map (λ (endpoint : Endpoint). (turn endpoint).value) found
   by_endpoint None e = e
   by_endpoint (Some endpoint) e = by_zero (line == 0) endpoint (turn endpoint).value e
-
--- the post of the gateway itself stays
-pub own_stays_on : (endpoints : Endpoints) (line : ℕ) (turn : Endpoint → Effect Endpoint) → (on_line endpoints line turn).value.own ≡ endpoints.own
-unfolding on_line
-own_stays_on endpoints line turn = by_endpoint (endpoint_at endpoints line) where
-  by_endpoint : (found : Option Endpoint) → (turned_at found endpoints line turn).value.own ≡ endpoints.own
-  by_endpoint None = refl
-  by_endpoint (Some endpoint) = refl
 
 -- Several lines
 

@@ -9,7 +9,6 @@ use Rattle.std.specs.Prelude.{AllPairs, IfSome, filter, option_map, ◌⊎◌}
 use Rattle.std.specs.Option.{unwrap_or}
 use Rattle.std.specs.Str.{bytes_eq}
 use Rattle.std.proofs.lemmas.Slice.Eq.{bytes_eq-Decides}
-use Rattle.std.proofs.lemmas.Nat.{div-mul-add}
 use Rattle.std.proofs.lemmas.List.{length-append}
 use Rattle.std.proofs.lemmas.List.Elements.{filter-append}
 use Rattle.std.proofs.lemmas.List.Quantifiers.{all_pairs_push}
@@ -35,9 +34,9 @@ use Rattle.restart.specs.declared.heard.Heard.TheVariants.{Nothing, PutOff, Redi
 use Rattle.plain_machine.specs.declared.post.Post.{Post}
 use Rattle.plain_machine.specs.declared.response.Response.{Response}
 use Rattle.plain_machine.specs.Effect.{Effect, silently}
-use Rattle.plain_machine.specs.Message.{Begun, own_of, command, resent, Sent, text_of}
+use Rattle.plain_machine.specs.Message.{Begun, own_of, resent, Sent, text_of}
 use Rattle.plain_machine.specs.Announcing.{announced_lines, method_of, announcement, announced, announced_by, announced_on, put_off, replied}
-use Rattle.machine_laws.proofs.FlightLaws.{next_below}
+use Rattle.machine_laws.proofs.FlightLaws.{next_below, line_of_its_id as line_is}
 use Rattle.machine_laws.proofs.NotificationLemmas.{announcement_writable}
 use Rattle.machine_laws.proofs.EachLemmas.{Each, EachAfter, all_from_each, each_after_push, each_both, each_push, each_weaker, one_before, one_behind, one_weaker}
 use Rattle.machine_laws.proofs.LogTurns.{EffectKeeps, silent_keeps}
@@ -147,9 +146,6 @@ PostGood setup until log line turn = EffectKeeps (λ (x : List Begun). Posted se
 
 -- Counting
 
-line_is : (line number : ℕ) → number < numbers → line_of_id (id_on line number) ≡ line
-line_is line number below = div-mul-add line numbers number below
-
 pub count_both : (line : ℕ) (log more : List Begun) → count_of line (log ++ more) ≡ count_of line log + count_of line more
 count_both line log more =
     ap (λ (x : List Begun). length x) (filter-append (λ (one : Begun). line_of_id one.id == line) log more)
@@ -207,7 +203,7 @@ post_still setup until log line post logged s = silent_keeps (λ (x : List Begun
 
 -- A command begins
 
-same_command : (id : ℕ) (name : List ℕ) → (id == id && bytes_eq name name) ≡ true
+pub same_command : (id : ℕ) (name : List ℕ) → (id == id && bytes_eq name name) ≡ true
 same_command id name = and_from (id == id) (bytes_eq name name) (eq-eqb id id refl) ((bytes_eq-Decides name name).1 refl)
 
 pub command_good : (setup : Setup) (until : ℕ) (log : List Begun) (line moment : ℕ) (post : Post) (verb : Verb) (name : List ℕ) (params : List Param) (body : List ℕ)

@@ -1,10 +1,9 @@
 -- Of each line all that audits report can be written: its entity is a word, and its connections were read.
 use Rattle.std.proofs.Common.{◌≡◌, ℕ, zero, suc, ◌+◌, ◌≤◌, Bool, true, false, if◌then◌else◌, nat_lt, not, ◌||◌, ok_or, List, [], ◌∷◌, length, get_or, map, Option, Some, None, Result, Ok, Err, inr, refl, sym, ◌∙◌, subst, arith}
-use Rattle.std.specs.Prelude.{All, IfSome, set}
+use Rattle.std.specs.Prelude.{IfSome, set}
 use Rattle.std.specs.List.{AllByRecursion}
 use Rattle.std.specs.Option.{unwrap_or}
 use Rattle.std.proofs.lemmas.Bool.{and_parts}
-use Rattle.std.proofs.lemmas.List.Elements.{All-nil, All-cons}
 use Rattle.mg_bytes.specs.Steps.{◌>>=◌}
 use Rattle.mg_bytes.specs.Checks.{unless, checked, given, first_fault}
 use Rattle.mg_bytes.specs.Numbers.{is_hex_text}
@@ -59,7 +58,6 @@ use Rattle.plain_machine.specs.declared.response.Response.{Response}
 use Rattle.plain_machine.specs.declared.setup.Setup.{Setup}
 use Rattle.plain_machine.specs.declared.endpoint.Endpoint.{Endpoint}
 use Rattle.plain_machine.specs.Setup.{IsSetUp, most_lines, highest_media_base}
-use Rattle.plain_machine.specs.Message.{Sent}
 use Rattle.plain_machine.specs.Posting.{repeated_as, resent_by}
 use Rattle.plain_machine.specs.Announcing.{announced, announced_by, heard_on, replied}
 use Rattle.plain_machine.specs.Notifying.{posted, with_notice, noted}
@@ -71,7 +69,7 @@ use Rattle.plain_machine.specs.Responding.{responded_as, responded_on, redirecte
 use Rattle.machine_laws.proofs.CommandLaws.{Sound}
 use Rattle.plain_machine.proofs.NameLemmas.{entity_is}
 use Rattle.machine_laws.proofs.ShownLimits.{address_is}
-use Rattle.machine_laws.proofs.StandingLemmas.{AnySent, AnyOwn, HasLine, happenings, deed_connections, noted_same}
+use Rattle.machine_laws.proofs.StandingLemmas.{AnySent, AnyOwn, HasLine, happenings, deed_connections, noted_same, all_sent as any_sent}
 use Rattle.machine_laws.proofs.TurnLemmas.{Always, Turns, OwnTurns, Holds, IsEntity, IsRead, HeardRead, heard_read, on_made}
 
 -- The places of a line
@@ -290,10 +288,6 @@ unfolding opened_on
 opened_shows setup agent line moment endpoint read shows =
     noted_shows setup line moment (with_entity agent endpoint) (opened endpoint.line moment)
     (record { entity = perhaps_named setup agent endpoint.post.entity read shows.entity; places = shows.places })
-
-any_sent : (sent : List Sent) → All AnySent sent
-any_sent [] = All-nil AnySent
-any_sent (one ∷ sent) = All-cons AnySent one sent tt (any_sent sent)
 
 pub showing_turns : (setup : Setup) → Turns setup (Always Shows) AnySent
 showing_turns setup = record {

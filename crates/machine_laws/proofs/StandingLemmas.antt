@@ -116,7 +116,7 @@ AnySent sent = Unit {0}
 abbrev pub AnyOwn : Post → Type 0
 AnyOwn own = Unit {0}
 
-all_sent : (sent : List Sent) → All AnySent sent
+pub all_sent : (sent : List Sent) → All AnySent sent
 all_sent [] = All-nil AnySent
 all_sent (one ∷ sent) = All-cons AnySent one sent tt (all_sent sent)
 

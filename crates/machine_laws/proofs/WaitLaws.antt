@@ -14,10 +14,10 @@ use Rattle.plain_machine.specs.Falling.{happened_on, happened_under, happened, p
 use Rattle.plain_machine.specs.Lists.{plain}
 use Rattle.plain_machine.specs.Machine.{Endpoints, Machine, serves, opening, endpoint_at, on_line, on_own}
 use Rattle.machine_laws.proofs.AllLemmas.{OnAll}
-use Rattle.machine_laws.proofs.FlightLaws.{Orders, OwnOrders, opening_orders, all_order, orders_acted, orders_passed, orders_handled, in_order}
+use Rattle.machine_laws.proofs.FlightLaws.{Orders, OwnOrders, opening_orders, all_order, orders_acted, orders_passed, orders_handled, in_order, own_stays_at as own_stays_on}
 use Rattle.machine_laws.proofs.TurnLemmas.{Holds, of_line}
 use Rattle.machine_laws.specs.Waiting.{KeepOrder}
-use Rattle.machine_laws.proofs.OwningLemmas.{others_stay_on, own_stays_on, AreThere, all_there}
+use Rattle.machine_laws.proofs.OwningLemmas.{others_stay_on, AreThere, all_there}
 
 -- All lines
 

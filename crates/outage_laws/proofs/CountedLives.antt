@@ -12,7 +12,8 @@ use Rattle.outage_laws.specs.Lives.{Life, LivesStep, clock_of, gateway_of, lives
 use Rattle.outage_laws.specs.Apart.{AreApart, BeganByTime, BeginsLater, IsByTime, LieApart, StartsLater, begun_of, KeepsPace, StartsByTime, keeps_pace, moved, own_of}
 use Rattle.outage_laws.proofs.LinkedLives.{IsOverBefore}
 use Rattle.outage_laws.proofs.TimedLives.{IsTimed, TimedWorld, life_began, lives_timed}
-use Rattle.outage_laws.proofs.PairLemmas.{each_and, pairs_both, pairs_from, pairs_to, pairs_with}
+use Rattle.outage_laws.proofs.PairLemmas.{pairs_both, pairs_from, pairs_to, pairs_with}
+use Rattle.machine_laws.proofs.FitLemmas.{each_two as each_and}
 use Rattle.std.proofs.lemmas.Bool.{and_parts, cases_Bool, eqb-true, eqb-false}
 use Rattle.std.proofs.lemmas.Bool.Decides.{nat_tests}
 use Rattle.machine_laws.specs.Numbering.{start_on, IsBehind, IsInTurn}

@@ -19,7 +19,7 @@ use Rattle.machine_laws.proofs.WaitLaws.{events_wait}
 use Rattle.world_laws.specs.Course.{CourseStep, accepts, acts, course_from}
 use Rattle.world_laws.specs.Dialled.{done_in}
 use Rattle.world_laws.specs.Rounds.{of_telephone}
-use Rattle.world_laws.proofs.CourseLemmas.{AnyResponse, LineGoes, call_turns, events_stand, hear_all}
+use Rattle.world_laws.proofs.CourseLemmas.{AnyResponse, LineGoes, call_turns, events_stand, hear_all, some_same}
 use Rattle.world_laws.proofs.DialledLemmas.{calls_count}
 use Rattle.world_laws.proofs.EndpointLemmas.{Calls, steps_of}
 use Rattle.world_laws.proofs.OutLemmas.{IsCounted, Grows, answered_back, asked_back, back_few, fired_shape, grown, held_in, opened_back, phoned_shape}
@@ -79,9 +79,6 @@ calls_few most = record {
       (none_came (length (of_telephone line.quarantined.events)) (length (of_telephone (held_in (fired line due moment))))
       (grown_few 0 line.quarantined.events (held_in (fired line due moment)) (fired_shape line due moment).grows)) few (done_on course (steps_of (fired line due moment).notice));
 }
-
-some_same : (a b : Endpoint) → Some a ≡ Some b → a ≡ b
-some_same a b same = cc
 
 none_yet : (n : ℕ) → n ≤ n + 0
 none_yet n = omega arith

@@ -48,6 +48,7 @@ use Rattle.outage_laws.specs.Apart.{BringsCopy, executed_by}
 use Rattle.outage_laws.proofs.PairLemmas.{each_among, each_last, Pairs, pairs_to}
 use Rattle.call_agent.specs.declared.setup.AgentSetup.{AgentSetup}
 use Rattle.call_agent.proofs.HearingLemmas.{texts_stay}
+use Rattle.world_laws.proofs.LinkLaws.{only_tells}
 
 -- a command that arrived at a life is this one, which was issued less than 30,000 ms before, by the world's clock
 pub record ComesTo (life : Life) (one : Reached) (b : Begun) : Type 0 where
@@ -221,9 +222,6 @@ pub side_clock : (setup : Setup) (number : ℕ) (w : LivesWorld) (event : AgentE
 side_clock setup number w event a taken = agent_clock_on setup (agent_side w) event a.agent taken
 
 -- A packet is handed over
-
-only_tells : (S : List ℕ → Type 0) (moment now : ℕ) (texts : List (List ℕ)) → Each (λ (text : List ℕ). S text × (moment ≤ now)) texts → Each S texts
-only_tells S moment now texts each = each_weaker (λ (text : List ℕ). S text × (moment ≤ now)) S (λ text s. s.0) texts each
 
 -- where there are texts they were sent by now; where there are none it doesn't matter
 texts_come_now : (all : List Begun) (firsts : List KeptFirst) (life : Life) (moment now world : ℕ) (source : SocketAddrV4) (texts : List (List ℕ)) → Each IsCommand all → AreAnswers firsts

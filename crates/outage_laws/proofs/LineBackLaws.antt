@@ -39,12 +39,10 @@ use Rattle.outage_laws.proofs.LineTrackLaws.{TracksSince, line_says, tracks_at, 
 use Rattle.outage_laws.proofs.LineTracks.{Announces, Behind, FliesSo, IsGivenUp, TracksBy, Waits, none_tracks}
 use Rattle.outage_laws.proofs.OwnReaches.{PostsSince, line_since, posts_since}
 use Rattle.outage_laws.proofs.SinceLaws.{IsBack, IsBackBehind}
-use Rattle.outage_laws.proofs.OldestServes.{BothSince, IsLast, IsStretch, OneSince, StartsSince, begun_whole, is_begun, last_on, last_since, one_last, two_since}
+use Rattle.outage_laws.proofs.OldestServes.{BothSince, IsLast, IsStretch, OneSince, StartsSince, begun_whole, is_begun, last_on, last_since, one_last, two_since, nil_parts as none_part}
+use Rattle.world_laws.proofs.FrontLemmas.{rest_same as tails}
 
 -- Lists
-
-tails : {X : Type 0} (x y : X) (xs ys : List X) → x ∷ xs ≡ y ∷ ys → xs ≡ ys
-tails x y xs ys same = cc
 
 pub same_rest : {X : Type 0} (xs ys zs : List X) → xs ++ ys ≡ xs ++ zs → ys ≡ zs
 same_rest [] ys zs same = same
@@ -68,10 +66,6 @@ one_part [] ys z same = inr (refl, same)
 one_part (x ∷ []) [] z same = inl same
 one_part (x ∷ []) (y ∷ ys) z same = absurd (some_none y ys (tails x z (y ∷ ys) [] same))
 one_part (x ∷ t ∷ xs) ys z same = absurd (some_none t (xs ++ ys) (tails x z (t ∷ (xs ++ ys)) [] same))
-
-pub none_part : (xs ys : List Begun) → xs ++ ys ≡ [] → (xs ≡ []) × (ys ≡ [])
-none_part [] ys none = (refl, none)
-none_part (x ∷ xs) ys none = absurd cc
 
 -- What was answered isn't in flight, where the line began no more since
 

@@ -31,7 +31,7 @@ use Rattle.outage_laws.proofs.LineBackLaws.{announced_answered, flight_answered,
 use Rattle.outage_laws.proofs.LineTrackLaws.{line_says, tracks_at}
 use Rattle.outage_laws.proofs.LineTracks.{Announces, Behind, Flies, FliesSo, IsGivenUp, LineTracks, TracksBy}
 use Rattle.outage_laws.proofs.UnservedRoom.{IsNext, next_send}
-use Rattle.outage_laws.proofs.ServesLaws.{IsQuick, due_by, first_few, gap_late, in_time, one_of_chances}
+use Rattle.outage_laws.proofs.ServesLaws.{IsQuick, due_by, first_few, gap_late, in_time, one_of_chances, last_past}
 use Rattle.outage_laws.proofs.SinceLaws.{IsBackBehind, comes_behind}
 use Rattle.outage_laws.proofs.OldestServes.{IsLast, is_begun}
 
@@ -60,9 +60,6 @@ twice_past first wait within now slack twice = omega (arith, twice)
 
 pub not_twice : (first one within now slack : ℕ) → one ≡ 0 → now < first + one + 2 * within + slack → now < first + 2 * within + slack
 not_twice first one within now slack none soon = omega (arith, none, soon)
-
-pub last_past : (since first wait : ℕ) → since ≤ first + wait → wait ≤ last_chance → since ≤ first + last_chance
-last_past since first wait past low = omega (arith, past, low)
 
 pub too_late : (since first wait within now pause slack : ℕ) → now < first + answer_wait → first + wait < since → since + answer_wait + pause + 2 * within + slack ≤ now + 1 + wait → ⊥
 too_late since first wait within now pause slack soon before late = absurd (omega (arith, soon, before, late))

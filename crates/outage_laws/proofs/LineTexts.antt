@@ -1,5 +1,5 @@
 -- Whose each message of a gateway is, by the id in its text: a command of a line's own has one of the line's, each time that it is sent.
-use Rattle.std.proofs.Common.{◌≡◌, ℕ, ◌<◌, ◌≤◌, ◌==◌, ◌&&◌, true, List, [], ◌∷◌, Option, Some, None, Ok, inl, inr, refl, sym, ap, ◌∙◌, subst, arith}
+use Rattle.std.proofs.Common.{◌≡◌, ℕ, ◌<◌, ◌≤◌, true, List, [], ◌∷◌, Option, Some, None, Ok, inl, inr, refl, sym, ap, ◌∙◌, subst, arith}
 use Rattle.std.specs.Prelude.{◌⊎◌, All, IfSome, if◌then◌else◌, Bool, false, option_map}
 use Rattle.std.proofs.lemmas.List.Elements.{All-nil, All-cons, All-append}
 use Rattle.std.proofs.lemmas.Nat.{div-mul-add}
@@ -62,12 +62,10 @@ use Rattle.machine_laws.proofs.CommandLaws.{Sound, OwnSound, sound_turns, sound_
 use Rattle.machine_laws.proofs.NoticeLemmas.{IsDone, IsTold, opening_is_fine, phoned_done, answered_done, opened_done, fired_done}
 use Rattle.machine_laws.proofs.TurnLemmas.{Good, Turns, OwnTurns, Holds, on_made, acted_goes, command_goes, responded_goes, pass_goes, handled_on_all, events_on_all, response_read}
 use Rattle.mgcp_text.proofs.RoundLaws.{read_again}
-use Rattle.std.specs.Str.{bytes_eq}
-use Rattle.std.proofs.lemmas.Bool.{and_from, eq-eqb}
-use Rattle.std.proofs.lemmas.Slice.Eq.{bytes_eq-Decides}
 use Rattle.outbound.specs.Issued.{is_command_as}
 use Rattle.machine_laws.proofs.EachLemmas.{all_from_each, each_from_all, each_weaker}
 use Rattle.machine_laws.proofs.FlightLaws.{heard_same, repeated_same}
+use Rattle.machine_laws.proofs.PostLogs.{same_command}
 
 -- it is read as a command with an id of this line
 pub record IsTextOf (line : ℕ) (text : List ℕ) : Type 0 where
@@ -75,9 +73,6 @@ pub record IsTextOf (line : ℕ) (text : List ℕ) : Type 0 where
   pub name : List ℕ
   pub reads : is_command_as id name (read_text text) ≡ true
   pub of : line_of_id id ≡ line
-
-same_command : (id : ℕ) (name : List ℕ) → (id == id && bytes_eq name name) ≡ true
-same_command id name = and_from (id == id) (bytes_eq name name) (eq-eqb id id refl) ((bytes_eq-Decides name name).1 refl)
 
 text_is : (line number : ℕ) (verb : Verb) (name : List ℕ) (params : List Param) (body : List ℕ) → number < numbers
     → is_writable (messages.Command verb (id_on line number) name params body) ≡ true → IsTextOf line (written (messages.Command verb (id_on line number) name params body))

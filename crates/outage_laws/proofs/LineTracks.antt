@@ -46,11 +46,11 @@ use Rattle.plain_machine.specs.Requesting.{asked_if, deed_on, with_connections, 
 use Rattle.plain_machine.specs.Responding.{opened_on, redirected_on, responded_as, responded_on}
 use Rattle.plain_machine.proofs.FirstLemmas.{FirstBy, OfItsAnnouncement, OfItsCommand, OfItsLine, announcement_by, command_by, due_cases, post_by, post_cases}
 use Rattle.machine_laws.specs.Saying.{begun_at, begun_in}
-use Rattle.machine_laws.proofs.FlightLaws.{WaitsOn, asked_waits, fired_waits, phoned_waits}
+use Rattle.machine_laws.proofs.FlightLaws.{WaitsOn, asked_waits, fired_waits, phoned_waits, asked_awaits, noted_silent}
 use Rattle.world_laws.specs.Landing.{is_final}
 use Rattle.world_laws.specs.Copies.{answer_wait}
 use Rattle.world_laws.proofs.LineLaws.{heard_is}
-use Rattle.world_laws.proofs.OnTurns.{IsIt, IsOn, WentOut, all_out, its_sends, on_again, on_begins, on_more, went_on, Rests, answer_begins, asked_awaits, flight_waits, noted_silent, rests_again, rests_is, rests_on}
+use Rattle.world_laws.proofs.OnTurns.{IsIt, IsOn, WentOut, all_out, its_sends, on_again, on_begins, on_more, went_on, Rests, answer_begins, flight_waits, rests_again, rests_is, rests_on}
 use Rattle.world_laws.proofs.PostedLemmas.{SaysAt}
 use Rattle.told_laws.proofs.LineEvents.{TurnKeeps, TurnsAt}
 use Rattle.outage_laws.proofs.OldestServes.{IsStretch, order_on, stretch_begins, stretch_on}

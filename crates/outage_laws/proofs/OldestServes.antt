@@ -232,7 +232,7 @@ heads x y xs ys same = cc
 tails : (x y : Sent) (xs ys : List Sent) → x ∷ xs ≡ y ∷ ys → xs ≡ ys
 tails x y xs ys same = cc
 
-nil_parts : (xs ys : List Begun) → xs ++ ys ≡ [] → (xs ≡ []) × (ys ≡ [])
+pub nil_parts : (xs ys : List Begun) → xs ++ ys ≡ [] → (xs ≡ []) × (ys ≡ [])
 nil_parts [] ys none = (refl, none)
 nil_parts (x ∷ xs) ys none = absurd cc
 

@@ -1,13 +1,10 @@
 -- What a gateway has in flight is a command that began, and what it sends of its own is the text of one; each began under the number
 -- behind as many as its line began before it; with a setup as configurations give it each of them is read as a command. So it is at
 -- each turn, whatever was refused.
-use Rattle.std.proofs.Common.{◌≡◌, ◌≢◌, ℕ, ◌+◌, ◌<◌, ◌≤◌, true, ◌==◌, ◌&&◌, List, [], ◌∷◌, ◌++◌, Option, Some, None, Ok, inl, refl, sym, ap, ◌∙◌, subst, arith, append-nil, codes}
+use Rattle.std.proofs.Common.{◌≡◌, ◌≢◌, ℕ, ◌+◌, ◌<◌, ◌≤◌, true, List, [], ◌∷◌, ◌++◌, Option, Some, None, Ok, inl, refl, sym, ap, ◌∙◌, subst, arith, append-nil, codes}
 use Rattle.std.specs.Prelude.{IfSome, option_map}
 use Rattle.std.specs.Option.{unwrap_or}
-use Rattle.std.specs.Str.{bytes_eq}
-use Rattle.std.proofs.lemmas.Bool.{and_from, eq-eqb}
 use Rattle.std.proofs.lemmas.Nat.{div-mul-add}
-use Rattle.std.proofs.lemmas.Slice.Eq.{bytes_eq-Decides}
 use Rattle.command_forms.specs.declared.forms.Asks.TheVariants.{Does}
 use Rattle.command_forms.specs.declared.forms.Deed.{Deed}
 use Rattle.command_forms.specs.declared.forms.Target.{Target}
@@ -61,7 +58,7 @@ use Rattle.machine_laws.proofs.CommandLaws.{OwnSound, Sound, asked_if_done, note
 use Rattle.machine_laws.proofs.EachLemmas.{Each, EachAfter, each_after_push, each_push, one_before, one_behind, one_weaker}
 use Rattle.machine_laws.proofs.FlightLaws.{next_below}
 use Rattle.machine_laws.proofs.FlightLemmas.{IsSame}
-use Rattle.machine_laws.proofs.PostLogs.{behind_next, start_below, AllFew, Few, count_both, count_none, count_one, few_before}
+use Rattle.machine_laws.proofs.PostLogs.{behind_next, start_below, AllFew, Few, count_both, count_none, count_one, few_before, same_command}
 use Rattle.machine_laws.proofs.LogTurns.{EffectKeeps, silent_keeps, whole_keeps, Good, LogTurns, OwnGood}
 use Rattle.machine_laws.proofs.NoticeLemmas.{IsDone, IsTold, answered_done, fired_done, opened_done, phoned_done}
 use Rattle.machine_laws.proofs.GatewayEvents.{IsCommand}
@@ -129,9 +126,6 @@ same_known log was is same known =
 
 post_still : (setup : Setup) (until : ℕ) (log : List Begun) (line : ℕ) (post : Post) → AreCommands setup log → Flies setup line log post → PostGood setup until log line (silently post)
 post_still setup until log line post commands f = silent_keeps (Flies setup line) (IsOwn until) (AreCommands setup) log line post commands f
-
-same_command : (id : ℕ) (name : List ℕ) → (id == id && bytes_eq name name) ≡ true
-same_command id name = and_from (id == id) (bytes_eq name name) (eq-eqb id id refl) ((bytes_eq-Decides name name).1 refl)
 
 -- a command begins
 command_flies : (setup : Setup) (until : ℕ) (log : List Begun) (line moment : ℕ) (post : Post) (verb : Verb) (name : List ℕ) (params : List Param) (body : List ℕ)

@@ -41,7 +41,7 @@ use Rattle.machine_laws.specs.Saying.{Gives, HasNumbersLeft, OneOf, begun_at, be
 use Rattle.machine_laws.proofs.AllLemmas.{OnAll}
 use Rattle.machine_laws.proofs.CommandLaws.{opening_is_sound}
 use Rattle.machine_laws.proofs.EachLemmas.{Each, EachAfter, each_both, each_flat, each_weaker, is_none-None, one_before, one_of_each, one_to}
-use Rattle.machine_laws.proofs.GatewayEvents.{gateway_forward, IsCommand, repeat_gives}
+use Rattle.machine_laws.proofs.GatewayEvents.{gateway_forward, IsCommand, repeat_gives, none_acknowledged}
 use Rattle.machine_laws.proofs.PostLogs.{begins_there, own_begins_there}
 use Rattle.machine_laws.proofs.LogTurns.{Goes, Stands, acted_goes, command_goes, log_both, pass_goes, responded_goes}
 use Rattle.machine_laws.proofs.MessageLaws.{Fits, code_is, command_answered, event_fits, handled_fits, opening_fits}
@@ -171,12 +171,6 @@ transacted_flies setup log (repeat text) m source t f answered is turn at =
     (record { said = inr (λ set_up. told_again text m.now (firsts_in m.history) (answered set_up) (repeat_gives most_firsts m.history t.id m.now text (sym at))); early = omega arith }, tt)
 transacted_flies setup log confirmed m source t f answered is turn at = still_flies setup log m [] refl f answered tt
 transacted_flies setup log full m source t f answered is turn at = still_flies setup log m [] refl f answered tt
-
-none_acknowledged : (now : ℕ) (source : SocketAddrV4) (code id : ℕ) (params : List Param) → begun_in (acknowledged now source code id params) ≡ []
-none_acknowledged now source code id params = by_test (asks_for_acknowledgement code params) where
-  by_test : (b : Bool) → begun_in (if b then (record { to = source; moment = now; owner = of_none; said = acknowledgement (messages.Response 0 id [] []) }) ∷ [] else []) ≡ []
-  by_test true = refl
-  by_test false = refl
 
 acknowledged_says : (setup : Setup) (log : List Begun) (now : ℕ) (source : SocketAddrV4) (code id : ℕ) (params : List Param) → IsId id
     → Each (Says setup now log) (acknowledged now source code id params)

@@ -1,12 +1,10 @@
 -- In a world all that a gateway announces of itself goes to its agent: no response there redirects it.
-use Rattle.std.proofs.Common.{◌≡◌, ℕ, Bool, true, false, ◌==◌, ◌&&◌, if◌then◌else◌, List, [], ◌∷◌, ◌++◌, map, flat_map, Option, Some, None, inl, inr, refl, sym, ap, ◌∙◌, subst, append-nil, append_assoc}
+use Rattle.std.proofs.Common.{◌≡◌, ℕ, Bool, true, false, if◌then◌else◌, List, [], ◌∷◌, ◌++◌, map, flat_map, Option, Some, None, inl, inr, refl, sym, ap, ◌∙◌, subst, append-nil, append_assoc}
 use Rattle.std.specs.Prelude.{◌⊎◌, IfSome, slice_get}
-use Rattle.std.specs.Str.{bytes_eq}
-use Rattle.std.proofs.lemmas.Bool.{and_from, and_parts, eq-eqb, eqb-true}
-use Rattle.std.proofs.lemmas.Slice.Eq.{bytes_eq-Decides}
+use Rattle.std.proofs.lemmas.Bool.{eqb-true}
 use Rattle.std.specs.declared.net.socket_addr.SocketAddrV4.{SocketAddrV4}
 use Rattle.mgcp_text.specs.declared.message.Message.TheVariants as messages
-use Rattle.mgcp_text.specs.Reading.{Outcome, message, no_header, bad_version, bad_body, read_text}
+use Rattle.mgcp_text.specs.Reading.{read_text}
 use Rattle.mgcp_text.proofs.RoundLaws.{read_again}
 use Rattle.endpoint_names.specs.declared.route.Route.{Route}
 use Rattle.endpoint_names.specs.Route.{at}
@@ -54,18 +52,8 @@ use Rattle.world_laws.specs.Reached.{own_in}
 use Rattle.world_laws.proofs.PostedLemmas.{HasText, SaysAt, says_out, sent_more}
 use Rattle.world_laws.proofs.RoundLaws.{sent_on}
 use Rattle.outage_laws.proofs.LineTrackLaws.{line_says}
-
--- a command's id is that under which it is read
-one_id : (id other : ℕ) (name next : List ℕ) (outcome : Outcome) → is_command_as id name outcome ≡ true → is_command_as other next outcome ≡ true → id ≡ other
-one_id id other name next no_header is so = absurd cc
-one_id id other name next (bad_version x) is so = absurd cc
-one_id id other name next (bad_body x) is so = absurd cc
-one_id id other name next (message (messages.Response code x params body)) is so = absurd cc
-one_id id other name next (message (messages.Command verb x of params body)) is so =
-    sym (eqb-true x id (and_parts (x == id) (bytes_eq of name) is).0) ∙ eqb-true x other (and_parts (x == other) (bytes_eq of next) so).0
-
-same_command : (id : ℕ) (name : List ℕ) → (id == id && bytes_eq name name) ≡ true
-same_command id name = and_from (id == id) (bytes_eq name name) (eq-eqb id id refl) ((bytes_eq-Decides name name).1 refl)
+use Rattle.machine_laws.proofs.PostLogs.{same_command}
+use Rattle.world_laws.proofs.FairLaws.{one_id}
 
 module _ (agent : Route SocketAddrV4) where
   -- the text of a command of the gateway itself goes to the agent

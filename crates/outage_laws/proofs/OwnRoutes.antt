@@ -57,8 +57,8 @@ use Rattle.machine_laws.specs.Belonging.{is_of, of_line}
 use Rattle.machine_laws.specs.Passing.{PassesAlone, goes_on, own_happens, rests}
 use Rattle.machine_laws.proofs.AnnouncementLaws.{behind_acknowledged}
 use Rattle.machine_laws.proofs.EachLemmas.{Each, each_both}
-use Rattle.machine_laws.proofs.FlightLaws.{heard_same, repeated_same}
-use Rattle.machine_laws.proofs.OwningLemmas.{own_stays, own_stays_on, OwnedBy, acted_owned, deed_owned, of_both, on_many_lines, on_one_line, opened_owned, own_responded_owned, owned_here, redirected_owned, responded_owned}
+use Rattle.machine_laws.proofs.FlightLaws.{heard_same, repeated_same, own_stays_at as own_stays_on}
+use Rattle.machine_laws.proofs.OwningLemmas.{own_stays, OwnedBy, acted_owned, deed_owned, of_both, on_many_lines, on_one_line, opened_owned, own_responded_owned, owned_here, redirected_owned, responded_owned}
 use Rattle.machine_laws.proofs.PassLemmas.{own_passes}
 use Rattle.agent_core.specs.World.{is_among}
 use Rattle.outage_laws.proofs.PlainArrivals.{IsPlain}

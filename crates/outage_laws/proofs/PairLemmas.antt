@@ -69,10 +69,6 @@ pub each_last : {X : Type 0} (P Q : X → Type 0) (xs : List X) (y z : X) → ((
 each_last P Q [] y z others last all = (last all.0, tt)
 each_last P Q (x ∷ xs) y z others last all = (others x all.0, each_last P Q xs y z others last all.1)
 
-pub each_and : {X : Type 0} (P Q : X → Type 0) (xs : List X) → Each P xs → Each Q xs → Each (λ x. P x × Q x) xs
-each_and P Q [] one two = tt
-each_and P Q (x ∷ xs) one two = ((one.0, two.0), each_and P Q xs one.1 two.1)
-
 -- each is one of them
 pub each_among : {X : Type 0} (xs : List X) → Each (λ x. OneOf (λ y. y ≡ x) xs) xs
 each_among [] = tt

@@ -18,11 +18,9 @@ use Rattle.outage_laws.specs.AfterOutage.{AgentHasRoomFrom, IsFairFrom, gap_of, 
 use Rattle.outage_laws.proofs.FirstServes.{serves_from_the_first}
 use Rattle.outage_laws.proofs.OldestServes.{long_serves}
 use Rattle.outage_laws.proofs.ServesLaws.{gap_late, in_time, one_of_chances, serves_by}
+use Rattle.outage_laws.proofs.QuickFronts.{long_for}
 
 -- Numbers
-
-long_for : (within : ℕ) → answer_wait ≤ 500 + 2 * within → 11500 ≤ within
-long_for within many = omega (arith, many)
 
 longer : (within : ℕ) → answer_wait ≤ 0 + 2 * within → 11500 ≤ within
 longer within many = omega (arith, many)

@@ -23,7 +23,8 @@ use Rattle.world_laws.specs.Fairness.{GoesToAgent}
 use Rattle.world_laws.specs.OwnChances.{IsOfLine}
 use Rattle.world_laws.specs.Rounds.{IsAskedWithin, of_telephone, rounds_take}
 use Rattle.world_laws.proofs.NumberTurns.{was_there}
-use Rattle.world_laws.proofs.RoundLaws.{course_on}
+use Rattle.world_laws.proofs.RoundLaws.{none_of}
+use Rattle.world_laws.proofs.OverLists.{course_on}
 use Rattle.world_laws.proofs.RoundTurns.{done_more}
 use Rattle.outage_laws.specs.AfterOutage.{AgentHasRoomFrom, IsFairFrom, gap_of, longer_wait, well_by}
 use Rattle.outage_laws.proofs.FewLemmas.{few_on}
@@ -73,10 +74,6 @@ none_held end held done few none = omega (arith, few, none)
 
 pub all_done : (end held some more all : ℕ) → end ≤ held + more → held ≤ some → all ≡ some + more → end ≤ all
 all_done end held some more all grown few sum = omega (arith, grown, few, sum)
-
-pub none_of : (events : List Observed) (count : ℕ) → length events ≤ count → count ≡ 0 → events ≡ []
-none_of [] count few none = refl
-none_of (event ∷ events) count few none = absurd (omega (arith, few, none))
 
 module _ (setup : Setup) (steps : List WorldStep) (since within line asking : ℕ) (before after : List GatewayEvent) (was endpoint : Endpoint) (set_up : IsSetUp setup)
     (taken : steps_are_taken setup world_opening steps ≡ true) (many : nat_lt (500 + 2 * within) answer_wait ≡ false) (fair : IsFairFrom setup steps since within)

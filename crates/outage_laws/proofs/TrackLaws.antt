@@ -29,9 +29,9 @@ use Rattle.machine_laws.specs.Belonging.{of_line}
 use Rattle.machine_laws.specs.Waiting.{KeepOrder}
 use Rattle.machine_laws.proofs.AnnouncementLaws.{answer_serves, serving_lasts}
 use Rattle.machine_laws.proofs.EachLemmas.{Each}
-use Rattle.machine_laws.proofs.FlightLaws.{a_stranger_to_itself, own_stays as own_stays_at}
+use Rattle.machine_laws.proofs.FlightLaws.{a_stranger_to_itself, own_stays as own_stays_at, own_stays_at as own_stays_on}
 use Rattle.machine_laws.proofs.GatewayEvents.{gateway_forward}
-use Rattle.machine_laws.proofs.OwningLemmas.{own_stays_on, of_both}
+use Rattle.machine_laws.proofs.OwningLemmas.{of_both}
 use Rattle.machine_laws.proofs.PassLemmas.{own_passes}
 use Rattle.machine_laws.proofs.WaitLaws.{events_wait, text_waits}
 use Rattle.call_agent.specs.Hearing.{hears}

@@ -59,7 +59,7 @@ use Rattle.machine_laws.specs.Saying.{begun_at, begun_by, begun_in}
 use Rattle.machine_laws.specs.Waiting.{KeepOrder}
 use Rattle.machine_laws.proofs.AnnouncementLaws.{nothing_done}
 use Rattle.machine_laws.proofs.EachLemmas.{Each, each_back, each_both, each_from_all, each_front}
-use Rattle.machine_laws.proofs.FlightLaws.{WaitsOn, fired_waits, phoned_waits, posts_in_order}
+use Rattle.machine_laws.proofs.FlightLaws.{WaitsOn, fired_waits, phoned_waits, posts_in_order, noted_silent}
 use Rattle.machine_laws.proofs.GatewayEvents.{gateway_forward}
 use Rattle.machine_laws.proofs.PassLemmas.{line_passes, own_passes}
 use Rattle.machine_laws.proofs.WaitLaws.{events_wait, text_waits}
@@ -70,7 +70,7 @@ use Rattle.world_laws.specs.Reached.{own_in}
 use Rattle.world_laws.proofs.WorldLaws.{gateway_alone, gateway_taken}
 use Rattle.world_laws.proofs.FairLaws.{taken_last}
 use Rattle.world_laws.proofs.PostedLemmas.{sent_more}
-use Rattle.world_laws.proofs.OnTurns.{begun_both, noted_silent}
+use Rattle.world_laws.proofs.OnTurns.{begun_both}
 use Rattle.world_laws.proofs.PostedFinal.{step_more, taken_front}
 use Rattle.world_laws.proofs.WellLemmas.{IsWell, SaysWell, sent_well}
 use Rattle.outage_laws.proofs.OwnRoutes.{not_redirected, told_still}

@@ -47,9 +47,9 @@ use Rattle.told_laws.specs.Among.{AreAmong, kept_by, IsToldInOrder}
 use Rattle.world_laws.specs.Course.{CourseStep, acts, accepts}
 use Rattle.world_laws.specs.Dialled.{done_in, told_along}
 use Rattle.world_laws.specs.Keeping.{told_of}
-use Rattle.world_laws.proofs.DialledLemmas.{done_both, told_both}
+use Rattle.world_laws.proofs.DialledLemmas.{done_both, told_both, none_done, told_is}
 use Rattle.world_laws.proofs.EndpointLemmas.{steps_of, Calls}
-use Rattle.told_laws.proofs.StepLemmas.{none_done, told_is, of_key}
+use Rattle.world_laws.proofs.KeepingLemmas.{of_key}
 
 -- Some of a list, in its order
 

@@ -1,6 +1,6 @@
 -- Of a line that there isn't nothing is sent: so a line that sends has an endpoint, at each time.
-use Rattle.std.proofs.Common.{◌≡◌, ℕ, zero, suc, ◌+◌, ◌-◌, ◌<◌, ◌≤◌, ◌==◌, ◌&&◌, Bool, true, false, if◌then◌else◌, List, [], ◌∷◌, ◌++◌, length, Some, None, Result, Ok, Err, inl, inr, refl, sym, ◌∙◌, subst, arith, Option, ap}
-use Rattle.std.specs.Prelude.{◌⊎◌, All, Any as AnyOf, flat_map, is_none, nat_le, slice_get}
+use Rattle.std.proofs.Common.{◌≡◌, ℕ, ◌+◌, ◌-◌, ◌<◌, ◌≤◌, ◌==◌, ◌&&◌, Bool, true, false, if◌then◌else◌, List, [], ◌∷◌, ◌++◌, length, Some, None, Result, Ok, Err, inl, inr, refl, sym, ◌∙◌, subst, arith, Option, ap}
+use Rattle.std.specs.Prelude.{◌⊎◌, All, Any as AnyOf, flat_map, is_none, nat_le}
 use Rattle.std.proofs.lemmas.Bool.{eqb-true, leb-false, leb-true}
 use Rattle.std.proofs.lemmas.List.Elements.{All-nil, All-cons, All-append}
 use Rattle.std.specs.declared.net.socket_addr.SocketAddrV4.{SocketAddrV4}
@@ -58,6 +58,7 @@ use Rattle.machine_laws.proofs.EachLemmas.{Each, all_from_each, each_from_all, o
 use Rattle.machine_laws.proofs.OwningLemmas.{OwnedBy, acted_owned, deed_owned, happened_owned, opened_owned, own_happened_owned, own_responded_owned, redirected_owned, responded_owned}
 use Rattle.world_laws.proofs.LookLemmas.{one_parted}
 use Rattle.machine_laws.proofs.TurnLemmas.{Holds, OwnTurns, Turns, acted_goes, command_goes, event_on_all, handled_on_all, on_made, pass_goes, responded_goes, response_read}
+use Rattle.world_laws.proofs.OverLists.{endpoint_there}
 
 -- Who owns what is sent
 
@@ -159,17 +160,6 @@ replied_quiet setup moment response own = by_heard (heard_on own response) where
 
 too_high : (line most : ℕ) → most < line → line ≤ most → ⊥
 too_high line most high low = absurd (omega (arith, high, low))
-
-get_some : (list : List Endpoint) (place : ℕ) → place < length list → (s : Endpoint) × (slice_get list place ≡ Some s)
-get_some [] place low = absurd (omega (arith, low))
-get_some (first ∷ list) zero low = (first, refl)
-get_some (first ∷ list) (suc place) low = get_some list place (omega (arith, low))
-
-endpoint_there : (m : Machine) (line : ℕ) → 1 ≤ line → line < 1 + length m.endpoints.list → (s : Endpoint) × (endpoint_at m.endpoints line ≡ Some s)
-endpoint_there m line some low = by_zero (line == 0) refl where
-  by_zero : (b : Bool) → (line == 0) ≡ b → (s : Endpoint) × ((if b then None else slice_get m.endpoints.list (line - 1)) ≡ Some s)
-  by_zero true e = absurd (let none : line ≡ 0 = eqb-true line 0 e in omega (arith, some, none))
-  by_zero false e = get_some m.endpoints.list (line - 1) (omega (arith, some, low))
 
 there_by : (line most list : ℕ) → line ≤ most → list ≡ most → line < 1 + list
 there_by line most list low same = omega (arith, low, same)

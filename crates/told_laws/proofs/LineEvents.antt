@@ -58,7 +58,7 @@ use Rattle.machine_laws.proofs.FlightLaws.{own_free}
 use Rattle.machine_laws.proofs.OwningLemmas.{of_both, turn_if, sent_by, LineTurns, on_one_line, on_many_lines, acted_owned, deed_owned, responded_owned, redirected_owned, opened_owned}
 use Rattle.machine_laws.proofs.PassLemmas.{line_passes}
 use Rattle.machine_laws.proofs.WaitLaws.{text_waits}
-use Rattle.world_laws.proofs.CourseLemmas.{AllHear, Hears}
+use Rattle.world_laws.proofs.CourseLemmas.{AllHear, Hears, some_same}
 
 -- a turn of the line's endpoint, beside what the line sent so far
 abbrev pub TurnKeeps : (List Sent → Endpoint → Type 0) → List Sent → Effect Endpoint → Type 0
@@ -72,9 +72,6 @@ pub record TurnsAt (setup : Setup) (line now : ℕ) (H : Response → Type 0) (G
   pub redirecting : (sent : List Sent) (agent : Entity) (endpoint : Endpoint) → G sent endpoint → TurnKeeps G sent (redirected_on agent line endpoint)
   pub opening : (sent : List Sent) (agent : Option Entity) (endpoint : Endpoint) → IsClosed endpoint → G sent endpoint → TurnKeeps G sent (opened_on agent setup now line endpoint)
   pub answering : (sent : List Sent) (one : Sent) (endpoint : Endpoint) → is_answer one.said ≡ true → G sent endpoint → G (sent ++ one ∷ []) endpoint
-
-some_same : (a b : Endpoint) → Some a ≡ Some b → a ≡ b
-some_same a b e = ap (λ (o : Option Endpoint). unwrap_or o a) e
 
 module _ (line : ℕ) (G : List Sent → Endpoint → Type 0) where
   -- the endpoint of the line, beside what it sent

@@ -1,5 +1,5 @@
 -- What a line begins is answered, but for what is in flight, where nothing is given up: whatever is in flight at first, an announcement too.
-use Rattle.std.proofs.Common.{◌≡◌, ℕ, ◌≤◌, Bool, true, false, ◌||◌, List, [], ◌∷◌, ◌++◌, Option, Some, None, inl, inr, refl, sym, ap, subst, ◌∙◌, append-nil, append_assoc}
+use Rattle.std.proofs.Common.{◌≡◌, ℕ, ◌≤◌, Bool, List, [], ◌∷◌, ◌++◌, Option, Some, None, inl, inr, refl, sym, ap, subst, ◌∙◌, append-nil, append_assoc}
 use Rattle.std.specs.Prelude.{◌⊎◌, option_map}
 use Rattle.std.specs.Option.{unwrap_or}
 use Rattle.std.proofs.lemmas.Option.{none-some}
@@ -41,32 +41,14 @@ use Rattle.plain_machine.specs.Notifying.{posted, notification, with_notice, not
 use Rattle.plain_machine.specs.Posting.{repeated_as, resent_by, resent_on}
 use Rattle.plain_machine.specs.Requesting.{with_entity, with_connections, asked_if, deed_on}
 use Rattle.plain_machine.specs.Responding.{responded_as, responded_on, redirected_on, opened_on}
-use Rattle.machine_laws.proofs.FlightLaws.{WaitsOn, phoned_waits, fired_waits, asked_waits, redirected_announced}
+use Rattle.machine_laws.proofs.FlightLaws.{WaitsOn, phoned_waits, fired_waits, asked_waits, redirected_announced, noted_silent, asked_awaits}
 use Rattle.machine_laws.specs.Saying.{begun_in}
 use Rattle.machine_laws.proofs.EachLemmas.{Each, each_push}
 use Rattle.world_laws.proofs.LinkLaws.{final_is}
-use Rattle.world_laws.specs.Course.{announces, CourseStep}
-use Rattle.world_laws.proofs.OnTurns.{Rests, rests_is, rests_on, rests_again, flight_waits, noted_silent, asked_awaits, begun_both, answer_begins}
+use Rattle.world_laws.specs.Course.{CourseStep}
+use Rattle.world_laws.proofs.OnTurns.{Rests, rests_is, rests_on, rests_again, flight_waits, begun_both, answer_begins}
 use Rattle.world_laws.proofs.CourseLemmas.{EndpointTurns}
-use Rattle.world_laws.proofs.DialledFlightLemmas.{Gone, flying, has_announced}
-
-announced_before : (sent more : List Sent) → has_announced sent ≡ true → has_announced (sent ++ more) ≡ true
-announced_before [] more is = absurd cc
-announced_before (one ∷ sent) more is = by_test (announces one.said) is (announced_before sent more) where
-  by_test : (b : Bool) → (b || has_announced sent) ≡ true → (has_announced sent ≡ true → has_announced (sent ++ more) ≡ true) → (b || has_announced (sent ++ more)) ≡ true
-  by_test true is rest = refl
-  by_test false is rest = rest is
-
-announced_last : (sent : List Sent) (one : Sent) → announces one.said ≡ true → has_announced (sent ++ one ∷ []) ≡ true
-announced_last [] one is = ap (λ (b : Bool). b || false) is
-announced_last (other ∷ sent) one is = by_test (announces other.said) (announced_last sent one is) where
-  by_test : (b : Bool) → has_announced (sent ++ one ∷ []) ≡ true → (b || has_announced (sent ++ one ∷ [])) ≡ true
-  by_test true rest = refl
-  by_test false rest = rest
-
-gone_on : (sent more : List Sent) (restart : Restart) → Gone sent restart → Gone (sent ++ more) restart
-gone_on sent more restart (inl is) = inl (announced_before sent more is)
-gone_on sent more restart (inr is) = inr is
+use Rattle.world_laws.proofs.DialledFlightLemmas.{Gone, flying, announced_last, gone_on}
 
 -- A holds of the ids of final responses; this was in flight at first, or nothing was
 module _ (A : ℕ → Type 0) (pre : List Begun) where

@@ -14,7 +14,6 @@ use Rattle.digit_map.specs.declared.verdict.Verdict.TheVariants.{Perfect, Partia
 use Rattle.event_values.specs.declared.observed.Observed.{Observed}
 use Rattle.event_values.specs.declared.observed.Observed.TheVariants.{Happened, Ended}
 use Rattle.event_syntax.specs.declared.request.Action.TheVariants.{Notify, Accumulate, Dial, Ignore}
-use Rattle.event_syntax.specs.declared.request.EmbeddedRequest.{EmbeddedRequest}
 use Rattle.event_syntax.specs.declared.request.Reaction.{Reaction}
 use Rattle.event_syntax.specs.declared.request.Reaction.TheVariants.{Plain, Embed, AccumulateAndEmbed}
 use Rattle.event_requests.specs.Choice.{Chosen, chosen}
@@ -33,6 +32,7 @@ use Rattle.mg_line.specs.Acting.{hooked, observed_at, phoned}
 use Rattle.mg_line.specs.Answering.{is_loop, answered}
 use Rattle.mg_line.specs.Falling.{ended_by, fired}
 use Rattle.told_laws.specs.Walking.{is_waiting, awaits_request}
+use Rattle.world_laws.proofs.WaitingTurns.{timed_state, embedded_state}
 
 -- An event occurs
 
@@ -52,10 +52,6 @@ full_stays : (line : LineState) → StaysIn line.state (notified_if_full line)
 unfolding notified_if_full
 full_stays line = either_stays line.state _ (notified line) (still line) (notified_stays line.state line) (λ none. refl)
 
-timed_state : (line : LineState) (letter : Letter) (moment : ℕ) → (timed line letter moment).state ≡ line.state
-unfolding timed
-timed_state line letter moment = refl
-
 judged_stays : (verdict : Verdict) (line : LineState) (letter : Letter) (moment : ℕ) → StaysIn line.state (judged verdict line letter moment)
 judged_stays Perfect line letter moment = notified_stays line.state line
 judged_stays Impossible line letter moment = notified_stays line.state line
@@ -65,10 +61,6 @@ dialled_stays : (letter : Option Letter) (line : LineState) (moment : ℕ) → S
 unfolding with_letter
 dialled_stays None line moment = full_stays line
 dialled_stays (Some letter) line moment = judged_stays _ (record line { dialled = line.dialled ++ letter ∷ [] }) letter moment
-
-embedded_state : (line : LineState) (request : EmbeddedRequest) (moment : ℕ) → (embedded line request moment).state ≡ line.state
-unfolding embedded
-embedded_state line request moment = refl
 
 acted_stays : (reaction : Reaction) (line : LineState) (event : Observed) (moment : ℕ) → StaysIn line.state (acted reaction line event moment)
 unfolding acted
@@ -136,7 +128,7 @@ answered_by : (line : LineState) (moment : ℕ) (b : Bool) → b ≡ false → i
 answered_by line moment true is waits steps = absurd (let clash : true ≡ false = is in cc)
 answered_by line moment false is waits steps = record { silent = refl; awaits = steps }
 
-neither : (one other : Bool) → one ≡ false → other ≡ false → (one || other) ≡ false
+pub neither : (one other : Bool) → one ≡ false → other ≡ false → (one || other) ≡ false
 neither one other none nor = ap (λ (b : Bool). b || other) none ∙ nor
 
 pub answered_quiet : (line : LineState) (moment : ℕ) → awaits_request line ≡ true → IsQuiet (answered line moment)

@@ -37,7 +37,7 @@ use Rattle.quarantine.specs.Held.{most_lost}
 use Rattle.mg_line.proofs.LoseLemmas.{lost_only_grows}
 use Rattle.world_laws.proofs.OutLemmas.{acts_count, fires_count}
 use Rattle.told_laws.proofs.InTurn.{CallsInTurn}
-use Rattle.told_laws.proofs.StateLemmas.{answered_quiet, fired_quiet, phoned_quiet}
+use Rattle.told_laws.proofs.StateLemmas.{answered_quiet, fired_quiet, phoned_quiet, neither}
 
 -- How the walk goes on at each call of a line.
 
@@ -100,10 +100,6 @@ asked_walks line request moment place waiting at =
     at.quarantined (request_walks line request moment) in
     let shut : place.is_shut ≡ true → at.past ≡ [] = λ (is : place.is_shut ≡ true). (at.shut is).none_past in
     (place, waiting, no_more place waiting, (at.past, at.held, at.order, at.quiet, shut, walk))
-
--- a line that waits for a request isn't answered so that events occur
-neither : (one other : Bool) → one ≡ false → other ≡ false → (one || other) ≡ false
-neither one other none nor = ap (λ (b : Bool). b || other) none ∙ nor
 
 answered_by : (line : LineState) (moment : ℕ) (place : Place) (waiting : List Observed) (b : Bool) → line.state ≡ Notification
     → At line place waiting → (place.is_shut ≡ true → b ≡ false)

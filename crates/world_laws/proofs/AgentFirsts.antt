@@ -42,6 +42,7 @@ use Rattle.plain_machine.specs.declared.setup.Setup.{Setup}
 use Rattle.plain_machine.specs.Machine.{opening}
 use Rattle.plain_machine.specs.Lists.{plain}
 use Rattle.machine_laws.proofs.WalkLemmas.{events_match}
+use Rattle.world_laws.proofs.AgentLaws.{replied_kept as replied_history, replied_now as replied_time}
 
 -- all commands that arrived so far, as these
 pub record KeepsSo (setup : AgentSetup) (m : AgentMachine) (ones : List Reached) : Type 0 where
@@ -112,20 +113,10 @@ same_machine setup m n ones history taken k = record { earlier = k.earlier; keep
 none_more : (setup : AgentSetup) (m : AgentMachine) (ones : List Reached) → KeepsSo setup m ones → KeepsSo setup m (ones ++ [])
 none_more setup m ones k = subst (KeepsSo setup m) (sym (append-nil ones)) k
 
-replied_history : (reply : Reply) (m : AgentMachine) (heard : InFlight) (code : ℕ) (text : List ℕ) → (replied reply m heard code text).history ≡ m.history
-replied_history Answered m heard code text = refl
-replied_history Provisional m heard code text = refl
-replied_history Stranger m heard code text = refl
-
 replied_taken : (reply : Reply) (m : AgentMachine) (heard : InFlight) (code : ℕ) (text : List ℕ) → (replied reply m heard code text).taken ≡ m.taken
 replied_taken Answered m heard code text = refl
 replied_taken Provisional m heard code text = refl
 replied_taken Stranger m heard code text = refl
-
-replied_time : (reply : Reply) (m : AgentMachine) (heard : InFlight) (code : ℕ) (text : List ℕ) → (replied reply m heard code text).now ≡ m.now
-replied_time Answered m heard code text = refl
-replied_time Provisional m heard code text = refl
-replied_time Stranger m heard code text = refl
 
 -- what a response leaves
 record Leaves (m n : AgentMachine) : Type 0 where

@@ -1,22 +1,17 @@
 -- What an agent sends: its commands, each under an id of its own, and again for less than 20,000 ms; and responses.
-use Rattle.std.proofs.Common.{◌≡◌, ◌≢◌, ℕ, zero, suc, ◌+◌, ◌-◌, ◌*◌, ◌<◌, ◌≤◌, Bool, true, false, ◌||◌, ◌==◌, if◌then◌else◌, List, [], ◌∷◌, ◌++◌, length, codes, Option, Some, None, inl, inr, refl, sym, ap, ◌∙◌, subst, arith, lit<, append-nil, append_assoc}
+use Rattle.std.proofs.Common.{◌≡◌, ◌≢◌, ℕ, zero, suc, ◌+◌, ◌-◌, ◌*◌, ◌<◌, ◌≤◌, Bool, true, false, ◌==◌, if◌then◌else◌, List, [], ◌∷◌, ◌++◌, length, Option, Some, None, inl, inr, refl, sym, ap, ◌∙◌, subst, arith, append-nil, append_assoc}
 use Rattle.std.specs.Prelude.{AllPairs, IfSome, nat_lt, nat_le, find}
 use Rattle.std.specs.declared.net.socket_addr.SocketAddrV4.{SocketAddrV4}
 use Rattle.std.proofs.lemmas.Bool.{and_parts, leb-true}
 use Rattle.std.proofs.lemmas.Option.{none-some}
-use Rattle.std.specs.Fmt.{decimal}
-use Rattle.std.proofs.lemmas.Fmt.{length-decimal-le}
-use Rattle.std.proofs.lemmas.List.{length-append}
 use Rattle.std.proofs.lemmas.List.Quantifiers.{all_pairs_push}
-use Rattle.mg_bytes.specs.Bytes.{space}
 use Rattle.mgcp_text.specs.declared.message.Message.TheVariants as messages
 use Rattle.mgcp_text.specs.declared.message.Param.{Param}
 use Rattle.mgcp_text.specs.declared.message.Verb.{Verb}
 use Rattle.mgcp_text.specs.declared.message.Verb.TheVariants.{Epcf, Rqnt, Ntfy, Crcx, Mdcx, Dlcx, Auep, Aucx, Rsip, Other}
 use Rattle.mgcp_text.specs.Reading.{Outcome, message, no_header, bad_version, bad_body, id_in, read_text}
-use Rattle.mg_bytes.specs.Lines.{ended}
-use Rattle.mgcp_text.specs.Writing.{code_text, comment, response_line, written, is_writable_body}
-use Rattle.mgcp_text.specs.Answer.{IsAnswer, plain_code, response_of}
+use Rattle.mgcp_text.specs.Writing.{written}
+use Rattle.mgcp_text.specs.Answer.{plain_code, response_of}
 use Rattle.mgcp_text.proofs.AnswerLemmas.{answer_writable}
 use Rattle.mgcp_text.proofs.IdLemmas.{IsId, read_id}
 use Rattle.mgcp_text.proofs.RoundLaws.{read_again}
@@ -25,9 +20,9 @@ use Rattle.piggyback.proofs.PackingLaws.{joinable-from}
 use Rattle.piggyback.specs.Packing.{is_joinable}
 use Rattle.history.specs.KeptFirst.{KeptFirst}
 use Rattle.history.specs.Entry.{Entry}
-use Rattle.history.specs.Entry.TheVariants.{First, Confirmation}
+use Rattle.history.specs.Entry.TheVariants.{Confirmation}
 use Rattle.history.specs.Kept.{first_entry, firsts_in}
-use Rattle.machine_laws.proofs.GatewayEvents.{repeat_gives, tells_on}
+use Rattle.machine_laws.proofs.GatewayEvents.{repeat_gives, tells_on, firsts_append}
 use Rattle.history.specs.Memory.{most_firsts}
 use Rattle.history.specs.Looking.{Looked, new, repeat, confirmed, full, look_of}
 use Rattle.endpoint_names.specs.declared.route.Route.TheVariants.{One}
@@ -57,6 +52,7 @@ use Rattle.call_agent.specs.Issuing.{IssueRefusal, bad_command, command_text, gr
 use Rattle.call_agent.specs.Responding.{replied, responded, responded_to}
 use Rattle.call_agent.proofs.EventLemmas.{agent_clock, tick_forward}
 use Rattle.outbound.specs.Sends.{sending_time}
+use Rattle.machine_laws.proofs.MessageLaws.{code_is, code_short}
 
 -- a text that goes out
 abbrev pub Goes : List ℕ → Type 0
@@ -189,32 +185,6 @@ pub record Fine (id : ℕ) (text : List ℕ) : Type 0 where
   pub response : IsAnswerTo id text
   pub goes : Goes text
 
-comment_length : (b : Bool) → length (if b then codes " OK" else []) ≤ 3
-comment_length true = omega arith
-comment_length false = omega arith
-
-first_line : (code id : ℕ) → id ≤ 999999999 → length (ended (response_line code id)) ≤ 20
-unfolding response_line
-first_line code id small =
-    let digits : length (decimal id) ≤ 9 = length-decimal-le 9 id (lit< tt) (omega arith) (omega arith) in
-    let behind : length (comment code) ≤ 3 = comment_length (code == 200 || code == 250) in
-    let two = length-append (code_text code ++ (space ∷ decimal id)) (comment code) in
-    let three = length-append (code_text code) (space ∷ decimal id) in
-    let whole = length-append ((code_text code ++ (space ∷ decimal id)) ++ comment code) (13 ∷ 10 ∷ []) in
-    omega (arith, digits, behind, two, three, whole)
-
-code_short : (code id : ℕ) → id ≤ 999999999 → length (written (response_of id (plain_code code))) ≤ largest_datagram
-unfolding written
-code_short code id small =
-    let head = first_line code id small in
-    let two = length-append (ended (response_line code id)) [] in
-    let three = length-append (ended (response_line code id) ++ []) [] in
-    omega (arith, head, two, three)
-
-code_is : (code : ℕ) → code ≤ 999 → IsAnswer (plain_code code)
-unfolding is_writable_body
-code_is code small = record { three_digits = small; each = refl; whole = refl }
-
 pub code_fine : (code id : ℕ) → IsId id → code ≤ 999 → Fine id (written (response_of id (plain_code code)))
 code_fine code id has small =
     let writable = answer_writable id (plain_code code) has.0 has.1 (code_is code small) in
@@ -227,11 +197,6 @@ code_fine code id has small =
 -- what is kept of the agent's answers
 abbrev pub AreKept : List Entry → Type 0
 AreKept entries = Each (λ (first : KeptFirst). Fine first.id first.answer) (firsts_in entries)
-
-firsts_append : (some more : List Entry) → firsts_in (some ++ more) ≡ firsts_in some ++ firsts_in more
-firsts_append [] more = refl
-firsts_append (First first ∷ some) more = ap (λ (rest : List KeptFirst). first ∷ rest) (firsts_append some more)
-firsts_append (Confirmation spans ∷ some) more = firsts_append some more
 
 kept_more : (some more : List Entry) → AreKept some → AreKept more → AreKept (some ++ more)
 kept_more some more all rest = rw (firsts_append some more) (each_both (λ (first : KeptFirst). Fine first.id first.answer) (firsts_in some) (firsts_in more) all rest)
@@ -342,12 +307,12 @@ replied_holds all m flight code id text h f Provisional is =
     record { flights = with_each (Flies all m.now) (heard flight id code m.now) m.flights (heard_flies all m.now flight id code f is) h.flights; issued = h.issued; apart = h.apart; kept = h.kept }
 replied_holds all m flight code id text h f Stranger is = h
 
-replied_kept : (reply : Reply) (m : AgentMachine) (heard : InFlight) (code : ℕ) (text : List ℕ) → (replied reply m heard code text).history ≡ m.history
+pub replied_kept : (reply : Reply) (m : AgentMachine) (heard : InFlight) (code : ℕ) (text : List ℕ) → (replied reply m heard code text).history ≡ m.history
 replied_kept Answered m heard code text = refl
 replied_kept Provisional m heard code text = refl
 replied_kept Stranger m heard code text = refl
 
-replied_now : (reply : Reply) (m : AgentMachine) (heard : InFlight) (code : ℕ) (text : List ℕ) → (replied reply m heard code text).now ≡ m.now
+pub replied_now : (reply : Reply) (m : AgentMachine) (heard : InFlight) (code : ℕ) (text : List ℕ) → (replied reply m heard code text).now ≡ m.now
 replied_now Answered m heard code text = refl
 replied_now Provisional m heard code text = refl
 replied_now Stranger m heard code text = refl

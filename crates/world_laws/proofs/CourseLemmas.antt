@@ -62,11 +62,11 @@ use Rattle.plain_machine.specs.Message.{Owner, answer_of, own_of, Said, answer, 
 use Rattle.plain_machine.specs.Posting.{id_on, line_of_id, repeated_as, resent_by}
 use Rattle.plain_machine.specs.Requesting.{refused_by, lines_meant, deed_on, deed_on_all, shown_of, answer_with, unless_refused, deed_done, line_with_place, done_there, done_for}
 use Rattle.plain_machine.specs.Responding.{response_with, responded_on, redirected_on, opened_on, on_all, lines_told, own_heard, responded, heard_from}
-use Rattle.machine_laws.proofs.FlightLaws.{own_free}
+use Rattle.machine_laws.proofs.FlightLaws.{own_free, own_stays_at as own_stays_on}
 use Rattle.machine_laws.proofs.TurnLemmas.{IsFree, happening_serves}
 use Rattle.machine_laws.specs.Waiting.{KeepOrder}
 use Rattle.machine_laws.proofs.EachLemmas.{Each, each_back, each_front}
-use Rattle.machine_laws.proofs.OwningLemmas.{own_stays_on, own_stays, of_both, turn_if, sent_by, LineTurns, on_one_line, on_many_lines, acted_owned, deed_owned, responded_owned, redirected_owned, opened_owned}
+use Rattle.machine_laws.proofs.OwningLemmas.{own_stays, of_both, turn_if, sent_by, LineTurns, on_one_line, on_many_lines, acted_owned, deed_owned, responded_owned, redirected_owned, opened_owned}
 use Rattle.machine_laws.proofs.WaitLaws.{acts_wait, pass_waits, text_waits}
 use Rattle.machine_laws.specs.Belonging.{is_of, of_line}
 use Rattle.machine_laws.specs.Passing.{PassesAlone, rests, goes_on, line_due, line_happens, own_happens}
@@ -111,14 +111,14 @@ pub pass_serves : (setup : Setup) (endpoints : Endpoints) (moment : ℕ) → IsF
 pass_serves setup endpoints moment free = serves_passed setup moment endpoints.own _ (own_passes setup moment endpoints) free
 
 -- One item by a moment is that item
-by_is : (moment : ℕ) (found : Option DueItem) (item : DueItem) → if_by moment found ≡ Some item → found ≡ Some item
+pub by_is : (moment : ℕ) (found : Option DueItem) (item : DueItem) → if_by moment found ≡ Some item → found ≡ Some item
 by_is moment None item e = absurd (none-some item e)
 by_is moment (Some other) item e = by_test (nat_le other.moment moment) e where
   by_test : (b : Bool) → (if b then Some other else None) ≡ Some item → Some other ≡ Some item
   by_test true e = e
   by_test false e = absurd (none-some item e)
 
-some_same : (a b : Endpoint) → Some a ≡ Some b → a ≡ b
+pub some_same : (a b : Endpoint) → Some a ≡ Some b → a ≡ b
 some_same a b e = ap (λ (o : Option Endpoint). unwrap_or o a) e
 
 -- A turn of an endpoint, beside the course of its line and what the line sent so far

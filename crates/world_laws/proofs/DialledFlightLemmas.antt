@@ -35,7 +35,8 @@ use Rattle.machine_laws.specs.Saying.{OneOf, begun_at, begun_in}
 use Rattle.machine_laws.proofs.EachLemmas.{one_before, one_behind, Each, each_push}
 use Rattle.world_laws.specs.Course.{CourseStep, announces, has_given_up}
 use Rattle.world_laws.proofs.CourseLemmas.{AnyResponse, EndpointTurns}
-use Rattle.world_laws.proofs.OnTurns.{begun_both, Rests, rests_is, rests_on, rests_again, flight_waits, noted_silent, asked_awaits, answer_begins}
+use Rattle.world_laws.proofs.OnTurns.{begun_both, Rests, rests_is, rests_on, rests_again, flight_waits, answer_begins}
+use Rattle.machine_laws.proofs.FlightLaws.{noted_silent, asked_awaits, WaitsOn, phoned_waits, fired_waits, asked_waits, redirected_announced}
 use Rattle.std.specs.List.{list_any}
 use Rattle.std.proofs.lemmas.Option.{none-some}
 use Rattle.mg_line.specs.State.{State}
@@ -47,7 +48,6 @@ use Rattle.outbound.specs.declared.reply.Reply.TheVariants as replies
 use Rattle.outbound.specs.declared.reply.Reply.TheVariants.{Provisional, Stranger}
 use Rattle.restart.specs.Restarting.{is_serving, heard_of}
 use Rattle.plain_machine.specs.Flights.{IsClosed}
-use Rattle.machine_laws.proofs.FlightLaws.{WaitsOn, phoned_waits, fired_waits, asked_waits, redirected_announced}
 use Rattle.world_laws.proofs.LinkLaws.{final_is}
 
 -- What a line has in flight under this id it began since, where it had nothing in flight under it: so does each turn of the line leave it.
@@ -171,14 +171,14 @@ is_waiting Serving = false
 abbrev pub has_announced : List Sent → Bool
 has_announced sent = list_any (λ one. announces one.said) sent
 
-announced_before : (sent more : List Sent) → has_announced sent ≡ true → has_announced (sent ++ more) ≡ true
+pub announced_before : (sent more : List Sent) → has_announced sent ≡ true → has_announced (sent ++ more) ≡ true
 announced_before [] more is = absurd cc
 announced_before (one ∷ sent) more is = by_test (announces one.said) is (announced_before sent more) where
   by_test : (b : Bool) → (b || has_announced sent) ≡ true → (has_announced sent ≡ true → has_announced (sent ++ more) ≡ true) → (b || has_announced (sent ++ more)) ≡ true
   by_test true is rest = refl
   by_test false is rest = rest is
 
-announced_last : (sent : List Sent) (one : Sent) → announces one.said ≡ true → has_announced (sent ++ one ∷ []) ≡ true
+pub announced_last : (sent : List Sent) (one : Sent) → announces one.said ≡ true → has_announced (sent ++ one ∷ []) ≡ true
 announced_last [] one is = ap (λ (b : Bool). b || false) is
 announced_last (other ∷ sent) one is = by_test (announces other.said) (announced_last sent one is) where
   by_test : (b : Bool) → has_announced (sent ++ one ∷ []) ≡ true → (b || has_announced (sent ++ one ∷ [])) ≡ true
@@ -189,7 +189,7 @@ announced_last (other ∷ sent) one is = by_test (announces other.said) (announc
 abbrev pub Gone : List Sent → Restart → Type 0
 Gone sent restart = (has_announced sent ≡ true) ⊎ (is_waiting restart ≡ true)
 
-gone_on : (sent more : List Sent) (restart : Restart) → Gone sent restart → Gone (sent ++ more) restart
+pub gone_on : (sent more : List Sent) (restart : Restart) → Gone sent restart → Gone (sent ++ more) restart
 gone_on sent more restart (inl is) = inl (announced_before sent more is)
 gone_on sent more restart (inr is) = inr is
 

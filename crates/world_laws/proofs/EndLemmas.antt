@@ -34,7 +34,8 @@ use Rattle.world_laws.proofs.WellLemmas.{IsWell, sent_well}
 use Rattle.world_laws.proofs.ToldLemmas.{begun_tell, course_tells, told_by}
 use Rattle.world_laws.proofs.PairLemmas.{Paired, pairs_tell}
 use Rattle.world_laws.proofs.PairedSteps.{world_paired}
-use Rattle.world_laws.proofs.MatchLemmas.{Apart, In, Last, Matches, TellsAs, apart_clash, apart_front, each_in, each_two, ends_same, in_of_each, last_in, last_of, one_with, tell_same}
+use Rattle.world_laws.proofs.MatchLemmas.{Apart, In, Last, Matches, TellsAs, apart_clash, apart_front, each_in, ends_same, in_of_each, last_in, last_of, one_with, tell_same}
+use Rattle.world_laws.proofs.LookLemmas.{each_two}
 use Rattle.world_laws.proofs.DialledTakenLemmas.{IsAsSent, is_of_line, taken_tells, told_taken}
 use Rattle.world_laws.proofs.WorldLemmas.{WasTaken, begun_ids, known, line_begun, line_sent, line_taken, settled_taken, taken_ids, taken_mine, world_matches}
 

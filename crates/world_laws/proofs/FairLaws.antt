@@ -103,7 +103,7 @@ found_one (x ∷ some) whole b apart mine stays (inl is) = inl (same_one whole a
 found_one (x ∷ some) whole b apart mine stays (inr one) = inr (found_one some whole b apart mine (λ c is. stays c (inr is)) one)
 
 -- a command's id is that under which it is read
-one_id : (id other : ℕ) (name next : List ℕ) (outcome : Outcome) → is_command_as id name outcome ≡ true → is_command_as other next outcome ≡ true → id ≡ other
+pub one_id : (id other : ℕ) (name next : List ℕ) (outcome : Outcome) → is_command_as id name outcome ≡ true → is_command_as other next outcome ≡ true → id ≡ other
 one_id id other name next no_header is as' = absurd cc
 one_id id other name next (bad_version x) is as' = absurd cc
 one_id id other name next (bad_body x) is as' = absurd cc

@@ -25,7 +25,7 @@ use Rattle.world_laws.specs.Taking.{agent_history}
 first_same : {X : Type 0} (x y : X) (xs ys : List X) → x ∷ xs ≡ y ∷ ys → x ≡ y
 first_same x y xs ys same = cc
 
-rest_same : {X : Type 0} (x y : X) (xs ys : List X) → x ∷ xs ≡ y ∷ ys → xs ≡ ys
+pub rest_same : {X : Type 0} (x y : X) (xs ys : List X) → x ∷ xs ≡ y ∷ ys → xs ≡ ys
 rest_same x y xs ys same = cc
 
 -- of the empty one, and of each longer one up to all
@@ -111,7 +111,7 @@ is_asked setup line before wait some between =
     let m = plain setup (before ++ some) in
     not (locked_by (endpoint_at m.endpoints line) && nat_lt (m.now + wait) (plain setup ((before ++ some) ++ between)).now) || has_some (requests_in (course_from setup m line between))
 
-both_are : (a b : Bool) → a ≡ true → b ≡ true → (a && b) ≡ true
+pub both_are : (a b : Bool) → a ≡ true → b ≡ true → (a && b) ≡ true
 both_are true true one two = refl
 both_are true false one two = absurd cc
 both_are false b one two = absurd cc

@@ -1,6 +1,6 @@
 -- An announcement of the gateway itself goes out at its moments until a response to it comes.
 use Rattle.std.proofs.Common.{◌≡◌, ◌≢◌, ℕ, ◌+◌, ◌<◌, ◌≤◌, Bool, true, false, ◌==◌, if◌then◌else◌, List, [], ◌∷◌, ◌++◌, map, Option, Some, None, Result, Ok, Err, inl, inr, refl, sym, ap, ◌∙◌, subst, arith, append_assoc}
-use Rattle.std.specs.Prelude.{◌⊎◌, All, nat_le, option_map}
+use Rattle.std.specs.Prelude.{◌⊎◌, All, option_map}
 use Rattle.std.specs.Option.{unwrap_or}
 use Rattle.std.proofs.lemmas.Option.{none-some}
 use Rattle.std.specs.declared.net.socket_addr.SocketAddrV4.{SocketAddrV4}
@@ -41,7 +41,7 @@ use Rattle.plain_machine.specs.Commanding.{done_by}
 use Rattle.plain_machine.specs.Done.{Done}
 use Rattle.plain_machine.specs.Effect.{Effect, silently}
 use Rattle.plain_machine.specs.Event.{GatewayEvent, datagram, phone, tick}
-use Rattle.plain_machine.specs.Falling.{happened_under, if_by, pass, post_due}
+use Rattle.plain_machine.specs.Falling.{happened_under, pass, post_due}
 use Rattle.plain_machine.specs.Happening.{effect}
 use Rattle.plain_machine.specs.Lists.{machine_after, plain, sent_from}
 use Rattle.plain_machine.specs.Machine.{Endpoints, Machine, on_line, on_own, opening, serves}
@@ -54,12 +54,13 @@ use Rattle.plain_machine.proofs.EffectLaws.{effect_now, handled_now}
 use Rattle.plain_machine.proofs.FallingLaws.{nothing_left}
 use Rattle.plain_machine.proofs.FirstLemmas.{FirstBy, OfItsAnnouncement, OfItsCommand, command_by, none_by, post_cases}
 use Rattle.machine_laws.proofs.EachLemmas.{each_back, each_front}
-use Rattle.machine_laws.proofs.OwningLemmas.{own_stays, own_stays_on, OwnedBy, acted_owned, deed_owned, of_both, on_many_lines, on_one_line, opened_owned, own_responded_owned, owned_here, redirected_owned, responded_owned}
+use Rattle.machine_laws.proofs.OwningLemmas.{own_stays, OwnedBy, acted_owned, deed_owned, of_both, on_many_lines, on_one_line, opened_owned, own_responded_owned, owned_here, redirected_owned, responded_owned}
+use Rattle.machine_laws.proofs.FlightLaws.{own_stays_at as own_stays_on}
 use Rattle.machine_laws.specs.Belonging.{is_of, of_line}
 use Rattle.machine_laws.specs.Passing.{PassesAlone, goes_on, own_happens, rests}
 use Rattle.machine_laws.proofs.AnnouncementLaws.{behind_acknowledged}
 use Rattle.machine_laws.proofs.PassLemmas.{own_passes}
-use Rattle.world_laws.proofs.CourseLemmas.{AllHear, Hears}
+use Rattle.world_laws.proofs.CourseLemmas.{AllHear, Hears, by_is}
 use Rattle.agent_core.specs.World.{WorldStep, now_in, plain_world, steps_are_taken, world_opening}
 use Rattle.world_laws.specs.Chances.{chances}
 use Rattle.world_laws.specs.OwnChances.{HasCome, IsOfLine, IsToldAfter}
@@ -84,13 +85,6 @@ rests_off : (restart : Restart) (pending : Option InFlight) (response : Response
     → Rests restart (option_map (λ (flight : InFlight). heard flight response.id response.code moment) pending)
 rests_off restart None response moment waits = waits
 rests_off restart (Some flight) response moment waits = rests_again restart flight (heard flight response.id response.code moment) waits
-
-by_is : (moment : ℕ) (found : Option DueItem) (item : DueItem) → if_by moment found ≡ Some item → found ≡ Some item
-by_is moment None item e = absurd (none-some item e)
-by_is moment (Some other) item e = by_test (nat_le other.moment moment) e where
-  by_test : (b : Bool) → (if b then Some other else None) ≡ Some item → Some other ≡ Some item
-  by_test true e = e
-  by_test false e = absurd (none-some item e)
 
 -- A holds of the ids of the responses that came
 module _ (A : ℕ → Type 0) where

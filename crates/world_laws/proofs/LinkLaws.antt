@@ -406,16 +406,16 @@ tick_answers : (setup : AgentSetup) (m : AgentMachine) (moment : ℕ) → (agent
 unfolding agent_effect
 tick_answers setup m moment = refl
 
-datagram_answers : (setup : AgentSetup) (m : AgentMachine) (source : SocketAddrV4) (bytes : List ℕ)
+pub datagram_answers : (setup : AgentSetup) (m : AgentMachine) (source : SocketAddrV4) (bytes : List ℕ)
     → (agent_effect setup m (hears (datagram source bytes))).machine ≡ (took_all setup m source (texts_of bytes)).machine
 unfolding agent_effect
 datagram_answers setup m source bytes = refl
 
-never_refused : (m : Machine) (source : SocketAddrV4) (bytes : List ℕ) → refusal_of m (datagram source bytes) ≡ None
+pub never_refused : (m : Machine) (source : SocketAddrV4) (bytes : List ℕ) → refusal_of m (datagram source bytes) ≡ None
 unfolding refusal_of
 never_refused m source bytes = refl
 
-only_tells : (S : List ℕ → Type 0) (moment now : ℕ) (texts : List (List ℕ)) → Each (λ (text : List ℕ). S text × (moment ≤ now)) texts → Each S texts
+pub only_tells : (S : List ℕ → Type 0) (moment now : ℕ) (texts : List (List ℕ)) → Each (λ (text : List ℕ). S text × (moment ≤ now)) texts → Each S texts
 only_tells S moment now texts each = each_weaker (λ (text : List ℕ). S text × (moment ≤ now)) S (λ text s. s.0) texts each
 
 delivered_links : (setup : Setup) (w : World) (post : Posted) → Linked setup w → now_in setup w - post.packet.moment ≤ oldest_packet

@@ -34,7 +34,7 @@ use Rattle.call_agent.specs.Responding.{replied, responded, responded_to}
 use Rattle.call_agent.specs.Taking.{GatewayCommand, answer_to, code_for, command_of, executed, taken_of, transacted_by, faulty_command, read_command}
 use Rattle.call_agent.specs.Hearing.{handled, handled_as, took_all}
 use Rattle.world_laws.specs.Taking.{IsConfirmedIn}
-use Rattle.world_laws.proofs.LookLemmas.{Stands, confirmed_more, latest_stands, stands_kept, young_more}
+use Rattle.world_laws.proofs.LookLemmas.{Stands, confirmed_more, latest_stands, stands_kept, young_more, each_two}
 
 -- Ids of which no two are equal
 
@@ -220,10 +220,6 @@ begun_one begun (id ∷ []) taken settled last (inr one) apart each is answered 
     absurd (apart_clash taken (one.last ∷ []) one.last (subst Apart one.is (apart_front begun (id ∷ []) apart)) inside (inl refl))
 
 -- What they tell
-
-pub each_two : {X : Type 0} (P Q : X → Type 0) (xs : List X) → Each P xs → Each Q xs → Each (λ (x : X). P x × Q x) xs
-each_two P Q [] one two = tt
-each_two P Q (x ∷ xs) one two = ((one.0, two.0), each_two P Q xs one.1 two.1)
 
 module _ {X Y Z : Type 0} (f : X → ℕ) (g : Y → ℕ) (tells : X → List Z) (told : Y → List Z) where
   abbrev pub TellsAs : Y → X → Type 0

@@ -50,6 +50,7 @@ use Rattle.plain_machine.specs.Requesting.{asked_if, deed_on, with_connections, 
 use Rattle.plain_machine.specs.Responding.{opened_on, redirected_on, responded_as, responded_on}
 use Rattle.world_laws.proofs.OnTurns.{answer_begins, begun_both}
 use Rattle.world_laws.proofs.DialledTakenLemmas.{Follows, HasNumber, Numbered, numbered_more}
+use Rattle.machine_laws.proofs.PostLogs.{first_low}
 
 -- A line that gave nothing up hadn't at any time before; so it served, and what it had in flight was its last command.
 
@@ -160,12 +161,6 @@ counted_on sent more free none c = (
   c.0,
   (c.1.0, subst (λ (x : List Begun). Numbered c.1.0 x free) (sym (begun_both sent more ∙ ap (λ (x : List Begun). begun_in sent ++ x) none ∙ append-nil (begun_in sent))) c.1.1),
 )
-
-first_low : (line : ℕ) → first_number line ≤ 1
-first_low line = by_test (line == 0) where
-  by_test : (b : Bool) → (if b then 1 else 0) ≤ 1
-  by_test true = omega arith
-  by_test false = omega arith
 
 next_is : (line number : ℕ) → number < numbers → (number_after line number < numbers) × Follows number (number_after line number)
 next_is line number low = by_test (number + 1 == numbers) refl where

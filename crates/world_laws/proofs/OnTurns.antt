@@ -4,10 +4,9 @@ use Rattle.std.proofs.Common.{◌≡◌, true, List, [], ◌∷◌, ◌++◌, Op
 use Rattle.std.specs.Prelude.{◌⊎◌, IfSome, nat_le, option_map}
 use Rattle.std.proofs.lemmas.Grind.{flat_map-append}
 use Rattle.std.proofs.lemmas.Option.{none-some}
-use Rattle.event_requests.specs.declared.request.Request.{Request}
 use Rattle.mg_line.specs.State.{State}
 use Rattle.mg_line.specs.State.TheVariants.{Notification}
-use Rattle.mg_line.specs.Line.{LineState, LineDone, Notice}
+use Rattle.mg_line.specs.Line.{LineDone, Notice}
 use Rattle.mg_line.specs.Laws.{AwaitsIfNotified}
 use Rattle.mg_line.proofs.OnceLemmas.{notifies_once}
 use Rattle.outbound.specs.Flight.{InFlight, repeat_of, repeated, reply_by, reply_of, heard, heard_as, sent_first}
@@ -52,7 +51,7 @@ use Rattle.plain_machine.specs.Flights.{IsClosed}
 use Rattle.plain_machine.specs.Posting.{id_on, repeated_as, resent_by, resent_on}
 use Rattle.plain_machine.specs.Responding.{responded_as, responded_on, redirected_on, opened_on}
 use Rattle.plain_machine.proofs.FirstLemmas.{OfItsLine, OfItsCommand, OfItsAnnouncement, due_cases, post_cases}
-use Rattle.machine_laws.proofs.FlightLaws.{WaitsOn, phoned_waits, fired_waits, asked_waits, redirected_announced}
+use Rattle.machine_laws.proofs.FlightLaws.{WaitsOn, phoned_waits, fired_waits, asked_waits, redirected_announced, noted_silent, asked_awaits}
 use Rattle.machine_laws.proofs.EachLemmas.{Each, each_push, each_weaker, one_before, one_behind}
 use Rattle.world_laws.specs.Course.{CourseStep}
 use Rattle.world_laws.proofs.CourseLemmas.{EndpointTurns}
@@ -91,15 +90,6 @@ pub flight_waits : (restart : Restart) (flight : InFlight) (state : State) → R
 flight_waits (Waiting until) flight state rests = rests.1
 flight_waits Announced flight state rests = rests
 flight_waits Serving flight state rests = rests
-
--- nothing is told
-pub noted_silent : (setup : Setup) (line moment : ℕ) (endpoint : Endpoint) (done : LineDone) → done.notice ≡ None → noted setup line moment endpoint done ≡ silently (record endpoint { line = done.line })
-unfolding noted
-noted_silent setup line moment endpoint done none = ap (with_notice setup line moment (record endpoint { line = done.line })) none
-
-pub asked_awaits : (request : Option Request) (line : LineState) (moment : ℕ) → AwaitsIfNotified (asked_if request line moment)
-asked_awaits None line moment = tt
-asked_awaits (Some request) line moment = notifies_once.request line request moment
 
 pub begun_both : (some more : List Sent) → begun_in (some ++ more) ≡ begun_in some ++ begun_in more
 begun_both some more = flat_map-append begun_at some more

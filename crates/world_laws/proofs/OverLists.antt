@@ -95,7 +95,7 @@ once_between course before between after x y o p once is =
 
 -- What is dialled
 
-course_on : (setup : Setup) (m : Machine) (line : ℕ) (es fs : List GatewayEvent)
+pub course_on : (setup : Setup) (m : Machine) (line : ℕ) (es fs : List GatewayEvent)
     → course_from setup m line (es ++ fs) ≡ course_from setup m line es ++ course_from setup (machine_after setup m es) line fs
 unfolding course_from machine_after
 course_on setup m line [] fs = refl
@@ -112,12 +112,12 @@ whole_course before after line undone untold once =
 
 -- no line comes or goes
 
-get_some : (list : List Endpoint) (place : ℕ) → place < length list → (s : Endpoint) × (slice_get list place ≡ Some s)
+pub get_some : (list : List Endpoint) (place : ℕ) → place < length list → (s : Endpoint) × (slice_get list place ≡ Some s)
 get_some [] place low = absurd (omega (arith, low))
 get_some (first ∷ list) zero low = (first, refl)
 get_some (first ∷ list) (suc place) low = get_some list place (omega (arith, low))
 
-endpoint_there : (m : Machine) (line : ℕ) → 1 ≤ line → line < 1 + length m.endpoints.list → (s : Endpoint) × (endpoint_at m.endpoints line ≡ Some s)
+pub endpoint_there : (m : Machine) (line : ℕ) → 1 ≤ line → line < 1 + length m.endpoints.list → (s : Endpoint) × (endpoint_at m.endpoints line ≡ Some s)
 endpoint_there m line some low = by_zero (line == 0) refl where
   by_zero : (b : Bool) → (line == 0) ≡ b → (s : Endpoint) × ((if b then None else slice_get m.endpoints.list (line - 1)) ≡ Some s)
   by_zero true e = absurd (let none : line ≡ 0 = (Decides-eqb line 0).0 e in omega (arith, some, none))

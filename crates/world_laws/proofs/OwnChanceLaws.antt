@@ -61,7 +61,7 @@ hear_came setup arrivals =
 
 -- of what is of a line
 
-each_filtered : {X : Type 0} (P : X → Type 0) (p : X → Bool) (xs : List X) → Each P xs → Each P (filter p xs)
+pub each_filtered : {X : Type 0} (P : X → Type 0) (p : X → Bool) (xs : List X) → Each P xs → Each P (filter p xs)
 each_filtered P p [] all = tt
 each_filtered P p (x ∷ xs) all = by_test (p x) (each_filtered P p xs all.1) where
   by_test : (b : Bool) → Each P (filter p xs) → Each P (if b then x ∷ filter p xs else filter p xs)

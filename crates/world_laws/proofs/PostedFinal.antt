@@ -1,6 +1,6 @@
 -- In a world each response that the gateway posts is final, and each that the agent posts is so and not 521: no response asks for an
 -- acknowledgement, so none is ever sent (RFC 3435, 2.4 and 3.5.6).
-use Rattle.std.proofs.Common.{◌≡◌, ℕ, Bool, true, false, if◌then◌else◌, List, [], ◌∷◌, map, Option, Some, None, inl, refl, subst, ◌≤◌, ◌++◌, sym, ap, ◌∙◌, ◌&&◌, ◌==◌, inr, append-nil, append_assoc}
+use Rattle.std.proofs.Common.{◌≡◌, ℕ, Bool, true, false, if◌then◌else◌, List, [], ◌∷◌, map, Option, Some, None, inl, refl, subst, ◌≤◌, ◌++◌, sym, ap, ◌∙◌, ◌==◌, inr, append-nil, append_assoc}
 use Rattle.std.specs.Prelude.{IfSome, slice_get, Any, is_none, find}
 use Rattle.std.specs.List.{list_any}
 use Rattle.std.proofs.lemmas.Bool.{eq-eqb, and_parts, eqb-false}
@@ -41,7 +41,7 @@ use Rattle.call_agent.specs.Agent.{AgentMachine, FinalAnswer, agent_opening}
 use Rattle.call_agent.proofs.EventLemmas.{agent_clock, after_on}
 use Rattle.world_laws.specs.Reached.{issued_in, own_in}
 use Rattle.world_laws.proofs.AgentLaws.{AgentGoesOn, Goes, Holds, Speaks, event_on, never, tick_taken, alone, issued_more}
-use Rattle.world_laws.proofs.LinkLaws.{Linked, opening_linked, step_links}
+use Rattle.world_laws.proofs.LinkLaws.{Linked, opening_linked, step_links, never_refused}
 use Rattle.world_laws.proofs.WorldLaws.{Holding, agent_taken, gateway_alone, gateway_taken, packed_hold, step_sound, tick_is}
 use Rattle.world_laws.specs.Copies.{IsFinal, IsCopy, HasAnswer, IsPlainAnswer}
 use Rattle.world_laws.proofs.QuietLemmas.{IsPlainText, OutPlain, agent_plain, event_says, texts_heard}
@@ -49,6 +49,8 @@ use Rattle.world_laws.proofs.SaidFinal.{AreFinal, AskNothing, EventSays, IsSaid,
 use Rattle.world_laws.proofs.UnaskedLemmas.{AsksNothing}
 use Rattle.world_laws.proofs.AnswersOnce.{answers_stay}
 use Rattle.world_laws.proofs.LookLemmas.{found_before}
+use Rattle.machine_laws.proofs.FitLemmas.{each_two as each_pair}
+use Rattle.world_laws.proofs.FrontLemmas.{both_are as and_from}
 
 -- What an agent of a world posts comes from its first address, and that is one of its addresses.
 
@@ -147,10 +149,6 @@ record AllFinal (setup : Setup) (w : World) : Type 0 where
   kept : AreFinal (firsts_in (gateway_in setup w).history)
   posted : Each IsFinalPost w.posted
 
-each_pair : {X : Type 0} (P Q : X → Type 0) (xs : List X) → Each P xs → Each Q xs → Each (λ x. P x × Q x) xs
-each_pair P Q [] one two = tt
-each_pair P Q (x ∷ xs) one two = ((one.0, two.0), each_pair P Q xs one.1 two.1)
-
 -- packed, each text is still so
 packed_are : (P : List ℕ → Type 0) (now : ℕ) (messages : List OutDatagram) → Each (λ (out : OutDatagram). Goes out.bytes) messages
     → Each (λ (out : OutDatagram). P out.bytes × (out.moment ≤ now)) messages → Each (λ (out : OutDatagram). Each P (texts_of out.bytes)) (packed messages)
@@ -217,10 +215,6 @@ to_gateway_final setup w event l taken ask all = record {
   says = event_final setup (own_in setup w) g event l.links.gateway taken all.kept ask
 
 -- A step
-
-never_refused : (m : Machine) (source : SocketAddrV4) (bytes : List ℕ) → refusal_of m (datagram source bytes) ≡ None
-unfolding refusal_of
-never_refused m source bytes = refl
 
 delivered_final : (setup : Setup) (w : World) (post : Posted) → Linked setup w → IsFinalPost post → AllFinal setup w → AllFinal setup (delivered_from post.end setup w post.packet)
 delivered_final setup w post l is all = by_end post.end post.packet is where
@@ -304,9 +298,6 @@ steps_more setup w (step ∷ a) b = steps_more setup (went setup w step) a b
 pub step_more : (setup : Setup) (steps : List WorldStep) (step : WorldStep) → plain_world setup (steps ++ step ∷ []) ≡ went setup (plain_world setup steps) step
 unfolding world_after
 step_more setup steps step = steps_more setup world_opening steps (step ∷ [])
-
-and_from : (a b : Bool) → a ≡ true → b ≡ true → (a && b) ≡ true
-and_from a b one two = rw (one, two) refl
 
 pub taken_front : (setup : Setup) (w : World) (a b : List WorldStep) → steps_are_taken setup w (a ++ b) ≡ true → steps_are_taken setup w a ≡ true
 unfolding steps_are_taken

@@ -1,6 +1,6 @@
 -- What is quarantined at a moment is out so many rounds later.
-use Rattle.std.proofs.Common.{◌≡◌, ℕ, ◌+◌, ◌*◌, ◌<◌, ◌≤◌, Bool, true, false, if◌then◌else◌, List, [], ◌∷◌, ◌++◌, length, Option, Some, None, inl, inr, refl, sym, ap, ◌∙◌, subst, arith, append-nil, append_assoc}
-use Rattle.std.specs.Prelude.{◌⊎◌, ◌||◌, filter, nat_le, not}
+use Rattle.std.proofs.Common.{◌≡◌, ℕ, ◌+◌, ◌*◌, ◌<◌, ◌≤◌, Bool, true, false, List, [], ◌∷◌, ◌++◌, length, Option, Some, None, inl, inr, refl, sym, ap, ◌∙◌, subst, arith, append-nil, append_assoc}
+use Rattle.std.specs.Prelude.{◌⊎◌, ◌||◌, nat_le, not}
 use Rattle.std.proofs.lemmas.Bool.{leb-true, leb-false}
 use Rattle.std.proofs.Math.Nat.{suc-mul, zero-mul}
 use Rattle.event_requests.specs.declared.request.Request.{Request}
@@ -23,28 +23,21 @@ use Rattle.plain_machine.specs.Machine.{Machine, endpoint_at, opening, serves}
 use Rattle.plain_machine.specs.Message.{Sent}
 use Rattle.plain_machine.proofs.EffectLaws.{effect_now}
 use Rattle.plain_machine.proofs.ListLaws.{machine_on}
-use Rattle.machine_laws.proofs.EachLemmas.{Each, each_back, each_front}
+use Rattle.machine_laws.proofs.EachLemmas.{each_back, each_front}
 use Rattle.machine_laws.proofs.OwningLemmas.{place_of, of_both}
 use Rattle.machine_laws.proofs.WaitLaws.{events_wait}
 use Rattle.machine_laws.specs.Belonging.{is_of, of_line}
 use Rattle.world_laws.specs.Course.{CourseStep, accepts, course_at, course_from, requests_in, has_given_up}
 use Rattle.world_laws.specs.Dialled.{done_in}
-use Rattle.world_laws.proofs.CourseLemmas.{AllHear, events_stand, hear_all}
-use Rattle.world_laws.proofs.OverLists.{always}
+use Rattle.world_laws.proofs.CourseLemmas.{AllHear, events_stand, hear_all, some_same}
+use Rattle.world_laws.proofs.OverLists.{always, course_on}
 use Rattle.world_laws.specs.Rounds.{IsAnsweredWithin, IsAskedWithin, of_telephone, rounds_take}
 use Rattle.world_laws.proofs.AtOnceLemmas.{AreAt, act_at_once, datagram_at_once}
 use Rattle.world_laws.proofs.OutLemmas.{NormalIsFree, calls_free}
 use Rattle.world_laws.proofs.RoundTurns.{Gone, Held, HeldIn, Phase, Round, Times, announced_before, announced_behind, done_more, has_announced, held_turns, is_up, none_both, none_front, requests_both, rounds, sent_asks}
+use Rattle.world_laws.proofs.OwnChanceLaws.{each_filtered}
 
 -- Lists of events
-
-pub course_on : (setup : Setup) (m : Machine) (line : ℕ) (es fs : List GatewayEvent)
-    → course_from setup m line (es ++ fs) ≡ course_from setup m line es ++ course_from setup (machine_after setup m es) line fs
-unfolding course_from machine_after
-course_on setup m line [] fs = refl
-course_on setup m line (e ∷ es) fs =
-    ap (λ (x : List CourseStep). course_at setup m line e ++ x) (course_on setup (effect setup m e).value line es fs)
-    ∙ sym (append_assoc (course_at setup m line e) (course_from setup (effect setup m e).value line es) _)
 
 pub sent_on : (setup : Setup) (m : Machine) (es fs : List GatewayEvent) → sent_from setup m (es ++ fs) ≡ sent_from setup m es ++ sent_from setup (machine_after setup m es) fs
 unfolding sent_from machine_after
@@ -52,13 +45,6 @@ sent_on setup m [] fs = refl
 sent_on setup m (e ∷ es) fs =
     ap (λ (x : List Sent). (effect setup m e).sent ++ x) (sent_on setup (effect setup m e).value es fs)
     ∙ sym (append_assoc (effect setup m e).sent (sent_from setup (effect setup m e).value es) _)
-
-pub each_filtered : {X : Type 0} (P : X → Type 0) (p : X → Bool) (xs : List X) → Each P xs → Each P (filter p xs)
-each_filtered P p [] all = tt
-each_filtered P p (x ∷ xs) all = by_test (p x) (each_filtered P p xs all.1) where
-  by_test : (b : Bool) → Each P (filter p xs) → Each P (if b then x ∷ filter p xs else filter p xs)
-  by_test true rest = (all.0, rest)
-  by_test false rest = rest
 
 -- When a line sends
 
@@ -440,9 +426,6 @@ module _ (setup : Setup) (line answering asking : ℕ) (before whole : List Gate
     round = begins_round was.line.quarantined.events refl;
   }
 
-some_same : (a b : Endpoint) → Some a ≡ Some b → a ≡ b
-some_same a b same = cc
-
 pub out_in_time : (setup : Setup) (before after : List GatewayEvent) (line answering asking : ℕ) (was is : Endpoint) → endpoint_at (plain setup before).endpoints line ≡ Some was
     → endpoint_at (plain setup (before ++ after)).endpoints line ≡ Some is → has_given_up (of_line line (sent_from setup (plain setup before) after)) is.post ≡ false
     → IsAnsweredWithin setup line before after answering → IsAskedWithin setup line before after asking
@@ -461,7 +444,7 @@ out_in_time setup before after line answering asking was is there at none is_ans
       the_same s here =
           some_same was s (sym there ∙ ap (λ (x : List GatewayEvent). endpoint_at (plain setup x).endpoints line) (sym (append-nil before)) ∙ here)
 
-none_of : (events : List Observed) (count : ℕ) → length events ≤ count → count ≡ 0 → events ≡ []
+pub none_of : (events : List Observed) (count : ℕ) → length events ≤ count → count ≡ 0 → events ≡ []
 none_of [] count few none = refl
 none_of (event ∷ events) count few none = absurd (omega (arith, few, none))
 

@@ -42,7 +42,7 @@ use Rattle.plain_machine.specs.declared.setup.Setup.{Setup}
 use Rattle.plain_machine.specs.declared.endpoint.Endpoint.{Endpoint}
 use Rattle.plain_machine.specs.Acting.{acted_on}
 use Rattle.plain_machine.specs.Announcing.{announcement, announced, announced_by, announced_on, heard_by, heard_on, replied}
-use Rattle.plain_machine.specs.Effect.{Effect, silently}
+use Rattle.plain_machine.specs.Effect.{Effect}
 use Rattle.plain_machine.specs.Falling.{happened_on}
 use Rattle.plain_machine.specs.Flights.{IsClosed}
 use Rattle.plain_machine.specs.Message.{Said, answer, again, command, resent, acknowledgement, Sent}
@@ -50,7 +50,7 @@ use Rattle.plain_machine.specs.Notifying.{notification, noted, posted, with_noti
 use Rattle.plain_machine.specs.Posting.{id_on, repeated_as, resent_by, resent_on}
 use Rattle.plain_machine.specs.Requesting.{asked_if, deed_on, with_connections, with_entity}
 use Rattle.plain_machine.specs.Responding.{opened_on, redirected_on, responded_as, responded_on}
-use Rattle.machine_laws.proofs.FlightLaws.{WaitsOn, asked_waits}
+use Rattle.machine_laws.proofs.FlightLaws.{WaitsOn, asked_waits, noted_silent}
 use Rattle.world_laws.specs.Course.{CourseStep, accepted, accepts, acts, notified_by, notified_with, requests_at, requests_in, announces}
 use Rattle.world_laws.specs.Dialled.{done_in}
 use Rattle.world_laws.proofs.CourseLemmas.{EndpointTurns, TurnKeeps}
@@ -163,10 +163,6 @@ noted_line setup line moment endpoint done = by_notice done.notice where
   by_notice : (notice : Option Notice) → (with_notice setup line moment (record endpoint { line = done.line }) notice).value.line ≡ done.line
   by_notice None = refl
   by_notice (Some notice) = refl
-
-noted_silent : (setup : Setup) (line moment : ℕ) (endpoint : Endpoint) (done : LineDone) → done.notice ≡ None → noted setup line moment endpoint done ≡ silently (record endpoint { line = done.line })
-unfolding noted
-noted_silent setup line moment endpoint done none = ap (with_notice setup line moment (record endpoint { line = done.line })) none
 
 still_detects : (line : LineState) → Detects 0 line (still line)
 still_detects line = record { grows = inl refl; waits = λ waits. (refl, refl); free = λ normal. refl }

@@ -1,5 +1,5 @@
 -- Each response that a gateway sends at an event is final and asks for no acknowledgement, where none that comes with it asks for one.
-use Rattle.std.proofs.Common.{◌≡◌, ◌≤◌, ℕ, Bool, true, false, if◌then◌else◌, List, [], ◌∷◌, ◌++◌, Option, Some, None, refl, sym, ap, ◌∙◌, subst, arith, append-nil}
+use Rattle.std.proofs.Common.{◌≡◌, ◌≤◌, ℕ, Bool, true, false, if◌then◌else◌, List, [], ◌∷◌, ◌++◌, None, refl, sym, ap, ◌∙◌, subst, arith, append-nil}
 use Rattle.std.specs.Prelude.{IfSome}
 use Rattle.std.specs.declared.net.socket_addr.SocketAddrV4.{SocketAddrV4}
 use Rattle.mgcp_text.specs.declared.message.Message.TheVariants as messages
@@ -16,7 +16,6 @@ use Rattle.history.specs.Kept.{firsts_in}
 use Rattle.history.specs.Looking.{Looked, new, repeat, confirmed, full, look_of}
 use Rattle.transactions.proofs.CountLaws.{firsts_in-append}
 use Rattle.history.proofs.LookLaws.{repeat_kept}
-use Rattle.outbound.specs.Flight.{InFlight}
 use Rattle.transmission.specs.Acknowledging.{asks_for_acknowledgement}
 use Rattle.transmission.specs.Texts.{texts_of}
 use Rattle.plain_machine.specs.declared.setup.Setup.{Setup}
@@ -34,11 +33,11 @@ use Rattle.plain_machine.proofs.EffectLaws.{handled_now}
 use Rattle.machine_laws.specs.Saying.{acknowledging, Carries, begun_in}
 use Rattle.outbound.specs.Issued.{is_command_as}
 use Rattle.machine_laws.proofs.EachLemmas.{Each, each_both, each_weaker, one_from_any, one_of_each, one_to}
-use Rattle.machine_laws.proofs.GatewayEvents.{EndpointsStand, GatewayHolds, tick_on, IsCommand}
+use Rattle.machine_laws.proofs.GatewayEvents.{EndpointsStand, GatewayHolds, tick_on, IsCommand, flight_later}
 use Rattle.machine_laws.proofs.GatewayTurns.{OwnStands, LineStands, log_turns}
 use Rattle.machine_laws.proofs.LogTurns.{Goes, Stands, acted_goes, command_goes, log_both, on_later, pass_goes, responded_goes}
 use Rattle.machine_laws.proofs.MessageLaws.{Fits, code_is, command_answered, handled_fits}
-use Rattle.machine_laws.proofs.PostLogs.{InLog, Logged, Own, WasBegun}
+use Rattle.machine_laws.proofs.PostLogs.{Logged, Own, WasBegun}
 use Rattle.world_laws.specs.Copies.{IsFinal}
 use Rattle.world_laws.proofs.FinalLemmas.{commanded_final, written_final}
 use Rattle.world_laws.proofs.UnaskedLemmas.{AsksNothing, commanded_bare, written_asks}
@@ -185,10 +184,6 @@ texts_final setup log m source (text ∷ texts) fits stands kept ask =
     }
 
 -- An event
-
-flight_later : (now later : ℕ) → now ≤ later → (log : List Begun) (found : Option InFlight) → IfSome found (InLog now log) → IfSome found (InLog later log)
-flight_later now later past log None is = tt
-flight_later now later past log (Some flight) is = record { known = is.known; later = is.later; past = omega (arith, past, is.past) }
 
 stands_later : (setup : Setup) (now later : ℕ) → now ≤ later → (log : List Begun) (endpoints : Endpoints) → EndpointsStand setup now log endpoints → EndpointsStand setup later log endpoints
 stands_later setup now later past log endpoints s = record {

@@ -38,7 +38,7 @@ use Rattle.call_agent.specs.Hearing.{agent_effect, hears, took_all}
 use Rattle.call_agent.specs.declared.setup.AgentSetup.{AgentSetup}
 use Rattle.world_laws.specs.Reached.{Reached, issued_in, key_kept, key_reached, own_in, taken_in}
 use Rattle.world_laws.proofs.AgentLaws.{event_on, never}
-use Rattle.world_laws.proofs.LinkLaws.{world_linked}
+use Rattle.world_laws.proofs.LinkLaws.{world_linked, datagram_answers as machine_is}
 use Rattle.world_laws.proofs.TakenLaws.{agent_keys}
 use Rattle.world_laws.proofs.WorldLaws.{world_sound}
 use Rattle.world_laws.specs.Taking.{AgentHasRoom, IsOwn, IsTaken, agent_history}
@@ -196,11 +196,6 @@ posts_it from to now text sent goes said =
     one_mapped (Tells to now text) (posted_as agent_end from) (packed sent)
     (one_weaker (HasMessage (message_to to now text)) (λ (out : OutDatagram). Tells to now text (posted_as agent_end from out))
     (λ out has. (refl, has.there, has.moment, has.inside)) (packed sent) (packed_has sent (message_to to now text) goes said))
-
-pub machine_is : (setup : AgentSetup) (m : AgentMachine) (source : SocketAddrV4) (bytes : List ℕ)
-    → (agent_effect setup m (hears (datagram source bytes))).machine ≡ (took_all setup m source (texts_of bytes)).machine
-unfolding agent_effect
-machine_is setup m source bytes = refl
 
 pub says_is : (setup : AgentSetup) (m : AgentMachine) (source : SocketAddrV4) (bytes : List ℕ)
     → (agent_effect setup m (hears (datagram source bytes))).sent ≡ (took_all setup m source (texts_of bytes)).sent

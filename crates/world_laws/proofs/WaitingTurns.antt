@@ -60,13 +60,13 @@ use Rattle.signals.specs.Stopping.{without}
 use Rattle.timers.specs.declared.kind.LineDue.{LineDue}
 use Rattle.timers.specs.declared.kind.LineDue.TheVariants.{DigitTimer, SignalEnd}
 use Rattle.mg_line.specs.declared.phone.Act.{Act}
-use Rattle.mg_line.specs.declared.phone.Act.TheVariants.{OffHook, OnHook, Flash, Key}
 use Rattle.event_requests.specs.declared.request.Request.{Request}
 use Rattle.mg_line.specs.State.{State}
 use Rattle.mg_line.specs.State.TheVariants.{Normal, Notification, Lockstep}
 use Rattle.mg_line.specs.Occurring.{notified, notified_if_full, with_event, letter_of, timed, judged, with_letter, dialled_by, embedded, acted, signals_after, occurred}
 use Rattle.mg_line.specs.Detecting.{quarantining, detected_in, detected, with_quarantined, unless_notified, drained_of, drained, resumed}
 use Rattle.mg_line.specs.Requesting.{replaced, resumed_in, asked}
+use Rattle.machine_laws.proofs.FlightLaws.{hooked_state}
 
 -- What a line has in flight is due behind this moment where all that the line sends is sent no sooner, unless a response to it came: so
 -- does each turn of the line leave it.
@@ -208,7 +208,7 @@ full_stays : (line : LineState) → Stays line.state (notified_if_full line)
 unfolding notified_if_full
 full_stays line = either_stays line.state _ (notified line) (still line) (notified_stays line.state line) (λ none. refl)
 
-timed_state : (line : LineState) (letter : Letter) (moment : ℕ) → (timed line letter moment).state ≡ line.state
+pub timed_state : (line : LineState) (letter : Letter) (moment : ℕ) → (timed line letter moment).state ≡ line.state
 unfolding timed
 timed_state line letter moment = refl
 
@@ -222,7 +222,7 @@ unfolding with_letter
 dialled_stays None line moment = full_stays line
 dialled_stays (Some letter) line moment = judged_stays _ (record line { dialled = line.dialled ++ letter ∷ [] }) letter moment
 
-embedded_state : (line : LineState) (request : EmbeddedRequest) (moment : ℕ) → (embedded line request moment).state ≡ line.state
+pub embedded_state : (line : LineState) (request : EmbeddedRequest) (moment : ℕ) → (embedded line request moment).state ≡ line.state
 unfolding embedded
 embedded_state line request moment = refl
 
@@ -288,12 +288,6 @@ answered_rests line moment = by_test (is_loop line.handling.notifying || line.re
 -- or it did before
 abbrev WaitsOn : LineState → LineDone → Type 0
 WaitsOn line done = done.notice ≡ None → done.line.state ≡ Notification → line.state ≡ Notification
-
-hooked_state : (line : LineState) (act : Act) → (hooked line act).state ≡ line.state
-hooked_state line OffHook = refl
-hooked_state line OnHook = refl
-hooked_state line Flash = refl
-hooked_state line (Key key) = refl
 
 phoned_waits : (line : LineState) (act : Act) (moment : ℕ) → WaitsOn line (phoned line act moment)
 unfolding phoned

@@ -15,7 +15,6 @@ use Rattle.plain_machine.specs.declared.setup.Setup.{Setup}
 use Rattle.plain_machine.specs.declared.endpoint.Endpoint.{Endpoint}
 use Rattle.plain_machine.specs.Arriving.{TextArrival, arrivals_from, arrivals_of}
 use Rattle.plain_machine.specs.Event.{GatewayEvent}
-use Rattle.plain_machine.specs.Happening.{effect}
 use Rattle.plain_machine.specs.Lists.{machine_after, plain, sent_from, sent_of}
 use Rattle.plain_machine.specs.Machine.{Machine, opening, opening_endpoint, endpoint_at}
 use Rattle.plain_machine.specs.Message.{Begun, Sent}
@@ -41,6 +40,7 @@ use Rattle.world_laws.proofs.ToldLemmas.{is_mine, mine_is}
 use Rattle.world_laws.proofs.MatchLemmas.{Apart, In, Matches, apart_filtered, apart_from, begun_free, begun_one, in_mapped, taken_matches}
 use Rattle.world_laws.proofs.DialledTakenLemmas.{IsAsSent, is_of_line}
 use Rattle.world_laws.proofs.OnTurns.{begun_both}
+use Rattle.machine_laws.proofs.EventLemmas.{sent_on}
 
 -- All that a line sent, the commands that it began, and those of them that the agent took
 
@@ -62,13 +62,6 @@ taken_ids taken = map (λ (one : Reached). one.asked.id) taken
 -- a command with this id was taken
 abbrev pub WasTaken : List Reached → ℕ → Type 0
 WasTaken taken id = OneOf (λ (one : Reached). one.asked.id ≡ id) taken
-
-pub sent_on : (setup : Setup) (m : Machine) (es fs : List GatewayEvent) → sent_from setup m (es ++ fs) ≡ sent_from setup m es ++ sent_from setup (machine_after setup m es) fs
-unfolding sent_from machine_after
-sent_on setup m [] fs = refl
-sent_on setup m (event ∷ es) fs =
-    ap (λ (x : List Sent). (effect setup m event).sent ++ x) (sent_on setup (effect setup m event).value es fs)
-    ∙ sym (append_assoc (effect setup m event).sent (sent_from setup (effect setup m event).value es) _)
 
 pub sent_more : (setup : Setup) (line : ℕ) (took : List GatewayEvent) (event : GatewayEvent)
     → line_sent setup line (took ++ event ∷ []) ≡ line_sent setup line took ++ of_line line (sent_from setup (plain setup took) (event ∷ []))
