@@ -31,7 +31,13 @@ ghost use Rattle.plain_machine.specs.Commanding.{done_by, commanded};
 ghost use Rattle.plain_machine.specs.Falling.{post_due, happened};
 ghost use Rattle.plain_machine.specs.Responding.{responded};
 ghost use Rattle.plain_machine.specs.Lists.{plain};
-ghost use Rattle.plain_machine.specs.Flights.{OwnIsInOrder};
+ghost use Rattle.plain_machine.specs.Flights.{AreInOrder, OwnIsInOrder};
+
+/// What is in flight of each line, and of the gateway itself, agrees with where its announcement is, whatever happened: while
+/// that waits nothing is, and while it is on its way it is what is in flight. Until the gateway serves its lines send nothing.
+pub fn what_is_in_flight_agrees_with_announcements()
+    ensures { (setup : Setup) (events : List GatewayEvent) → AreInOrder (plain setup events).endpoints }
+{}
 
 /// Until its announcement is answered a gateway does nothing at a command. It answers with the code of a fault of the verb or
 /// the name, or else 405, but an audit as ever; and from then on each command as it is, of which none has the code 405.
