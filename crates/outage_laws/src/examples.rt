@@ -1,6 +1,5 @@
-//! Worked examples, as theorems: worlds in which each premise of a law holds, and worlds in which one alone is missing and the law's
-//! sentence fails; and each sentence of a definition has one that a slip in it breaks. A world without room at its agent is too large for
-//! one: the scenarios of `full_history.txt` play one.
+//! Worked examples, as theorems: worlds in which all holds that a law asks for. A world without room at its agent is too large for one:
+//! the scenarios of `full_history.txt` play one.
 #![tactic(auto, unfolding(crate::proofs::Computing::on_examples))]
 
 ghost use Rattle.std.specs.Prelude.{◌≡◌, ◌+◌, ◌*◌, ◌++◌, [], ◌∷◌, map, true, false, None, Some};

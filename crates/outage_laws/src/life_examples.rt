@@ -1,5 +1,4 @@
-//! Worked examples of lives, as theorems: each sentence of a definition has one that a slip in it breaks, and each premise of a law one
-//! in which it is missing and the law fails.
+//! Worked examples of lives, as theorems.
 #![tactic(auto, unfolding(crate::proofs::Computing::on_examples))]
 
 ghost use Rattle.std.specs.Prelude.{◌≡◌, codes, [], ◌∷◌, map, true};

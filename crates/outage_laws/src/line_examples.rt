@@ -1,5 +1,4 @@
-//! Worked examples of the laws of a line behind an outage: a world in which each premise holds, and the bound is met; and worlds in which
-//! one premise alone is missing and the law's sentence fails.
+//! Worked examples of the laws of a line after an outage: worlds in which each premise holds, and the bound is met.
 #![tactic(auto, unfolding(crate::proofs::Computing::on_examples))]
 
 ghost use Rattle.std.specs.Prelude.{◌≡◌, ◌+◌, ◌*◌, ◌++◌, ℕ, [], ◌∷◌, true};

@@ -90,8 +90,6 @@ took_first steps = (world steps).gateway_took
 abbrev pub took_between : List WorldStep → List WorldStep → List GatewayEvent
 took_between first steps = drop (length (took_first first)) (took_first steps)
 
--- Where one premise alone is missing
-
 -- line 1 is asked in step for all that its telephone does, is lifted, and dials 5; its notification, packet 4, is handed over, and so is
 -- the answer, and then a ms passes
 abbrev pub asked_in_step : List WorldStep

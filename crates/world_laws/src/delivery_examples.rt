@@ -1,6 +1,5 @@
-//! Worked examples, as theorems: worlds in which each premise of a law holds, and worlds in which it fails without one; and each
-//! sentence of a definition has one that a slip in it breaks. A world without room at an end is too large for one: the scenarios of
-//! `full_history.txt` play one for each end.
+//! Worked examples, as theorems: worlds in which all holds that a law asks for. A world without room at an end is too large for one: the
+//! scenarios of `full_history.txt` play one for each end.
 #![tactic(auto, unfolding(crate::proofs::Computing::on_examples))]
 
 ghost use Rattle.std.specs.Prelude.{◌≡◌, ◌+◌, ◌++◌, codes, [], ◌∷◌, map, true, false, None, Some};
