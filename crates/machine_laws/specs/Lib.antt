@@ -9,3 +9,4 @@ pub mod Apart
 pub mod Passing
 pub mod Isolation
 pub mod IsolationExample
+pub mod Example

@@ -8,6 +8,7 @@
 
 pub mod announcement_laws;
 pub mod connection_laws;
+pub mod examples;
 pub mod flight_laws;
 pub mod isolation_examples;
 pub mod isolation_laws;
