@@ -1,5 +1,5 @@
 -- What a command to a line does to two gateways that are alike in that line, and what one to another line does.
-use Rattle.std.proofs.Common.{◌≡◌, ◌≢◌, ℕ, ◌<◌, Bool, true, false, ◌==◌, if◌then◌else◌, List, [], Option, Some, None, Result, Ok, Err, inl, inr, refl, sym, ap, subst, ◌∙◌, arith}
+use Rattle.std.proofs.Common.{◌≡◌, ◌≢◌, ℕ, Bool, true, false, ◌==◌, if◌then◌else◌, [], Option, Some, None, Result, Ok, Err, inl, inr, refl, sym, ap, subst, ◌∙◌, arith}
 use Rattle.std.specs.Prelude.{◌⊎◌, option_map, option_and_then}
 use Rattle.std.proofs.lemmas.Bool.Decides.{Decides-eqb}
 use Rattle.mgcp_text.specs.Answer.{AnswerContent, plain_code}
@@ -26,9 +26,8 @@ use Rattle.plain_machine.specs.Answering.{line_of_name}
 use Rattle.plain_machine.specs.Commanding.{audited, answer_by, done_by, commanded}
 use Rattle.plain_machine.specs.Done.{Done, only_answer}
 use Rattle.plain_machine.specs.Machine.{Endpoints, serves, endpoint_at}
-use Rattle.plain_machine.specs.Message.{Sent}
 use Rattle.plain_machine.specs.Reporting.{line_report}
-use Rattle.plain_machine.specs.Requesting.{refusal_by, refusal_on, deed_on, shown_on, shown_of, answer_with, deed_done, done_for}
+use Rattle.plain_machine.specs.Requesting.{refusal_by, refusal_on, deed_on, shown_on, shown_of, answer_with, deed_done}
 use Rattle.machine_laws.specs.Refusals.{refusal_at, IsRefused, NoneRefuses}
 use Rattle.machine_laws.proofs.DeedLaws.{refused_deed, refused_or_not, done_answer, done_endpoint, done_sent}
 use Rattle.machine_laws.proofs.AnnouncementLaws.{deed_own as own_alone, AreAlike, ToldAlike, nothing_told, turn_alike}

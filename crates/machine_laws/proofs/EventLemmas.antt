@@ -1,7 +1,7 @@
 -- Two machines that agree on a line agree on it after an event and after what is the line's own of it, and after lists of
 -- both.
-use Rattle.std.proofs.Common.{◌≡◌, ℕ, ◌<◌, ◌≤◌, Bool, true, false, ◌==◌, ◌&&◌, if◌then◌else◌, List, [], ◌∷◌, ◌++◌, length, map, filter, Option, Some, None, refl, sym, ap, subst, ◌∙◌, append-nil, append_assoc, arith}
-use Rattle.std.specs.Prelude.{not, nat_lt, flat_map, is_none, option_map}
+use Rattle.std.proofs.Common.{◌≡◌, ℕ, ◌<◌, ◌≤◌, Bool, true, false, ◌==◌, if◌then◌else◌, List, [], ◌∷◌, ◌++◌, length, map, filter, Option, refl, sym, ap, subst, ◌∙◌, append-nil, append_assoc, arith}
+use Rattle.std.specs.Prelude.{not, nat_lt, is_none, option_map}
 use Rattle.std.proofs.lemmas.Bool.{and_parts, ltb-true, ltb-false}
 use Rattle.std.proofs.lemmas.Bool.Decides.{Decides-eqb}
 use Rattle.std.specs.Cmp.Derive.{both_true}
@@ -19,9 +19,8 @@ use Rattle.plain_machine.specs.Message.{Sent}
 use Rattle.plain_machine.specs.Machine.{Machine, told_in, endpoint_at, opening}
 use Rattle.plain_machine.specs.Acting.{acted}
 use Rattle.plain_machine.specs.Answering.{handled, took_all}
-use Rattle.plain_machine.specs.Falling.{pass}
 use Rattle.plain_machine.specs.Happening.{effect}
-use Rattle.plain_machine.specs.Lists.{machine_after, sent_from, are_taken, plain, sent_of}
+use Rattle.plain_machine.specs.Lists.{machine_after, sent_from, are_taken, plain}
 use Rattle.plain_machine.specs.Refusing.{act_refusal, tick_refusal, refusal_of}
 use Rattle.plain_machine.proofs.ListLaws.{machine_on}
 use Rattle.machine_laws.proofs.EachLemmas.{Each, each_from_all}
@@ -29,9 +28,9 @@ use Rattle.machine_laws.specs.Belonging.{of_line}
 use Rattle.machine_laws.specs.OwnEvents.{is_of_another, own_part, own_events}
 use Rattle.machine_laws.specs.Isolation.{AsUnderItsOwn}
 use Rattle.machine_laws.proofs.OwningLemmas.{of_both}
-use Rattle.machine_laws.proofs.AnnouncementLaws.{AreAlike, ToldAlike, acted_alike, acted_elsewhere, pass_alike}
+use Rattle.machine_laws.proofs.AnnouncementLaws.{acted_alike, acted_elsewhere, pass_alike}
 use Rattle.machine_laws.proofs.ThinningLemmas.{none}
-use Rattle.machine_laws.proofs.FittingWords.{Agree, Matches, Fits, TextsFit, EventFits, EventsFit}
+use Rattle.machine_laws.proofs.FittingWords.{Agree, Matches, TextsFit, EventFits, EventsFit}
 use Rattle.machine_laws.proofs.TextLemmas.{in_machine, own_handled, other_handled}
 
 -- Texts, each of which is one of its own

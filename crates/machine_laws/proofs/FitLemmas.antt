@@ -1,22 +1,18 @@
 -- Commands of lines that keep apart fit each line.
-use Rattle.std.proofs.Common.{◌≡◌, Bool, true, false, ◌&&◌, List, [], ◌∷◌, ℕ, ◌==◌, ◌||◌, ◌++◌, map, Option, Some, None, refl, sym, ap, subst, ◌∙◌}
+use Rattle.std.proofs.Common.{◌≡◌, Bool, true, false, ◌&&◌, List, [], ◌∷◌, ℕ, ◌==◌, ◌||◌, map, Option, Some, None, refl, sym, ap, ◌∙◌}
 use Rattle.std.specs.List.{list_all, list_any}
 use Rattle.std.proofs.lemmas.Bool.{and_parts, eqb-true, both_ways}
-use Rattle.machine_laws.proofs.EachLemmas.{Each, each_weaker, each_unflat, each_unmapped}
-use Rattle.std.specs.Prelude.{not, flat_map}
+use Rattle.machine_laws.proofs.EachLemmas.{Each, each_weaker, each_unflat}
+use Rattle.std.specs.Prelude.{not}
 use Rattle.std.proofs.lemmas.Bool.Decides.{Decides-eqb}
-use Rattle.mgcp_text.specs.Confirmation.{k_of}
 use Rattle.mgcp_text.specs.declared.message.Message.TheVariants as messages
 use Rattle.mgcp_text.specs.Reading.{Outcome, message, no_header, bad_version, bad_body}
 use Rattle.history.specs.Span.{is_named}
-use Rattle.history.specs.Memory.{most_firsts}
-use Rattle.transmission.specs.Confirming.{spans_of}
 use Rattle.plain_machine.specs.declared.setup.Setup.{Setup}
 use Rattle.plain_machine.specs.Event.{GatewayEvent}
 use Rattle.plain_machine.specs.Machine.{opening}
 use Rattle.plain_machine.specs.Arriving.{TextArrival, arrivals_of}
-use Rattle.plain_machine.specs.Answering.{line_of_name}
-use Rattle.plain_machine.specs.Transactions.{Asked, asked_as, commands_of}
+use Rattle.plain_machine.specs.Transactions.{asked_as}
 use Rattle.machine_laws.specs.Apart.{is_for_one, ReadCommand, read_as, commands_at, commands_read, has_to_do_with, same_line, keeps_apart, LinesKeepApart}
 use Rattle.machine_laws.specs.Isolation.{AsUnderItsOwn}
 use Rattle.machine_laws.specs.OwnEvents.{line_read, is_another}

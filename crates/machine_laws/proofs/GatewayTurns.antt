@@ -1,6 +1,6 @@
 -- What a gateway sends of its own: the commands of each line, and of the gateway itself, under ids of their own, and again for
 -- less than 20,000 ms.
-use Rattle.std.proofs.Common.{◌≡◌, ◌≢◌, ℕ, ◌≤◌, true, List, [], ◌∷◌, ◌++◌, Option, Some, None, Ok, inl, inr, refl, ap, subst, arith}
+use Rattle.std.proofs.Common.{◌≡◌, ℕ, ◌≤◌, true, List, [], ◌∷◌, Option, Some, None, Ok, inl, inr, refl, subst, arith}
 use Rattle.std.specs.Prelude.{◌⊎◌, IfSome, codes}
 use Rattle.std.specs.Option.{unwrap_or}
 use Rattle.mgcp_text.specs.declared.confirmation.KValue.{KValue}
@@ -25,7 +25,6 @@ use Rattle.mg_line.specs.Answering.{answered}
 use Rattle.mg_line.specs.Opening.{opened}
 use Rattle.mg_line.specs.Falling.{fired}
 use Rattle.timers.specs.declared.kind.LineDue.{LineDue}
-use Rattle.mg_line.specs.declared.phone.Act.{Act}
 use Rattle.timers.specs.declared.kind.DueKind.TheVariants.{OfLine, Resend, Announce}
 use Rattle.timers.specs.declared.due_item.DueItem.{DueItem}
 use Rattle.plain_machine.specs.declared.post.Post.{Post}
@@ -34,7 +33,7 @@ use Rattle.plain_machine.specs.declared.setup.Setup.{Setup}
 use Rattle.plain_machine.specs.declared.endpoint.Endpoint.{Endpoint}
 use Rattle.plain_machine.specs.Effect.{Effect, silently}
 use Rattle.plain_machine.specs.Setup.{IsSetUp}
-use Rattle.plain_machine.specs.Posting.{id_on, line_of_id, resent_on}
+use Rattle.plain_machine.specs.Posting.{id_on, resent_on}
 use Rattle.plain_machine.specs.Announcing.{announced_on, heard_on, replied, replied_on}
 use Rattle.plain_machine.specs.Notifying.{posted, notification, with_notice, noted}
 use Rattle.plain_machine.specs.Requesting.{with_entity, with_connections, asked_if, deed_on}
@@ -44,11 +43,9 @@ use Rattle.machine_laws.proofs.CommandLaws.{Sound, OwnSound, sound_turns, sound_
 use Rattle.machine_laws.proofs.NoticeLemmas.{IsDone, IsTold, phoned_done, answered_done, opened_done, fired_done}
 use Rattle.machine_laws.proofs.NotificationLemmas.{told_writable}
 use Rattle.plain_machine.proofs.FirstLemmas.{OfItsLine, OfItsCommand, OfItsAnnouncement, due_cases, post_cases}
-use Rattle.machine_laws.proofs.EachLemmas.{Each}
 use Rattle.machine_laws.proofs.LogTurns.{Good, LogTurns, OwnGood, silent_keeps, whole_keeps}
-use Rattle.machine_laws.proofs.PostLogs.{InLog, Logged, Own, PostGood, Posted, announcing_good, command_good, others_stay, own_more, post_still, replied_good, resent_good}
+use Rattle.machine_laws.proofs.PostLogs.{Logged, Own, PostGood, Posted, announcing_good, command_good, others_stay, own_more, replied_good, resent_good}
 use Rattle.plain_machine.specs.Message.{Begun}
-use Rattle.machine_laws.specs.Saying.{begun_in}
 
 pub record LineStands (setup : Setup) (until : ℕ) (log : List Begun) (line : ℕ) (endpoint : Endpoint) : Type 0 where
   pub sound : Sound line endpoint

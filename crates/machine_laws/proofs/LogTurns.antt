@@ -36,7 +36,7 @@ use Rattle.plain_machine.specs.Falling.{due_on, post_due, first_due, due_by, hap
 use Rattle.plain_machine.specs.Done.{Done}
 use Rattle.plain_machine.specs.Requesting.{refused_by, deed_on, lines_meant, unless_refused, deed_done, line_with_place, done_there, done_for}
 use Rattle.plain_machine.specs.Commanding.{done_by, commanded}
-use Rattle.plain_machine.specs.Responding.{responded_on, redirected_on, opened_on, on_all, lines_told, own_heard, responded}
+use Rattle.plain_machine.specs.Responding.{responded_on, redirected_on, opened_on, lines_told, own_heard, responded}
 use Rattle.machine_laws.proofs.AllLemmas.{OnAll}
 use Rattle.machine_laws.proofs.TurnLemmas.{of_line}
 use Rattle.plain_machine.proofs.FirstLemmas.{IsDueOn, first_on, by_moment, endpoint_is, post_line, endpoint_line}

@@ -1,5 +1,5 @@
 -- What a tick makes of a line is the line's own, and of the gateway itself its own.
-use Rattle.std.proofs.Common.{◌≡◌, ◌≢◌, ℕ, zero, suc, ◌<◌, ◌≤◌, Bool, true, false, ◌==◌, if◌then◌else◌, List, [], ◌∷◌, Option, Some, None, refl, sym, ap, subst, ◌∙◌, arith}
+use Rattle.std.proofs.Common.{◌≡◌, ℕ, zero, suc, ◌<◌, ◌≤◌, Bool, true, false, ◌==◌, if◌then◌else◌, List, [], Option, Some, None, refl, sym, ap, subst, ◌∙◌, arith}
 use Rattle.std.specs.Prelude.{nat_le, option_map, option_and_then}
 use Rattle.std.proofs.lemmas.Bool.{le-leb, leb-true}
 use Rattle.std.proofs.lemmas.Bool.Decides.{Decides-eqb}
@@ -9,9 +9,9 @@ use Rattle.plain_machine.specs.declared.setup.Setup.{Setup}
 use Rattle.plain_machine.specs.declared.endpoint.Endpoint.{Endpoint}
 use Rattle.plain_machine.specs.Effect.{Effect, behind}
 use Rattle.plain_machine.specs.Message.{Sent}
-use Rattle.plain_machine.specs.Machine.{Endpoints, endpoint_at, on_line, on_own}
+use Rattle.plain_machine.specs.Machine.{Endpoints, endpoint_at, on_line}
 use Rattle.plain_machine.specs.Falling.{due_on, post_due, due_at, due_by, if_by, happened_on, happened_under, happened, pass}
-use Rattle.plain_machine.proofs.EffectLaws.{either_own, either_line, on_this, on_nothing}
+use Rattle.plain_machine.proofs.EffectLaws.{either_own, either_line, on_this}
 use Rattle.plain_machine.proofs.FirstLemmas.{item_same, first_at, none_by}
 use Rattle.plain_machine.proofs.FallingLaws.{left, left_falls, pass_none, pass_some}
 use Rattle.machine_laws.proofs.OwningLemmas.{this_turns, of_both, owned_here, owned_elsewhere, happened_owned, own_happened_owned, happening_owned}

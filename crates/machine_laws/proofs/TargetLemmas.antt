@@ -1,7 +1,6 @@
 -- What a command with the name of one line asks for is for that line.
-use Rattle.std.proofs.Common.{◌≡◌, ℕ, Bool, true, false, List, Option, Some, None, Result, Ok, Err, refl, sym, ap, subst, ◌∙◌}
+use Rattle.std.proofs.Common.{◌≡◌, ℕ, Bool, true, List, Option, Some, None, Result, Ok, Err, refl, sym, ap, subst, ◌∙◌}
 use Rattle.std.specs.Option.{ok_or}
-use Rattle.mg_bytes.specs.Checks.{unless, checked}
 use Rattle.mgcp_text.specs.declared.confirmation.KValue.{KValue}
 use Rattle.mgcp_text.specs.declared.message.Param.{Param}
 use Rattle.endpoint_names.specs.declared.name.Pattern.{Pattern}
@@ -13,7 +12,7 @@ use Rattle.endpoint_names.specs.Name.{name_of}
 use Rattle.command_forms.specs.declared.forms.Asks.{Asks}
 use Rattle.command_forms.specs.declared.forms.AuditTarget.TheVariants as audits
 use Rattle.command_forms.specs.declared.forms.Target.{Target}
-use Rattle.command_forms.specs.declared.forms.Target.TheVariants.{One, All, Any}
+use Rattle.command_forms.specs.declared.forms.Target.TheVariants.{One}
 use Rattle.command_forms.specs.declared.refused.FaultyPart.TheVariants.{Verb, Name}
 use Rattle.command_forms.specs.declared.refused.Refused.{Refused}
 use Rattle.command_forms.specs.declared.verbs.Meant.{Meant}
@@ -26,7 +25,7 @@ use Rattle.command_forms.specs.Command.{Command}
 use Rattle.command_forms.specs.Meaning.{named, task_of, meant}
 use Rattle.command_forms.specs.Order.{asked, form_while, form_of}
 use Rattle.mg_bytes.specs.Steps.{◌>>=◌}
-use Rattle.command_forms.specs.Refusing.{placed, coded}
+use Rattle.command_forms.specs.Refusing.{placed}
 use Rattle.command_forms.specs.Verbs.{row_of}
 use Rattle.command_forms.proofs.FormLemmas.{name_first, asked_behind, same_target}
 use Rattle.command_forms.proofs.RefusedLemmas.{coded_ok}

@@ -18,18 +18,18 @@ use Rattle.transmission.specs.Confirming.{spans_of}
 use Rattle.command_forms.specs.Command.{Command}
 use Rattle.plain_machine.specs.declared.setup.Setup.{Setup}
 use Rattle.plain_machine.specs.Effect.{Effect, silently}
-use Rattle.plain_machine.specs.Message.{answer_of, Said, answer, again, Sent}
+use Rattle.plain_machine.specs.Message.{answer_of, answer, again, Sent}
 use Rattle.plain_machine.specs.Machine.{Machine, told_in, Endpoints}
 use Rattle.plain_machine.specs.Done.{Done, only_answer}
 use Rattle.plain_machine.specs.Commanding.{commanded}
 use Rattle.plain_machine.specs.Responding.{heard_from}
-use Rattle.plain_machine.specs.Answering.{line_of_name, reply, Transaction, transaction, executed, transacted_by, handled}
+use Rattle.plain_machine.specs.Answering.{line_of_name, reply, transaction, executed, transacted_by, handled}
 use Rattle.machine_laws.specs.Belonging.{is_of, of_line}
 use Rattle.machine_laws.specs.OwnEvents.{is_another, line_read}
 use Rattle.machine_laws.proofs.ThinningLemmas.{Thins, thins_both, thins_left, told_same}
-use Rattle.machine_laws.proofs.AnnouncementLaws.{AreAlike, ToldAlike, heard_alike}
+use Rattle.machine_laws.proofs.AnnouncementLaws.{ToldAlike, heard_alike}
 use Rattle.machine_laws.proofs.DeedLemmas.{DoneAlike, only_alike, command_alike, command_elsewhere}
-use Rattle.machine_laws.proofs.FittingWords.{Agree, Matches, IsApart, Fits, FindsRoom}
+use Rattle.machine_laws.proofs.FittingWords.{Agree, Matches, Fits, FindsRoom}
 
 module _ (setup : Setup) (keep : ℕ → Bool) (line : ℕ) where
   -- A command of this line, or of none

@@ -1,5 +1,5 @@
 -- What is told of an id that is kept doesn't hang on what was left out.
-use Rattle.std.proofs.Common.{◌≡◌, ◌≢◌, ℕ, ◌<◌, ◌≤◌, Bool, true, false, ◌==◌, ◌&&◌, ◌||◌, if◌then◌else◌, List, [], ◌∷◌, ◌++◌, length, Option, Some, None, refl, sym, ap, ◌∙◌, arith, append-nil}
+use Rattle.std.proofs.Common.{◌≡◌, ◌≢◌, ℕ, ◌<◌, ◌≤◌, Bool, true, false, ◌==◌, ◌&&◌, ◌||◌, if◌then◌else◌, List, [], ◌∷◌, ◌++◌, length, Option, Some, None, refl, sym, ap, ◌∙◌, arith}
 use Rattle.std.specs.Prelude.{nat_lt, option_map}
 use Rattle.std.specs.Option.{option_or}
 use Rattle.std.specs.List.{list_any}
@@ -10,7 +10,7 @@ use Rattle.history.specs.Entry.TheVariants.{First, Confirmation}
 use Rattle.history.specs.Span.{is_named}
 use Rattle.history.specs.Memory.{is_young}
 use Rattle.history.specs.Kept.{is_young_first, young_firsts}
-use Rattle.history.specs.Looking.{repeated, Found, latest, confirms, Recalled, recalled_from, recalled, Looked, full, told_by, look_of}
+use Rattle.history.specs.Looking.{repeated, Found, latest, confirms, Recalled, recalled_from, recalled, full, told_by, look_of}
 
 -- it says nothing of an id that is kept
 abbrev pub IsForeign : (ℕ → Bool) → Entry → Type 0

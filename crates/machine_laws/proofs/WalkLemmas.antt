@@ -1,5 +1,5 @@
 -- What holds of all that arrived holds of each text as it comes.
-use Rattle.std.proofs.Common.{◌≡◌, ℕ, List, [], ◌∷◌, ◌++◌, map, Option, Some, None, refl, sym, ap, ◌∙◌, ◌≢◌, Bool, true, false, ◌&&◌, if◌then◌else◌, subst, append-nil}
+use Rattle.std.proofs.Common.{◌≡◌, ℕ, List, [], ◌∷◌, ◌++◌, map, Option, Some, None, refl, sym, ap, ◌∙◌, ◌≢◌, Bool, true, false, ◌&&◌, if◌then◌else◌, subst}
 use Rattle.std.specs.Prelude.{flat_map, fold, IfSome, not}
 use Rattle.std.proofs.lemmas.Grind.{flat_map-append}
 use Rattle.std.proofs.lemmas.List.{map-append}
@@ -20,11 +20,11 @@ use Rattle.std.proofs.lemmas.Bool.{and_parts}
 use Rattle.history.specs.Memory.{most_firsts}
 use Rattle.history.specs.Firsts.{Kind, a_first, a_repeat, lost, kind_of, firsts_with, firsts_of}
 use Rattle.history.specs.Answers.{is_confirmed}
-use Rattle.history.specs.Looking.{new, repeat, confirmed, full, look_of, told_as}
+use Rattle.history.specs.Looking.{repeat, confirmed, full, look_of, told_as}
 use Rattle.machine_laws.proofs.TransactionLaws.{Keeps, looked, arrived_on, event_on}
 use Rattle.machine_laws.proofs.EachLemmas.{Each, each_front, each_back}
 use Rattle.machine_laws.specs.Apart.{is_lost, none_lost}
-use Rattle.machine_laws.proofs.FittingWords.{Fits, FindsRoom, TextsFit, EventFits, EventsFit}
+use Rattle.machine_laws.proofs.FittingWords.{Fits, TextsFit, EventFits, EventsFit}
 
 -- The answers that are sent are those that the commands which arrived get.
 

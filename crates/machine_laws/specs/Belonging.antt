@@ -1,5 +1,5 @@
 -- What belongs to one line of what a gateway sends (RFC 3435, 2.1.1, 3.2.1.2 and 3.5).
-use Rattle.std.specs.Prelude.{ℕ, ◌==◌, Bool, false, List, filter, Option, Some, None}
+use Rattle.std.specs.Prelude.{ℕ, ◌==◌, Bool, false, List, filter, Some, None}
 use Rattle.plain_machine.specs.Message.{Owner, answer_of, own_of, of_none, Sent}
 
 -- an answer to a command whose name reads as this line, or a command of the line's own; of the gateway itself, which is

@@ -9,7 +9,6 @@ use Rattle.plain_machine.specs.Event.{GatewayEvent, phone, tick}
 use Rattle.plain_machine.specs.Example.{agent, two_lines, ready, from_agent, crcx, naming_other, rqnt, response}
 use Rattle.plain_machine.specs.Lists.{plain, sent_of, signals_of, connections_of}
 use Rattle.plain_machine.specs.Message.{Sent}
-use Rattle.plain_machine.specs.Transactions.{Asked}
 use Rattle.machine_laws.specs.Apart.{ReadCommand}
 use Rattle.machine_laws.specs.Belonging.{of_line}
 use Rattle.machine_laws.specs.OwnEvents.{own_events}
