@@ -46,7 +46,7 @@ use Rattle.agent_core.specs.World.{World, WorldStep, delivering, gateway_in, now
 use Rattle.world_laws.specs.Chances.{chances, last_chance}
 use Rattle.world_laws.specs.Copies.{answer_wait}
 use Rattle.world_laws.specs.Fairness.{GoesToAgent}
-use Rattle.world_laws.specs.Course.{announces}
+use Rattle.world_laws.specs.GivenUp.{announces}
 use Rattle.world_laws.specs.OwnChances.{IsOfLine, IsToldAfter}
 use Rattle.world_laws.specs.Rounds.{IsAwaited}
 use Rattle.world_laws.proofs.ChanceLaws.{front_forward}

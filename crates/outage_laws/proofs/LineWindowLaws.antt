@@ -27,7 +27,8 @@ use Rattle.agent_core.specs.World.{World, WorldStep, gateway_in, now_in, plain_w
 use Rattle.world_laws.proofs.WorldLaws.{gateway_alone}
 use Rattle.world_laws.specs.Chances.{chances, last_chance}
 use Rattle.world_laws.specs.Copies.{answer_wait}
-use Rattle.world_laws.specs.Course.{course_from, has_given_up}
+use Rattle.world_laws.specs.Course.{course_from}
+use Rattle.world_laws.specs.GivenUp.{has_given_up}
 use Rattle.world_laws.specs.Dialled.{done_in}
 use Rattle.world_laws.specs.Fairness.{GoesToAgent}
 use Rattle.world_laws.specs.OwnChances.{IsOfLine}

@@ -10,7 +10,8 @@ use Rattle.plain_machine.specs.Setup.{IsSetUp}
 use Rattle.machine_laws.specs.Belonging.{of_line}
 use Rattle.call_agent.specs.Agent.{observed_on}
 use Rattle.agent_core.specs.World.{WorldStep, agent_in, gateway_in, plain_world, steps_are_taken, world_opening}
-use Rattle.world_laws.specs.Course.{course_of, has_given_up}
+use Rattle.world_laws.specs.Course.{course_of}
+use Rattle.world_laws.specs.GivenUp.{has_given_up}
 use Rattle.world_laws.specs.Dialled.{done_in, told_along}
 use Rattle.world_laws.specs.Rounds.{is_of_telephone, of_telephone}
 use Rattle.world_laws.proofs.EndLemmas.{left_in, paired, told_on}

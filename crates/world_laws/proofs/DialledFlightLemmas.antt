@@ -33,7 +33,8 @@ use Rattle.plain_machine.specs.Requesting.{asked_if, deed_on, with_connections, 
 use Rattle.plain_machine.specs.Responding.{opened_on, redirected_on, responded_as, responded_on}
 use Rattle.machine_laws.specs.Saying.{OneOf, begun_at, begun_in}
 use Rattle.machine_laws.proofs.EachLemmas.{one_before, one_behind, Each, each_push}
-use Rattle.world_laws.specs.Course.{CourseStep, announces, has_given_up}
+use Rattle.world_laws.specs.Course.{CourseStep}
+use Rattle.world_laws.specs.GivenUp.{announces, has_given_up}
 use Rattle.world_laws.proofs.CourseLemmas.{AnyResponse, EndpointTurns}
 use Rattle.world_laws.proofs.OnTurns.{begun_both, Rests, rests_is, rests_on, rests_again, flight_waits, answer_begins}
 use Rattle.machine_laws.proofs.FlightLaws.{noted_silent, asked_awaits, WaitsOn, phoned_waits, fired_waits, asked_waits, redirected_announced}

@@ -18,7 +18,8 @@ use Rattle.plain_machine.specs.Message.{Begun}
 use Rattle.machine_laws.specs.Saying.{HasNumbersLeft, OneOf}
 use Rattle.machine_laws.proofs.EachLemmas.{Each, each_back, each_front, each_from_all, each_weaker, one_from_any, one_weaker}
 use Rattle.machine_laws.proofs.OwningLemmas.{place_of}
-use Rattle.world_laws.specs.Course.{course_from, course_of, has_given_up}
+use Rattle.world_laws.specs.Course.{course_from, course_of}
+use Rattle.world_laws.specs.GivenUp.{has_given_up}
 use Rattle.world_laws.specs.Dialled.{done_in, told_along, IsAskedForAll, IsToldOnce}
 use Rattle.world_laws.specs.Keeping.{happened_in}
 use Rattle.world_laws.proofs.KeepingLemmas.{happened_both}

@@ -24,7 +24,7 @@ use Rattle.world_laws.proofs.CourseLemmas.{AnyResponse, events_stand, hear_all}
 use Rattle.agent_core.specs.World.{World, WorldStep, gateway_in, now_in, plain_world, steps_are_taken, world_opening}
 use Rattle.world_laws.specs.Reached.{own_in}
 use Rattle.world_laws.proofs.LinkLaws.{world_linked}
-use Rattle.world_laws.specs.Course.{has_given_up}
+use Rattle.world_laws.specs.GivenUp.{has_given_up}
 use Rattle.world_laws.proofs.WorldLemmas.{began_more, line_began, line_sent}
 use Rattle.world_laws.specs.Fairness.{AgentAlwaysHasRoom, GoesToAgent, IsFair, ReachTheAgent}
 use Rattle.world_laws.specs.Rounds.{IsAnsweredWithin, IsAwaited}

@@ -17,7 +17,8 @@ use Rattle.machine_laws.specs.Belonging.{of_line}
 use Rattle.machine_laws.specs.Saying.{begun_in, begun_at}
 use Rattle.machine_laws.proofs.OwningLemmas.{of_both}
 use Rattle.world_laws.proofs.CourseLemmas.{events_stand, hear_all, AnyResponse, EndpointTurns, Stands}
-use Rattle.world_laws.specs.Course.{has_given_up, CourseStep}
+use Rattle.world_laws.specs.Course.{CourseStep}
+use Rattle.world_laws.specs.GivenUp.{has_given_up}
 use Rattle.world_laws.proofs.DialledFlightLemmas.{Fine, Flies, FliesBeside, flight_turns, flying, gave_nothing_up, opening_flies, starts_gone, stays_gone}
 use Rattle.world_laws.proofs.WorldLemmas.{none_comes}
 use Rattle.world_laws.proofs.RoundLaws.{sent_on}

@@ -30,7 +30,7 @@ use Rattle.world_laws.proofs.ReachedLaws.{executed_apart, executed_each}
 use Rattle.world_laws.proofs.TakenLaws.{heard_lately, Move, agent_took, gateway_took, step_moves}
 use Rattle.world_laws.proofs.WorldLaws.{Came, gateway_alone}
 use Rattle.world_laws.proofs.CourseLemmas.{AllHear, events_stand}
-use Rattle.world_laws.specs.Course.{has_given_up}
+use Rattle.world_laws.specs.GivenUp.{has_given_up}
 use Rattle.world_laws.proofs.DialledFlightLemmas.{Fine, Flies, Gone, FliesBeside, flight_turns, flying, gave_nothing_up, starts_gone}
 use Rattle.world_laws.proofs.DialledTakenLemmas.{Numbered, is_of_line}
 use Rattle.world_laws.proofs.NumberTurns.{line_counted}

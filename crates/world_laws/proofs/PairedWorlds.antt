@@ -20,7 +20,7 @@ use Rattle.plain_machine.specs.declared.post.Post.{Post}
 use Rattle.world_laws.proofs.LinkLaws.{Rises}
 use Rattle.world_laws.proofs.ReachedLaws.{Apart}
 use Rattle.world_laws.proofs.WorldLaws.{Came, Comes}
-use Rattle.world_laws.specs.Course.{announces, has_given_up}
+use Rattle.world_laws.specs.GivenUp.{announces, has_given_up}
 use Rattle.world_laws.proofs.PairLemmas.{Spaced, StandsLate}
 use Rattle.world_laws.proofs.DialledTakenLemmas.{is_of_line}
 use Rattle.world_laws.proofs.ToldLemmas.{is_mine}

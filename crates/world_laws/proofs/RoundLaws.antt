@@ -27,7 +27,8 @@ use Rattle.machine_laws.proofs.EachLemmas.{each_back, each_front}
 use Rattle.machine_laws.proofs.OwningLemmas.{place_of, of_both}
 use Rattle.machine_laws.proofs.WaitLaws.{events_wait}
 use Rattle.machine_laws.specs.Belonging.{is_of, of_line}
-use Rattle.world_laws.specs.Course.{CourseStep, accepts, course_at, course_from, requests_in, has_given_up}
+use Rattle.world_laws.specs.Course.{CourseStep, accepts, course_at, course_from, requests_in}
+use Rattle.world_laws.specs.GivenUp.{has_given_up}
 use Rattle.world_laws.specs.Dialled.{done_in}
 use Rattle.world_laws.proofs.CourseLemmas.{AllHear, events_stand, hear_all, some_same}
 use Rattle.world_laws.proofs.OverLists.{always, course_on}

@@ -51,7 +51,8 @@ use Rattle.plain_machine.specs.Posting.{id_on, repeated_as, resent_by, resent_on
 use Rattle.plain_machine.specs.Requesting.{asked_if, deed_on, with_connections, with_entity}
 use Rattle.plain_machine.specs.Responding.{opened_on, redirected_on, responded_as, responded_on}
 use Rattle.machine_laws.proofs.FlightLaws.{WaitsOn, asked_waits, noted_silent}
-use Rattle.world_laws.specs.Course.{CourseStep, accepted, accepts, acts, notified_by, notified_with, requests_at, requests_in, announces}
+use Rattle.world_laws.specs.Course.{CourseStep, accepted, accepts, acts, notified_by, notified_with, requests_at, requests_in}
+use Rattle.world_laws.specs.GivenUp.{announces}
 use Rattle.world_laws.specs.Dialled.{done_in}
 use Rattle.world_laws.proofs.CourseLemmas.{EndpointTurns, TurnKeeps}
 use Rattle.world_laws.proofs.DialledLemmas.{done_both}

@@ -32,7 +32,8 @@ use Rattle.agent_core.specs.World.{World, WorldStep, gateway_in, plain_world, st
 use Rattle.world_laws.specs.Reached.{Reached, own_in, taken_in}
 use Rattle.world_laws.proofs.LinkLaws.{taken_once, taken_as_sent, world_linked}
 use Rattle.world_laws.proofs.TakenLaws.{heard_was_taken, Move, gateway_took, agent_took, step_moves}
-use Rattle.world_laws.specs.Course.{CourseStep, has_given_up}
+use Rattle.world_laws.specs.Course.{CourseStep}
+use Rattle.world_laws.specs.GivenUp.{has_given_up}
 use Rattle.world_laws.proofs.CourseLemmas.{AllHear, AnyResponse, Hears, Stands, EndpointTurns, events_stand, hear_all}
 use Rattle.world_laws.proofs.DialledFlightLemmas.{Fine, Flies, FliesBeside, flight_turns, flying, gave_nothing_up, opening_flies, starts_gone, stays_gone}
 use Rattle.world_laws.proofs.WellLemmas.{IsWell, sent_well}

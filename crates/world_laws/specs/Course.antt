@@ -1,6 +1,6 @@
 -- The course of a line: the acts at its telephone, the requests that it accepts and its notifications, in their order (RFC
 -- 3435, 2.3.3, 2.3.4 and 4.4.1).
-use Rattle.std.specs.Prelude.{ℕ, ◌==◌, ◌&&◌, is_none, if◌then◌else◌, codes, List, [], ◌∷◌, ◌++◌, flat_map, Option, Some, None, Result, Ok, Err, ◌||◌, not, Bool, true, false}
+use Rattle.std.specs.Prelude.{ℕ, ◌==◌, ◌&&◌, is_none, if◌then◌else◌, codes, List, [], ◌∷◌, ◌++◌, flat_map, Option, Some, None, Result, Ok, Err}
 use Rattle.std.specs.declared.net.socket_addr.SocketAddrV4.{SocketAddrV4}
 use Rattle.mgcp_text.specs.Confirmation.{k_of}
 use Rattle.mgcp_text.specs.Reading.{Outcome, message, no_header, bad_version, bad_body, read_text}
@@ -32,9 +32,6 @@ use Rattle.plain_machine.specs.Message.{Said, answer, again, command, resent, ac
 use Rattle.plain_machine.specs.Requesting.{refused_by, line_with_place}
 use Rattle.call_agent.specs.Notified.{observed_with}
 use Rattle.machine_laws.specs.Belonging.{of_line}
-use Rattle.std.specs.List.{list_any}
-use Rattle.restart.specs.Restarting.{is_serving}
-use Rattle.plain_machine.specs.declared.post.Post.{Post}
 
 pub data CourseStep : Type 0 where
   acts : (act : Act) → CourseStep
@@ -145,31 +142,3 @@ requests_at (notifies identifier observed) = []
 -- the requests that were accepted
 abbrev pub requests_in : List CourseStep → List Request
 requests_in course = flat_map requests_at course
-
--- Whether a line gave a command up: who gets no answer for so long announces itself after a wait (RFC 3435, 4.3 and 4.4.7).
-
--- What announces: RestartInProgress
-
-abbrev pub is_restart : Verb → Bool
-is_restart Rsip = true
-is_restart Epcf = false
-is_restart Rqnt = false
-is_restart Ntfy = false
-is_restart Crcx = false
-is_restart Mdcx = false
-is_restart Dlcx = false
-is_restart Auep = false
-is_restart Aucx = false
-is_restart Other = false
-
-abbrev pub announces : Said → Bool
-announces (command (messages.Command verb id name params body)) = is_restart verb
-announces (command (messages.Response code id params body)) = false
-announces (answer response) = false
-announces (again id text) = false
-announces (resent message) = false
-announces (acknowledgement response) = false
-
--- by what a line sent and by its post: it announced itself, or is to do so
-abbrev pub has_given_up : List Sent → Post → Bool
-has_given_up sent post = list_any (λ one. announces one.said) sent || not (is_serving post.restart)

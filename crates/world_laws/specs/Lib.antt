@@ -11,6 +11,7 @@ pub mod DeliveryExample
 pub mod Untaken
 pub mod DialledExample
 pub mod Course
+pub mod GivenUp
 pub mod Keeping
 pub mod Following
 pub mod Dialled
