@@ -5,8 +5,8 @@ use Rattle.mg_packages.proofs.Computing.{on_examples as package_examples}
 use Rattle.signals.proofs.Computing.{on_examples as signal_examples}
 use Rattle.line_changes.specs.Seen.{seen_from}
 use Rattle.line_changes.specs.Telling.{ends_text, media_text, mode_part, what_text, head_text, watching_line}
-use Rattle.line_changes.specs.Watching.{place_where}
+use Rattle.line_changes.specs.Watching.{first_asked, place_where}
 
 unfoldable pub on_examples : ⊤
-unfolding connection_examples package_examples signal_examples seen_from ends_text media_text mode_part what_text head_text watching_line place_where
+unfolding connection_examples package_examples signal_examples seen_from ends_text media_text mode_part what_text head_text watching_line first_asked place_where
 on_examples = tt

@@ -63,12 +63,27 @@ hearing signals = record lifted { signals = signals }
 abbrev pub connected : List SeenConnection → SeenLine
 connected connections = record lifted { connections = connections }
 
--- who watches from 127.0.0.1 and a port, up to a moment
+-- who watches from 127.0.0.1 and a port, up to a moment, and asked for that at 0, or then
 abbrev pub watcher : ℕ → ℕ → Watcher
-watcher port end = record { address = at_port 1 port; end = end }
+watcher port end = record { address = at_port 1 port; asked = 0; end = end }
+
+abbrev pub asking : ℕ → ℕ → ℕ → Watcher
+asking port asked end = record { address = at_port 1 port; asked = asked; end = end }
 
 -- eight who watch for as long
 abbrev pub full : List (Option Watcher)
 full =
     Some (watcher 1 5000) ∷ Some (watcher 2 5000) ∷ Some (watcher 3 5000) ∷ Some (watcher 4 5000) ∷ Some (watcher 5 5000)
     ∷ Some (watcher 6 5000) ∷ Some (watcher 7 5000) ∷ Some (watcher 8 5000) ∷ []
+
+-- eight of whom the third and the fifth are silent longest
+abbrev pub silent : List (Option Watcher)
+silent =
+    Some (asking 1 4000 64000) ∷ Some (asking 2 4000 64000) ∷ Some (asking 3 3000 63000) ∷ Some (asking 4 4000 64000)
+    ∷ Some (asking 5 3000 63000) ∷ Some (asking 6 4000 64000) ∷ Some (asking 7 4000 64000) ∷ Some (asking 8 4000 64000) ∷ []
+
+-- and the third has given way to a ninth
+abbrev pub joined : List (Option Watcher)
+joined =
+    Some (asking 1 4000 64000) ∷ Some (asking 2 4000 64000) ∷ Some (asking 9 35000 45000) ∷ Some (asking 4 4000 64000)
+    ∷ Some (asking 5 3000 63000) ∷ Some (asking 6 4000 64000) ∷ Some (asking 7 4000 64000) ∷ Some (asking 8 4000 64000) ∷ []

@@ -11,8 +11,9 @@ ghost use Rattle.line_changes.specs.declared.change.Change.TheVariants.{Hook, En
 ghost use Rattle.line_changes.specs.Seen.{leading, remote_of, seen_from};
 ghost use Rattle.line_changes.specs.Changes.{changes_of};
 ghost use Rattle.line_changes.specs.Telling.{change_line, with_changes, watching_line};
-ghost use Rattle.line_changes.specs.Watching.{most_watchers, longest_watch, nobody, place_for, with_watcher, is_watched, told_at};
-ghost use Rattle.line_changes.specs.Example.{at_port, host, until, endless, talking, held, resting, lifted, hearing, connected, watcher, full};
+ghost use Rattle.line_changes.specs.Watching.{most_watchers, longest_watch, longest_silence, nobody, place_for, with_watcher, is_watched, told_at};
+ghost use Rattle.line_changes.specs.Example.{at_port, host, until, endless, talking, held, resting, lifted, hearing, connected, watcher, asking, full};
+ghost use Rattle.line_changes.specs.Example.{silent, joined};
 
 /// Each sentence at an example.
 pub fn each_sentence_has_an_example()
@@ -100,14 +101,26 @@ pub fn further_sentences_have_examples()
     // Eight watch at a time, for as long as they asked for last; a ninth isn't told, until a place is free.
     ensures most { most_watchers ≡ 8 }
     ensures longest { longest_watch ≡ 60 }
-    ensures a_few_watch_at_a_time_first { with_watcher nobody (at_port 1 9) 1000 60 ≡ Some (Some (watcher 9 61000) ∷ replicate 7 None) }
+    ensures a_few_watch_at_a_time_first { with_watcher nobody (at_port 1 9) 1000 60 ≡ Some (Some (asking 9 1000 61000) ∷ replicate 7 None) }
     ensures ninth { with_watcher full (at_port 1 9) 4999 60 ≡ None }
-    ensures a_few_watch_at_a_time_over { place_for 5000 full (at_port 1 9) ≡ Some 0 }
-    ensures again { place_for 1000 full (at_port 1 3) ≡ Some 2 }
-    ensures last { place_for 1000 full (at_port 1 8) ≡ Some 7 }
-    ensures prolonged { with_watcher (Some (watcher 9 5000) ∷ None ∷ []) (at_port 1 9) 1000 10 ≡ Some (Some (watcher 9 11000) ∷ None ∷ []) }
-    ensures ended { with_watcher (Some (watcher 9 5000) ∷ None ∷ []) (at_port 1 9) 1000 0 ≡ Some (Some (watcher 9 1000) ∷ None ∷ []) }
-    ensures other_host { place_for 1000 (Some (watcher 9 5000) ∷ None ∷ []) (at_port 2 9) ≡ Some 1 }
+    ensures a_few_watch_at_a_time_over { place_for 5000 60 full (at_port 1 9) ≡ Some 0 }
+    ensures again { place_for 1000 60 full (at_port 1 3) ≡ Some 2 }
+    ensures last { place_for 1000 60 full (at_port 1 8) ≡ Some 7 }
+    ensures prolonged { with_watcher (Some (watcher 9 5000) ∷ None ∷ []) (at_port 1 9) 1000 10
+        ≡ Some (Some (asking 9 1000 11000) ∷ None ∷ []) }
+    ensures ended { with_watcher (Some (watcher 9 5000) ∷ None ∷ []) (at_port 1 9) 1000 0 ≡ Some (Some (asking 9 1000 1000) ∷ None ∷ []) }
+    ensures other_host { place_for 1000 60 (Some (watcher 9 5000) ∷ None ∷ []) (at_port 2 9) ≡ Some 1 }
+    // Who hasn't asked again for 30 s gives way to a ninth, but to nobody while a place is free, nor to who only ends a watch; who is
+    // silent longest, and of several the first.
+    ensures silence { longest_silence ≡ 30000 }
+    ensures the_silent_give_way_not_yet { place_for 32999 60 silent (at_port 1 9) ≡ None }
+    ensures the_silent_give_way_now { place_for 33000 60 silent (at_port 1 9) ≡ Some 2 }
+    ensures longest_silent { place_for 34000 60 silent (at_port 1 9) ≡ Some 2 }
+    ensures silent_alone { place_for 34000 60 (Some (asking 1 4000 64000) ∷ Some (asking 2 3000 63000) ∷ []) (at_port 1 9) ≡ Some 1 }
+    ensures gives_way { with_watcher silent (at_port 1 9) 35000 10 ≡ Some joined }
+    ensures own_stays { place_for 35000 60 silent (at_port 1 5) ≡ Some 4 }
+    ensures free_first { place_for 35000 60 (Some (asking 1 3000 63000) ∷ None ∷ []) (at_port 1 9) ≡ Some 1 }
+    ensures ends_nothing { with_watcher silent (at_port 1 9) 35000 0 ≡ None }
     // Who watches is told up to the moment before its end.
     ensures told { told_at 4999 (Some (watcher 9 5000)) ≡ Some (at_port 1 9) }
     ensures who_watches_is_told_over { told_at 5000 (Some (watcher 9 5000)) ≡ None }

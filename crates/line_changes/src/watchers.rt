@@ -1,6 +1,7 @@
-//! Who is told what changes: a few at a time, each as long as it asked for that last.
+//! Who is told what changes: a few at a time, each as long as it asked for that last, unless others want to be told and it is silent.
 ghost use Rattle.std.specs.Prelude.{◌≡◌, ◌<◌, ◌≤◌, ◌^◌, length, true, false, None, IfSome, Some};
-ghost use Rattle.line_changes.specs.Watching.{longest_watch, nobody, is_of, is_watching, is_free, is_watched, place_where, place_for, with_watcher, told_at};
+ghost use Rattle.line_changes.specs.Watching.{longest_watch, nobody, is_of, is_watching, is_free, is_watched, place_where, asked_at, first_asked};
+ghost use Rattle.line_changes.specs.Watching.{has_asked_by, silent_place, other_place, place_for, with_watcher, told_at};
 
 use crate::address::is_same_address;
 use std::net::SocketAddrV4;
@@ -14,10 +15,14 @@ pub const LONGEST_WATCH: u64 = 60;
 // Milliseconds in a second.
 const SECOND: u64 = 1000;
 
-/// Who watches, and the moment at which that ends, in ms.
+// Who hasn't asked again for so long, in ms, may lose its place to another.
+const LONGEST_SILENCE: u64 = 30_000;
+
+/// Who watches, when it asked for that last, and the moment at which it ends, in ms.
 #[derive(Clone, Copy)]
 pub struct Watcher {
     pub address: SocketAddrV4,
+    pub asked: u64,
     pub end: u64,
 }
 
@@ -91,13 +96,86 @@ fn free_place(now: u64, places: &[Option<Watcher>]) -> Option<usize>
     None
 }
 
-fn place_for(now: u64, places: &[Option<Watcher>], address: SocketAddrV4) -> Option<usize>
-    ensures place { result ≡ place_for now places.now address }
+fn asked_at(moment: u64, held: Option<Watcher>) -> u64
+    ensures { result ≡ asked_at moment held }
+{
+    match held {
+        None => moment,
+        Some(watcher) => watcher.asked,
+    }
+}
+
+// When the one asked that is silent longest, and no later than at this moment.
+#[tactic(auto, unfolding(crate::specs::Watching::first_asked))]
+fn first_asked(now: u64, places: &[Option<Watcher>]) -> u64
+    ensures { result ≡ first_asked now places.now }
+{
+    let mut first = now;
+    for held in places {
+        first = first.min(asked_at(first, *held));
+    }
+    first
+}
+
+fn has_asked_by(moment: u64, held: Option<Watcher>) -> bool
+    ensures { result ≡ has_asked_by moment held }
+{
+    match held {
+        None => false,
+        Some(watcher) => watcher.asked <= moment,
+    }
+}
+
+// The first place of who asked by this moment.
+#[tactic(auto, unfolding(crate::specs::Watching::place_where))]
+fn place_since(moment: u64, places: &[Option<Watcher>]) -> Option<usize>
+    ensures place { result ≡ place_where (has_asked_by moment) 0 places.now }
+    ensures within { IfSome result (λ place. place < length places.now) }
+{
+    for (place, held) in places.iter().enumerate() {
+        if has_asked_by(moment, *held) {
+            return Some(place);
+        }
+    }
+    None
+}
+
+// The place of who is silent longest, where that is long enough, for who wants to watch for so many seconds.
+fn silent_place(now: u64, seconds: u64, places: &[Option<Watcher>]) -> Option<usize>
+    ensures place { result ≡ silent_place now seconds places.now }
+    ensures within { IfSome result (λ place. place < length places.now) }
+{
+    let first = first_asked(now, places);
+    if seconds > 0 && LONGEST_SILENCE <= now.saturating_sub(first) {
+        place_since(first, places)
+    } else {
+        None
+    }
+}
+
+// The first free place; where none is, that of who is silent too long.
+fn other_place(now: u64, seconds: u64, places: &[Option<Watcher>]) -> Option<usize>
+    ensures place { result ≡ other_place now seconds places.now }
+    ensures within { IfSome result (λ place. place < length places.now) }
+{
+    if let Some(place) = free_place(now, places) {
+        return Some(place);
+    }
+    silent_place(now, seconds, places)
+}
+
+fn place_for(
+    now: u64,
+    seconds: u64,
+    places: &[Option<Watcher>],
+    address: SocketAddrV4,
+) -> Option<usize>
+    ensures place { result ≡ place_for now seconds places.now address }
     ensures within { IfSome result (λ place. place < length places.now) }
 {
     match own_place(places, address) {
         Some(place) => Some(place),
-        None => free_place(now, places),
+        None => other_place(now, seconds, places),
     }
 }
 
@@ -135,7 +213,7 @@ impl Watchers {
     }
 
     /// Somebody asks to be told what changes, from this moment on, in ms, for so many seconds, where 0 ends it: whether it is; where as
-    /// many watch as may, it isn't. Who watches already does so for so long from now.
+    /// many watch as may, and none of them is silent too long, it isn't. Who watches already does so for so long from now.
     pub fn watch(&mut self, address: SocketAddrV4, now: u64, seconds: u64) -> bool
         requires clock { now < 2 ^ 62 }
         requires time { seconds ≤ longest_watch }
@@ -143,11 +221,12 @@ impl Watchers {
         ensures full { result ≡ false → with_watcher self.old.places address now seconds ≡ None }
         ensures kept { result ≡ false → self.new ≡ self.old }
     {
-        let Some(place) = place_for(now, &self.places, address) else {
+        let Some(place) = place_for(now, seconds, &self.places, address) else {
             return false;
         };
         self.places[place] = Some(Watcher {
             address,
+            asked: now,
             end: now + seconds * SECOND,
         });
         true
