@@ -28,6 +28,6 @@ pub use crate::files::read_file;
 pub use crate::live::{Live, SocketWanted, bind};
 pub use crate::parting::{CaptureFiles, Parting};
 pub use crate::program::{Begun, OUT_OF_MEMORY, begin, end, open_capture, say_last};
-pub use crate::readiness::{MOST_VISITORS, Readiness, Visit};
+pub use crate::readiness::{MOST_VISITORS, Readiness, Visit, may_have_more};
 pub use crate::waiting::longest_wait;
 pub use crate::wording::{put_around, put_pieces};

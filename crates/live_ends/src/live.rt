@@ -4,7 +4,7 @@ ghost use Rattle.std.specs.Prelude.{◌≡◌};
 use crate::address_words::AddressWord;
 use crate::clock::LiveClock;
 use crate::ending::CommonEnding;
-use crate::readiness::Readiness;
+use crate::readiness::{Readiness, may_have_more};
 use live_outlets::boxed;
 use mio::net::UdpSocket;
 use std::alloc::Global;
@@ -126,7 +126,10 @@ impl<'a, R: Net + Clock> Live<'a, R> {
 }
 
 impl<R: Net + Clock> Surroundings for Live<'_, R> {
-    ghost use Rattle.std.specs.Prelude.{⊤};
+    ghost use Rattle.std.specs.Prelude.{◌≡◌, ⊤, ℕ, Result};
+    ghost use Rattle.std.specs.declared.io.Error.{Error};
+    ghost use Rattle.std.specs.declared.net.socket_addr.SocketAddr.{SocketAddr};
+    ghost use Rattle.live_ends.specs.Looking.{heard_of, heard_by};
     ghost use Rattle.surroundings.specs.Sending.{untold};
 
     ghost traffic = { λ live. untold };
@@ -145,7 +148,8 @@ impl<R: Net + Clock> Surroundings for Live<'_, R> {
 
     ghost sends = { λ was to bytes outcome is. ⊤ };
 
-    ghost hears = { λ was given room is. ⊤ };
+    ghost hears = { λ was given room is. (gave : Result (ℕ × SocketAddr) Error) × (given ≡ heard_of gave)
+        × (is ≡ record was { ready = is.ready }) × (is.ready.value ≡ heard_by gave was.ready.value) };
 
     ghost answers = { λ was to text is. ⊤ };
 
@@ -204,8 +208,8 @@ impl<R: Net + Clock> Surroundings for Live<'_, R> {
     fn hear(&mut self, room: &mut [u8]) -> Option<(SocketAddr, usize)> {
         match self.commands.recv_from(room) {
             Ok((len, source)) => Some((source, len)),
-            Err(_) => {
-                self.ready.commands = false;
+            Err(fault) => {
+                self.ready.commands = may_have_more(fault.kind());
                 None
             }
         }

@@ -1,6 +1,6 @@
 //! Which sockets may have something, as the system tells it.
 ghost use Rattle.std.specs.Prelude.{◌≡◌, replicate};
-ghost use Rattle.live_ends.specs.Looking.{no_visit, has_visits};
+ghost use Rattle.live_ends.specs.Looking.{no_visit, has_visits, may_have_more};
 
 use live_outlets::boxed;
 use mio::net::{TcpListener, TcpStream, UdpSocket};
@@ -56,6 +56,17 @@ fn watch_both(poll: &Poll, socket: &mut UdpSocket, commands: &mut UdpSocket) -> 
         Ok(()) => registry.register(commands, Token(COMMANDS), Interest::READABLE),
         Err(fault) => Err(fault),
     }
+}
+
+/// Whether a socket may have something that failed so: only where a look would have waited it is empty.
+#[tactic(auto, unfolding(crate::specs::Looking::may_have_more))]
+pub fn may_have_more(kind: ErrorKind) -> bool
+    ensures { result ≡ may_have_more kind }
+{
+    if kind == ErrorKind::WouldBlock {
+        return false;
+    }
+    true
 }
 
 impl Readiness {
