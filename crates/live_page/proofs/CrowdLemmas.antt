@@ -17,7 +17,7 @@ use Rattle.page_access.specs.Seating.{count_if, held_by, seated_at, AreFew}
 use Rattle.page_access.proofs.SeatingLaws.{none_few, seated_few}
 use Rattle.page_board.specs.Showing.{BoardState}
 use Rattle.live_page.specs.declared.site.Came.{Came}
-use Rattle.live_page.specs.declared.site.Came.TheVariants.{Nobody, LetIn, TurnedAway}
+use Rattle.live_page.specs.declared.site.Came.TheVariants.{Nobody, Refused, LetIn, TurnedAway}
 use Rattle.live_page.specs.declared.site.Site.{Site}
 use Rattle.live_page.specs.declared.visitor.Visitor.{Visitor}
 use Rattle.live_page.specs.Visiting.{noted, EndsTurn, ReadsOnce, ReadsSo, TakesTurn, WritesOnce, WritesSo, WritesTurn}
@@ -101,10 +101,11 @@ seated_there (Some place) host now were are seats =
 
 lets_few : (now : ℕ) (came : Came) (was is : Site) → LetsIn now came was is → AreFew (seats_in was.places.items) → AreFew (seats_in is.places.items)
 lets_few now Nobody was is lets few = subst (λ (places : List (Option (Box Visitor))). AreFew (seats_in places)) (sym lets.0) few
+lets_few now Refused was is lets few = subst (λ (places : List (Option (Box Visitor))). AreFew (seats_in places)) (sym lets.0) few
 lets_few now LetIn was is lets few =
-    let host = host_of lets.2.0 in
+    let host = host_of lets.3.0 in
     subst (λ (seats : List (Option Seat)). AreFew seats)
-    (sym (seated_there (place_for (seats_in was.places.items) host) host now was.places.items is.places.items lets.2.1))
+    (sym (seated_there (place_for (seats_in was.places.items) host) host now was.places.items is.places.items lets.3.1))
     (seated_few (seats_in was.places.items) host now few)
 lets_few now TurnedAway was is lets few = subst (λ (places : List (Option (Box Visitor))). AreFew (seats_in places)) (sym lets.2) few
 

@@ -47,11 +47,12 @@ seats_nowhere found host now place visitor were some new past =
 
 -- somebody has come, and is served
 pub let_in : (now : ℕ) (host : Ipv4Addr) (source : SocketAddr) (was is : Site) → host ≡ host_of source → was.may_accept ≡ true
-    → is.may_accept ≡ was.may_accept
+    → is.may_accept ≡ was.may_accept → is.again ≡ was.again
     → SeatsAt (place_for (map seat_in was.places.items) host) host now was.places.items is.places.items → LetsIn now LetIn was is
-let_in now host source was is from may still seats = (
+let_in now host source was is from may still again seats = (
   may,
   still ∙ may,
+  again,
   (
     source,
     subst (λ (h : Ipv4Addr). SeatsAt (place_for (map seat_in was.places.items) h) h now was.places.items is.places.items) from seats,

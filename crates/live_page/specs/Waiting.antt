@@ -1,4 +1,4 @@
--- Until when visitors are waited for, and whose turn it is.
+-- Until when it is waited, for visitors and for whom the system refused to let in, and whose turn it is.
 use Rattle.std.specs.Prelude.{ℕ, ◌+◌, min, nat_le, nat_lt, Bool, true, false, ◌&&◌, if◌then◌else◌, List, [], ◌∷◌, Option, Some, None}
 use Rattle.std.specs.Option.{option_or}
 use Rattle.std.specs.Global.{Box}
@@ -13,6 +13,15 @@ abbrev pub sooner : Option ℕ → Option ℕ → Option ℕ
 sooner next None = next
 sooner None (Some deadline) = Some deadline
 sooner (Some next) (Some deadline) = Some (min next deadline)
+
+-- a moment, where one is meant, is over
+abbrev pub is_over : ℕ → Option ℕ → Bool
+is_over now None = false
+is_over now (Some moment) = nat_le moment now
+
+-- and is meant no longer then
+abbrev pub left_over : ℕ → Option ℕ → Option ℕ
+left_over now moment = if is_over now moment then None else moment
 
 -- the first moment at which the time of somebody is over who has one of these places, or the one that was found before
 unfoldable pub soonest_from : Option ℕ → List (Option (Box Visitor)) → Option ℕ

@@ -6,7 +6,7 @@ ghost use Rattle.std.specs.Prelude.{Option, Some, None, Ok, Err};
 ghost use Rattle.std.specs.Global.{Box};
 ghost use Rattle.std.specs.IoError.{error_kind};
 ghost use Rattle.std.specs.declared.io.Error.{Error};
-ghost use Rattle.std.specs.declared.io.ErrorKind.TheVariants.{ConnectionReset, WouldBlock};
+ghost use Rattle.std.specs.declared.io.ErrorKind.TheVariants.{ConnectionReset, Interrupted, Uncategorized, WouldBlock};
 ghost use Rattle.std.specs.declared.net.ipv4_addr.Ipv4Addr.{Ipv4Addr};
 ghost use Rattle.std.specs.declared.net.socket_addr.SocketAddr.TheVariants.{V4};
 ghost use Rattle.std.specs.declared.net.socket_addr.SocketAddrV4.{SocketAddrV4};
@@ -27,7 +27,7 @@ ghost use Rattle.page_access.specs.declared.route.Route.TheVariants.{Events, Pho
 ghost use Rattle.page_answers.specs.declared.answers.ActOutcome.TheVariants.{Queued, NoRoom, Unreadable};
 ghost use Rattle.live_page.specs.declared.fields.Content.TheVariants as contents;
 ghost use Rattle.live_page.specs.declared.site.Came.{Came};
-ghost use Rattle.live_page.specs.declared.site.Came.TheVariants.{LetIn, TurnedAway};
+ghost use Rattle.live_page.specs.declared.site.Came.TheVariants.{Nobody, Refused, LetIn, TurnedAway};
 ghost use Rattle.live_page.specs.declared.site.Site.{Site};
 ghost use Rattle.live_page.specs.declared.visitor.Visitor.{Visitor};
 ghost use Rattle.live_page.specs.Fields.{kind_of, policy, kind_fields, fields_at};
@@ -37,10 +37,10 @@ ghost use Rattle.live_page.specs.Serving.{file_at};
 ghost use Rattle.live_page.specs.Visiting.{calls_of, noted, patience_from, AnsweredAt, AnswersAll, AnswersBy, CanRead, CanWrite};
 ghost use Rattle.live_page.specs.Visiting.{EndsTurn, IsAnswered, IsNew};
 ghost use Rattle.live_page.specs.Visiting.{ReadsOnce, ReadsSo, TakesTurn, WritesOnce, WritesSo, WritesTurn};
-ghost use Rattle.live_page.specs.Receiving.{host_of, noted_each, seat_in, visitor_in, with_place, IsOpened, LetsIn, SeatsAt};
+ghost use Rattle.live_page.specs.Receiving.{host_of, noted_each, seat_in, visitor_in, with_place, came_by, IsOpened, LetsIn, SeatsAt};
 ghost use Rattle.live_page.specs.Receiving.{ServesNext, ServesPlace};
 ghost use Rattle.live_page.specs.Example.{readable, writable};
-ghost use Rattle.live_page.specs.Waiting.{sooner, soonest_from, is_late, stays_at, next_turn};
+ghost use Rattle.live_page.specs.Waiting.{sooner, soonest_from, is_over, left_over, is_late, stays_at, next_turn};
 
 /// Each sentence at an example.
 pub fn each_sentence_has_an_example()
@@ -75,6 +75,11 @@ pub fn further_sentences_have_examples()
     ensures nobody_before { sooner None (Some 20) ≡ Some 20 }
     ensures the_first_is_waited_for_free { sooner (Some 20) None ≡ Some 20 }
     ensures the_first_is_waited_for_nobody { soonest_from None (None ∷ None ∷ []) ≡ None }
+    ensures asked_again { soonest_from (Some 105) (None ∷ None ∷ []) ≡ Some 105 }
+    ensures is_asked_again { map (λ now. is_over now (Some 105)) (104 ∷ 105 ∷ 106 ∷ []) ≡ false ∷ true ∷ true ∷ [] }
+    ensures none_is_over { is_over 104 None ≡ false }
+    ensures asked_once { left_over 105 (Some 105) ≡ None }
+    ensures not_asked_yet { left_over 104 (Some 105) ≡ Some 105 }
     // Whose time is over at this very ms goes, and nobody before.
     ensures late { (visitor : Box Visitor) → visitor.value.deadline ≡ 15000 → is_late 15000 (Some visitor) ≡ true }
     ensures not_yet { (visitor : Box Visitor) → visitor.value.deadline ≡ 15000 → is_late 14999 (Some visitor) ≡ false }
@@ -190,7 +195,7 @@ pub fn who_has_a_turn_has_examples()
 /// Where nobody may come nobody does.
 pub fn who_has_places_has_examples()
     ensures opened { (site : Site) → IsOpened (codes "rgw" ∷ []) site → (length site.places.items ≡ 16) × (site.may_accept ≡ true)
-        × (site.last ≡ 0) }
+        × (site.last ≡ 0) × (site.again ≡ None) }
     ensures each { (one two : Visitor) → noted_each (Some one ∷ None ∷ Some two ∷ []) (no_visit ∷ readable ∷ readable ∷ [])
         ≡ Some one ∷ None ∷ Some (noted readable two) ∷ [] }
     ensures untold { (one : Visitor) → noted_each (Some one ∷ []) [] ≡ Some one ∷ [] }
@@ -202,9 +207,13 @@ pub fn who_has_places_has_examples()
         → (visitor : Box Visitor) × (visitor.value.seat.active ≡ 5) × (are ≡ Some one ∷ Some visitor ∷ []) }
     ensures unseated { (host : Ipv4Addr) (were are : List (Option (Box Visitor))) → SeatsAt None host 5 were are → are ≡ were }
     ensures nobody { (came : Came) (was is : Site) → was.may_accept ≡ false → LetsIn 5 came was is
-        → (is.places.items ≡ was.places.items) × (is.may_accept ≡ false) }
-    ensures let_in { (was is : Site) → LetsIn 5 LetIn was is → is.may_accept ≡ true }
-    ensures turned_away { (was is : Site) → LetsIn 5 TurnedAway was is → (is.places.items ≡ was.places.items) × (is.may_accept ≡ true) }
+        → (is.places.items ≡ was.places.items) × (is.may_accept ≡ false) × (is.again ≡ was.again) }
+    ensures let_in { (was is : Site) → LetsIn 5 LetIn was is → (is.may_accept ≡ true) × (is.again ≡ was.again) }
+    ensures refused { (was is : Site) → LetsIn 5 Refused was is → (is.may_accept ≡ false) × (is.again ≡ Some 105)
+        × (is.places.items ≡ was.places.items) }
+    ensures turned_away { (was is : Site) → LetsIn 5 TurnedAway was is → (is.places.items ≡ was.places.items) × (is.may_accept ≡ true)
+        × (is.again ≡ was.again) }
+    ensures faults { map came_by (WouldBlock ∷ Interrupted ∷ Uncategorized ∷ []) ≡ Nobody ∷ Refused ∷ Refused ∷ [] }
 {}
 
 /// Whoever has the place whose turn it is has one, and nobody else's place changes; where there is nobody, or it is nobody's turn, or the

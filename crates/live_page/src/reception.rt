@@ -30,7 +30,7 @@ pub trait Reception: Drop {
     /// A visitor has more to do at once, or somebody may have come.
     ghost busy: { Self → Bool };
 
-    /// The moment at which somebody's time is over, in ms, if there is one.
+    /// The moment at which somebody's time is over, or the system is asked again for whom it refused, in ms, if there is one.
     ghost closes: { Self → Option ℕ };
 
     /// It had a turn at this moment, in ms, and a visitor was answered by this board, if one was.
@@ -54,7 +54,7 @@ pub trait Reception: Drop {
     fn is_busy(&self) -> bool
         ensures { result ≡ busy self.now };
 
-    /// The moment at which somebody's time is over, in ms.
+    /// The moment at which somebody's time is over, or the system is asked again for whom it refused, in ms.
     fn next_deadline(&self) -> Option<u64>
         ensures { result ≡ closes self.now };
 

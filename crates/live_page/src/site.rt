@@ -1,30 +1,36 @@
 //! The site: the socket at which browsers ask for the page, and whose turn it is.
-ghost use Rattle.std.specs.Prelude.{◌≡◌, ◌||◌, None, IfNone, IfOk, IfSome, IsSomeAnd, OnSome, false, map, replicate, slice_get};
+ghost use Rattle.std.specs.Prelude.{◌≡◌, ◌||◌, None, IfNone, IfOk, IfSome, IsSomeAnd, OnSome, true, map, replicate, slice_get};
 ghost use Rattle.live_ends.specs.Looking.{no_visit};
 ghost use Rattle.page_access.specs.Naming.{names_of};
 ghost use Rattle.page_access.specs.Places.{place_for};
-ghost use Rattle.live_page.specs.Receiving.{host_of, seat_in, visitor_in, noted_each, with_place};
+ghost use Rattle.live_page.specs.Receiving.{host_of, seat_in, visitor_in, noted_each, with_place, came_by};
 ghost use Rattle.live_page.specs.Receiving.{SeatsAt, LetsIn, ServesPlace, ServesNext};
-ghost use Rattle.live_page.specs.Waiting.{stays_at, is_behind, turn_from, next_turn};
+ghost use Rattle.live_page.specs.Waiting.{stays_at, is_behind, turn_from, next_turn, is_over, left_over};
 
 use crate::desk::Desk;
 use crate::reception::Reception;
 use crate::visitor::Visitor;
-use live_ends::{MOST_VISITORS, Readiness, Visit};
+use live_ends::{MOST_VISITORS, Readiness, Visit, may_have_more};
 use mio::net::{TcpListener, TcpStream};
 use page_access::{HostNames, Seat, place_for};
 use page_board::Board;
 use std::alloc::{AllocError, Global};
 use std::hash::RandomState;
 use std::io;
+use std::io::ErrorKind;
 use std::net::{Ipv4Addr, Net, SocketAddr, SocketAddrV4};
 use std::random::RandomSource;
+
+// Where the system refuses to let somebody in who has come, it is asked again so long afterwards, in ms.
+const AGAIN: u64 = 100;
 
 /// What becomes of looking for somebody who comes.
 #[derive(Clone, Copy)]
 pub enum Came {
     /// Nobody has come.
     Nobody,
+    /// Somebody may have, but the system refuses to let them in now.
+    Refused,
     /// Somebody has, who is served.
     LetIn,
     /// Somebody has, who can't be served, for want of memory, or since the system refuses.
@@ -42,6 +48,8 @@ pub struct Site {
     places: Vec<Option<Box<Visitor>>>,
     // Whether somebody may have come.
     may_accept: bool,
+    // The moment, in ms, at which somebody may have come whom the system refused to let in.
+    again: Option<u64>,
     // The place whose turn was last.
     last: usize,
 }
@@ -56,6 +64,7 @@ impl Drop for Site {
             names,
             places,
             may_accept: _,
+            again: _,
             last: _,
         } = self;
         drop(listener);
@@ -81,6 +90,23 @@ fn is_behind(last: Option<usize>, place: usize) -> bool
         Some(last) => last < place,
         None => true,
     }
+}
+
+// Whether a moment, where one is meant, is over.
+fn is_over(now: u64, moment: Option<u64>) -> bool
+    ensures { result ≡ is_over now moment }
+{
+    match moment {
+        Some(moment) => moment <= now,
+        None => false,
+    }
+}
+
+// It is meant no longer once it is over.
+fn left_over(now: u64, moment: Option<u64>) -> Option<u64>
+    ensures { result ≡ left_over now moment }
+{
+    if is_over(now, moment) { None } else { moment }
 }
 
 // The first place behind this one, where one is meant, whose visitor has more to do.
@@ -151,15 +177,18 @@ impl Site {
         }
     }
 
-    /// Those whose time is over go.
+    /// Those whose time is over go. Nor is it waited any longer for whom the system refused to let in, where that time is over.
     pub fn close_late(&mut self, now: u64)
         ensures places { self.new.places.items ≡ map (stays_at now) self.old.places.items }
         ensures last { self.new.last ≡ self.old.last }
-        ensures accepting { self.new.may_accept ≡ self.old.may_accept }
+        ensures accepting { self.new.may_accept ≡ (self.old.may_accept || is_over now self.old.again) }
+        ensures again { self.new.again ≡ left_over now self.old.again }
         ensures address { self.new.address ≡ self.old.address }
         ensures listener { self.new.listener ≡ self.old.listener }
         ensures names { self.new.names ≡ self.old.names }
     {
+        self.may_accept = self.may_accept || is_over(now, self.again);
+        self.again = left_over(now, self.again);
         for place in self.places.iter_mut() {
             if let Some(visitor) = place
                 && visitor.deadline <= now
@@ -174,6 +203,7 @@ impl Site {
         ensures address { self.new.address ≡ self.old.address }
         ensures names { names_of self.new.names ≡ names_of self.old.names }
         ensures last { self.new.last ≡ self.old.last }
+        ensures again { self.new.again ≡ self.old.again }
         ensures noted { map visitor_in self.new.places.items ≡ noted_each (map visitor_in self.old.places.items) ready.old.visits }
         ensures accepting { self.new.may_accept ≡ (self.old.may_accept || ready.old.listener) }
         ensures forgotten { ready.new ≡ record ready.old { listener = false; visits = replicate MOST_VISITORS no_visit } }
@@ -214,6 +244,7 @@ impl Site {
         ensures names { names_of self.new.names ≡ names_of self.old.names }
         ensures last { self.new.last ≡ self.old.last }
         ensures accepting { self.new.may_accept ≡ self.old.may_accept }
+        ensures again { self.new.again ≡ self.old.again }
         ensures served { OnSome result (SeatsAt (place_for (map seat_in self.old.places.items) host) host now self.old.places.items
             self.new.places.items) }
         ensures refused { IfNone result (self.new.places.items ≡ self.old.places.items) }
@@ -239,6 +270,22 @@ impl Site {
         Some(())
     }
 
+    // Nobody was let in: nobody has come, or the system refuses, and is asked again a little later.
+    fn let_nobody_in(&mut self, kind: ErrorKind, now: u64) -> Came
+        ensures came { result ≡ came_by kind }
+        ensures lets { self.old.may_accept ≡ true → LetsIn now result self.old self.new }
+        ensures address { self.new.address ≡ self.old.address }
+        ensures names { names_of self.new.names ≡ names_of self.old.names }
+        ensures last { self.new.last ≡ self.old.last }
+    {
+        self.may_accept = false;
+        if may_have_more(kind) {
+            self.again = Some(now.saturating_add(AGAIN));
+            return Came::Refused;
+        }
+        Came::Nobody
+    }
+
     /// Takes somebody who has come, if anybody has.
     #[tactic(auto, using(crate::proofs::ReceivingLemmas::let_in))]
     pub fn accept<R: RandomSource>(&mut self, rt: &R, ready: &Readiness, now: u64) -> Came
@@ -255,10 +302,7 @@ impl Site {
                 Some(()) => Came::LetIn,
                 None => Came::TurnedAway,
             },
-            Err(_) => {
-                self.may_accept = false;
-                Came::Nobody
-            }
+            Err(fault) => self.let_nobody_in(fault.kind(), now),
         }
     }
 
@@ -287,7 +331,7 @@ impl Site {
 }
 
 impl Reception for Site {
-    ghost use Rattle.std.specs.Prelude.{◌||◌, None, is_some};
+    ghost use Rattle.std.specs.Prelude.{◌||◌, is_some};
     ghost use Rattle.live_page.specs.Receiving.{IsOpened, ServesOne};
     ghost use Rattle.live_page.specs.Waiting.{soonest_from, next_turn};
 
@@ -297,7 +341,7 @@ impl Reception for Site {
 
     ghost busy = { λ site. site.may_accept || is_some (next_turn site.last site.places.items) };
 
-    ghost closes = { λ site. soonest_from None site.places.items };
+    ghost closes = { λ site. soonest_from site.again site.places.items };
 
     ghost serves = { λ was told board now is after shown. ServesOne was told board now is after shown };
 
@@ -330,6 +374,7 @@ impl Reception for Site {
             names,
             places,
             may_accept: true,
+            again: None,
             last: 0,
         })
     }
@@ -344,7 +389,7 @@ impl Reception for Site {
 
     #[tactic(auto, unfolding(crate::specs::Waiting::soonest_from))]
     fn next_deadline(&self) -> Option<u64> {
-        let mut next: Option<u64> = None;
+        let mut next = self.again;
         for held in self.places.as_slice() {
             if let Some(visitor) = held {
                 next = match next {
