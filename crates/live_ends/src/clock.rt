@@ -8,7 +8,7 @@ use std::time::{Instant, SystemTime};
 pub struct LiveClock<'a, R> {
     rt: &'a R,
     start: Instant,
-    // The time of day at the start, in microseconds since 1970; 0 where the machine had none.
+    // The time of day at the start, in microseconds since 1970; 0 where the machine had none. It goes on from there while it has none.
     opened: u64,
 }
 
@@ -47,8 +47,12 @@ impl<'a, R: Clock> LiveClock<'a, R> {
         Ok(())
     }
 
-    /// What time it is, in microseconds since 1970 began, in UTC. A change of the time of day since the start isn't in it.
+    /// What time it is, in microseconds since 1970 began, in UTC: the machine's time of day, wherever that was set. While the machine has
+    /// none it goes on from that of the start.
     pub fn time(&self) -> u64 {
+        if let Some(time) = time_of_day(self.rt) {
+            return time;
+        }
         let passed = match self.start.elapsed(self.rt) {
             Ok(passed) => u64::try_from(passed.as_micros()).unwrap_or(0),
             Err(_) => 0,

@@ -5,6 +5,6 @@
 pub struct Now {
     /// The moment to which ticks have come, in ms.
     pub clock: u64,
-    /// Microseconds since 1970 began, in UTC. A change of the time of day since the start isn't in it.
+    /// Microseconds since 1970 began, in UTC. It may be set meanwhile, on or back.
     pub time: u64,
 }

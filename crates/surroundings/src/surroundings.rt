@@ -62,7 +62,7 @@ pub trait Surroundings {
     fn moment(&self) -> Result<u64, Fault>
         ensures { passes self.now result };
 
-    /// What time it is, in microseconds since 1970 began, in UTC. A change of the time of day since the start isn't in it.
+    /// What time it is, in microseconds since 1970 began, in UTC. It may be set meanwhile, on or back; moments aren't.
     fn time(&self) -> u64
         ensures { dates self.now result };
 

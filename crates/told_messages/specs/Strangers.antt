@@ -1,5 +1,5 @@
 -- What the log says of who may not speak.
-use Rattle.std.specs.Prelude.{ℕ, not, ◌||◌, nat_lt, if◌then◌else◌, List, [], Option, Some, None}
+use Rattle.std.specs.Prelude.{ℕ, Bool, not, ◌&&◌, ◌||◌, nat_le, nat_lt, if◌then◌else◌, List, [], Option, Some, None}
 use Rattle.std.specs.declared.net.socket_addr.SocketAddrV4.{SocketAddrV4}
 use Rattle.exchange_log.specs.declared.note.Note.TheVariants as notes
 use Rattle.exchange_log.specs.Lines.{note_line}
@@ -16,14 +16,18 @@ use Rattle.told_messages.specs.declared.strangers.Quiet.{Quiet}
 abbrev pub between : ℕ
 between = 1000000
 
+-- nobody is told of yet at a time; where the time of day was set back that lasts no longer than it would have
+abbrev pub lasts : Quiet → ℕ → Bool
+lasts quiet time = nat_lt time quiet.next && nat_le quiet.next (sum_within time between)
+
 -- one who comes at a time is told of, where that is past, and then of how many before it isn't
 abbrev pub told_at : Quiet → ℕ → Option ℕ
-told_at quiet time = if nat_lt time quiet.next then None else Some quiet.untold
+told_at quiet time = if lasts quiet time then None else Some quiet.untold
 
 -- and one who isn't is counted until then
 abbrev pub quiet_after : Quiet → ℕ → Quiet
 quiet_after quiet time =
-    if nat_lt time quiet.next then record quiet { untold = counted quiet.untold 1 }
+    if lasts quiet time then record quiet { untold = counted quiet.untold 1 }
     else record { next = sum_within time between; untold = 0 }
 
 abbrev pub text_of_stranger : ℕ → SocketAddrV4 → Option ℕ → List ℕ

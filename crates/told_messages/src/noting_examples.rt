@@ -45,6 +45,10 @@ pub fn each_note_is_told()
     ensures counted { quiet_after (quiet_until 1000005 15) 1000004 ≡ quiet_until 1000005 16 }
     ensures a_second_later { told_at (quiet_until 1000005 16) 1000005 ≡ Some 16 }
     ensures anew { quiet_after (quiet_until 1000005 16) 1000005 ≡ quiet_until 2000005 0 }
+    // Where the time of day was set back the next one is told of.
+    ensures set_back { told_at (quiet_until 9000005 16) 8000004 ≡ Some 16 }
+    ensures anew_then { quiet_after (quiet_until 9000005 16) 8000004 ≡ quiet_until 9000004 0 }
+    ensures not_set_back { told_at (quiet_until 9000005 16) 8000005 ≡ None }
     // That no answer is heard is noted of commands of its own to who may not speak.
     ensures command { unheard_text (with_host nobody (host 7).ip) 0 (said (host 9) (whats.Command Ntfy))
         ≡ note_line (record { moment = 0; peer = host 9 }) (notes.Unheard (host 9).ip) }

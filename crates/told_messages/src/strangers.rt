@@ -3,7 +3,7 @@ ghost use Rattle.std.specs.Prelude.{◌≡◌, ◌++◌, OnOk};
 ghost use Rattle.std.specs.List.{flat_map};
 ghost use Rattle.surroundings.specs.Speaking.{admitted_by};
 ghost use Rattle.told_messages.specs.Recording.{Records};
-ghost use Rattle.told_messages.specs.Strangers.{told_at, quiet_after, unheard_text, text_of_stranger, stranger_text};
+ghost use Rattle.told_messages.specs.Strangers.{lasts, told_at, quiet_after, unheard_text, text_of_stranger, stranger_text};
 
 use crate::log::Log;
 use exchange_log::{Note, Stamp, put_note};
@@ -30,12 +30,20 @@ impl Quiet {
     /// The first stranger is told of at once.
     pub const NONE: Quiet = Quiet { next: 0, untold: 0 };
 
+    // Whether nobody is told of yet at this time, in microseconds since 1970. Where the time of day was set back it lasts no longer than it
+    // would have.
+    fn lasts(&self, time: u64) -> bool
+        ensures { result ≡ lasts self.now time }
+    {
+        time < self.next && self.next <= time.saturating_add(BETWEEN)
+    }
+
     /// A stranger's datagram comes at this time, in microseconds since 1970: of how many before it wasn't told, where it is told of.
     pub fn comes(&mut self, time: u64) -> Option<u64>
         ensures told { result ≡ told_at self.old time }
         ensures after { self.new ≡ quiet_after self.old time }
     {
-        if time < self.next {
+        if self.lasts(time) {
             count(&mut self.untold);
             return None;
         }
