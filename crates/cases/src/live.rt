@@ -62,6 +62,7 @@ impl Recorder<Trace> for Records {
             return;
         }
         self.keep_trace(trace);
+        self.keep_day(&journal.log.record);
         self.keep(b"log ", &mut journal.log.record);
         self.keep_capture(&mut journal.capture.record);
         journal.written = self.written;

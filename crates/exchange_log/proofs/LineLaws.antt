@@ -16,7 +16,7 @@ use Rattle.exchange_log.specs.declared.stamp.Way.{Way}
 use Rattle.exchange_log.specs.declared.stamp.Way.TheVariants.{Came, Sent}
 use Rattle.exchange_log.specs.declared.note.Note.{Note}
 use Rattle.exchange_log.specs.declared.note.Notice.{Notice}
-use Rattle.exchange_log.specs.declared.note.Notice.TheVariants.{Dropped}
+use Rattle.exchange_log.specs.declared.note.Notice.TheVariants.{Dropped, SetOn, SetBack}
 use Rattle.exchange_log.specs.declared.note.Note.TheVariants.{AnsweredAgain, Unanswered, SentAgain, Refused, Unreadable, TooLong, Unsent, OutOfMemory, Lost, Late, Copied, Stranger, Unheard, NoRoom}
 use Rattle.exchange_log.specs.Escaping.{shown, escaped, is_text, IsLine}
 use Rattle.exchange_log.specs.Calendar.{is_leap, month_lengths, year_in, month_in}
@@ -183,6 +183,8 @@ noted_text (NoRoom young) = around (codes "lost: ") (number_shown young) (codes 
 notice_printable : (notice : Notice) → is_text (notice_text notice) ≡ true
 unfolding notice_text
 notice_printable (Dropped lines) = around (codes "dropped ") (decimal lines) (codes " lines, which nobody took") refl (decimal_text lines) refl
+notice_printable (SetOn ms) = around (codes "the time of day was set on by ") (decimal ms) (codes " ms") refl (decimal_text ms) refl
+notice_printable (SetBack ms) = around (codes "the time of day was set back by ") (decimal ms) (codes " ms") refl (decimal_text ms) refl
 
 -- the lines
 

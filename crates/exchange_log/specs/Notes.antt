@@ -8,7 +8,7 @@ use Rattle.exchange_log.specs.Grouping.{number_shown}
 use Rattle.exchange_log.specs.declared.note.Note.{Note}
 use Rattle.exchange_log.specs.declared.note.Note.TheVariants.{AnsweredAgain, Unanswered, SentAgain, Refused, Unreadable, TooLong, Unsent, OutOfMemory, Lost, Late, Copied, Stranger, Unheard, NoRoom}
 use Rattle.exchange_log.specs.declared.note.Notice.{Notice}
-use Rattle.exchange_log.specs.declared.note.Notice.TheVariants.{Dropped}
+use Rattle.exchange_log.specs.declared.note.Notice.TheVariants.{Dropped, SetOn, SetBack}
 
 -- what the standard says of a return code, if it is one of this gateway's
 abbrev pub words_from : Option ReturnCode → List ℕ
@@ -38,6 +38,8 @@ note_text (Stranger untold) = codes "a stranger's, not heard" ++ untold_text unt
 note_text (Unheard host) = codes "no answer is heard from there, but with --agents " ++ ipv4_text (ipv4_octets host)
 note_text (NoRoom young) = codes "lost: " ++ number_shown young ++ codes " commands are young"
 
--- what a notice says: lines of the log weren't kept, since what was written before them wasn't taken
+-- what a notice says: lines of the log weren't kept, since what was written before them wasn't taken; or the machine's time of day was set
 unfoldable pub notice_text : Notice → List ℕ
 notice_text (Dropped lines) = codes "dropped " ++ decimal lines ++ codes " lines, which nobody took"
+notice_text (SetOn ms) = codes "the time of day was set on by " ++ decimal ms ++ codes " ms"
+notice_text (SetBack ms) = codes "the time of day was set back by " ++ decimal ms ++ codes " ms"

@@ -3,7 +3,7 @@
 
 ghost use Rattle.std.specs.Prelude.{◌≡◌, ◌++◌, codes, [], ◌∷◌, None, Some};
 ghost use Rattle.exchange_log.specs.declared.note.Note.TheVariants as notes;
-ghost use Rattle.exchange_log.specs.declared.note.Notice.TheVariants.{Dropped};
+ghost use Rattle.exchange_log.specs.declared.note.Notice.TheVariants.{Dropped, SetOn, SetBack};
 ghost use Rattle.exchange_log.specs.declared.stamp.Way.TheVariants.{Came, Sent};
 ghost use Rattle.exchange_log.specs.Escaping.{escaped, shown};
 ghost use Rattle.exchange_log.specs.Grouping.{grouped, number_shown};
@@ -167,6 +167,8 @@ pub fn notes_have_examples()
     ensures no_room { note_text (notes.NoRoom 4096) ≡ codes "lost: 4,096 commands are young" }
     // What is noted of the program itself, of each kind.
     ensures dropped { notice_text (Dropped 1234) ≡ codes "dropped 1234 lines, which nobody took" }
+    ensures set_on { notice_text (SetOn 3600000) ≡ codes "the time of day was set on by 3600000 ms" }
+    ensures set_back { notice_text (SetBack 1001) ≡ codes "the time of day was set back by 1001 ms" }
     ensures line { notice_line noon (Dropped 1) ≡ codes "1970-01-02T12:03:07.123Z ! dropped 1 lines, which nobody took\n" }
 {}
 

@@ -47,6 +47,10 @@ pub enum Note {
 pub enum Notice {
     /// So many lines of the log weren't kept, since what was written before them wasn't taken.
     Dropped { lines: u64 },
+    /// The machine's time of day was set on, by so many ms.
+    SetOn { ms: u64 },
+    /// The machine's time of day was set back, by so many ms.
+    SetBack { ms: u64 },
 }
 
 // Pieces around a number.
@@ -149,5 +153,7 @@ pub(crate) fn put_notice_text(out: &mut Draft, notice: Notice)
         Notice::Dropped { lines } => {
             put_around(out, b"dropped ", lines, b" lines, which nobody took")
         }
+        Notice::SetOn { ms } => put_around(out, b"the time of day was set on by ", ms, b" ms"),
+        Notice::SetBack { ms } => put_around(out, b"the time of day was set back by ", ms, b" ms"),
     }
 }

@@ -1,6 +1,7 @@
 pub mod Parting
 pub mod Looking
 pub mod Waiting
+pub mod Days
 pub mod AddressWords
 pub mod NetworkFaults
 pub mod Wording

@@ -7,6 +7,8 @@ ghost use Rattle.std.specs.declared.io.Error.{Error};
 ghost use Rattle.std.specs.declared.io.ErrorKind.TheVariants.{WouldBlock, Interrupted, Uncategorized};
 ghost use Rattle.std.specs.declared.net.socket_addr.SocketAddr.{SocketAddr};
 ghost use Rattle.live_ends.specs.declared.readiness.Readiness.{Readiness};
+ghost use Rattle.exchange_log.specs.declared.note.Notice.TheVariants.{SetOn, SetBack};
+ghost use Rattle.live_ends.specs.Days.{jump_from};
 ghost use Rattle.live_ends.specs.Parting.{number_behind, numbered, is_old, is_full};
 ghost use Rattle.live_ends.specs.Looking.{no_visit, has_visits, may_have_more, heard_of, heard_by};
 ghost use Rattle.live_ends.specs.Waiting.{longest_wait};
@@ -39,6 +41,11 @@ pub fn each_sentence_has_an_example()
     ensures room { is_full 100 60 40 ≡ false }
     ensures the_oldest_file_goes_no_room { is_full 100 60 41 ≡ true }
     ensures alone { is_full 100 0 500 ≡ false }
+    // The time of day was set where it parts from the clock by more than a second.
+    ensures set_on { jump_from 5000000 6001999 ≡ Some (SetOn 1001) }
+    ensures set_back { jump_from 6001999 5000000 ≡ Some (SetBack 1001) }
+    ensures not_on { jump_from 5000000 6000000 ≡ None }
+    ensures not_back { jump_from 6000000 5000000 ≡ None }
     // A loop waits as long as it has nothing to do, but for 20 ms at most where something waits to be taken.
     ensures nothing_waits { longest_wait false 700 ≡ 700 }
     ensures something_waits { longest_wait true 700 ≡ 20 }

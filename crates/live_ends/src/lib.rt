@@ -7,6 +7,7 @@
 mod address_words;
 mod asking;
 mod clock;
+mod day;
 mod ending;
 pub mod ending_examples;
 pub mod examples;
@@ -23,6 +24,7 @@ mod wording;
 pub use crate::address_words::AddressWord;
 pub use crate::asking::{AskFault, ask};
 pub use crate::clock::{LiveClock, time_of_day};
+pub use crate::day::DayWatch;
 pub use crate::ending::{About, CommonEnding, FileNames, VERSION, address_in, network_in};
 pub use crate::files::read_file;
 pub use crate::live::{Live, SocketWanted, bind};

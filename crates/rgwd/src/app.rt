@@ -6,7 +6,7 @@ use crate::opening::{admission_of, desk_settings, open_site};
 use crate::reception::PageReception;
 use crate::recording::Recording;
 use gateway_core::Gateway;
-use live_ends::{CommonEnding, Live, begin};
+use live_ends::{CommonEnding, DayWatch, Live, begin};
 use live_gateway::{Desk, agents_line, end_desk, open_desk};
 use live_journal::Trace;
 use live_page::{PageProgram, Reception, run_with_site};
@@ -172,6 +172,7 @@ where
             rt: runtime,
             outlets,
             files: None,
+            days: DayWatch::new(),
         };
         let settings = match asked_by(self.rt, &words, &mut recording.outlets) {
             Ok(settings) => settings,

@@ -1,15 +1,17 @@
 //! What a gateway's records go to: its outlets, and the files of its capture, of which the next is made where one is full.
-use live_ends::CaptureFiles;
+use live_ends::{CaptureFiles, DayWatch};
 use live_journal::{Capture, Journal, Recorder, Trace};
 use live_outlets::{Finisher, Outlets, Written};
 use std::rt::{Clock, Files};
 
-/// The outlets of a program, and the files of its gateway's capture, where that is parted; and what makes these.
+/// The outlets of a program, the files of its gateway's capture, where that is parted, and what makes these; and where its log notes that the
+/// time of day was set.
 #[derive(Drop)]
 pub struct Recording<R: Files> {
     pub rt: R,
     pub outlets: Outlets<R::File>,
     pub files: Option<Box<CaptureFiles>>,
+    pub days: DayWatch,
 }
 
 // What a turn has put goes into the next file, where the one that is written is full, and has taken all that was put before; where that
@@ -44,7 +46,7 @@ fn turn_over<R: Files>(
     files.put(captured.record.out.len());
 }
 
-impl<R: Files> Recorder<Trace> for Recording<R> {
+impl<R: Files + Clock> Recorder<Trace> for Recording<R> {
     ghost use Rattle.std.specs.Prelude.{◌≡◌, ◌&&◌, [], not};
     ghost use Rattle.mg_bytes.specs.Lists.{is_empty};
     ghost use Rattle.live_journal.specs.Writing.{KeepsLog, IsWritten};
@@ -58,6 +60,10 @@ impl<R: Files> Recorder<Trace> for Recording<R> {
     fn write(&mut self, journal: &mut Journal, trace: &mut Trace, time: u64) {
         if let Some(files) = &mut self.files {
             turn_over(&self.rt, files, &mut self.outlets, &mut journal.capture);
+        }
+        let log = &journal.log;
+        if let Some(line) = self.days.line(&self.rt, log.alloc, &log.record) {
+            self.outlets.error.say(line.as_slice());
         }
         journal.write(trace, &mut self.outlets, time);
     }

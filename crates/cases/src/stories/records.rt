@@ -5,7 +5,7 @@ use crate::stories::Transcript;
 use crate::stories::clocks::Clocks;
 use crate::stories::late_log::{LateLog, LateRecord};
 use crate::stories::story::Story;
-use live_ends::CommonEnding;
+use live_ends::{CommonEnding, DayWatch};
 use live_journal::{Journal, Trace};
 use live_outlets::{Finisher, Record, TEXT_ROOM, Written, boxed};
 use std::alloc::{AllocError, Global};
@@ -29,6 +29,7 @@ pub struct Records {
     pub is_counted: bool,
     /// Records that are read late.
     late_log: Option<Box<LateLog>>,
+    days: DayWatch,
 }
 
 // The outlets of a program whose records are read late, where a story says so. What goes to standard output is this.
@@ -58,6 +59,7 @@ impl Records {
             written,
             is_counted: false,
             late_log: None,
+            days: DayWatch::new(),
         }
     }
 
@@ -84,6 +86,13 @@ impl Records {
     pub fn keep(&mut self, before: &[u8], record: &mut Record) {
         self.tell(before, record.out.as_slice());
         record.out.clear();
+    }
+
+    /// Keeps that the time of day was set, where a log has something and that wasn't kept yet.
+    pub fn keep_day(&mut self, log: &Record) {
+        if let Some(line) = self.days.line(self.clocks.as_ref(), self.alloc, log) {
+            self.tell(b"log ", line.as_slice());
+        }
     }
 
     // This is told of a trace.

@@ -129,6 +129,19 @@ fn put_line(
             };
             put_notice(given.alloc, &mut given.bytes, stamp.moment, dropped)
         }
+        // `3600000`: by so many ms.
+        "log set on" => {
+            let set = Notice::SetOn {
+                ms: number_of(given, value),
+            };
+            put_notice(given.alloc, &mut given.bytes, stamp.moment, set)
+        }
+        "log set back" => {
+            let set = Notice::SetBack {
+                ms: number_of(given, value),
+            };
+            put_notice(given.alloc, &mut given.bytes, stamp.moment, set)
+        }
         "log paused" => put_paused(given, stamp.moment, value),
         _ => {
             let note = note_of(given, call, value);
