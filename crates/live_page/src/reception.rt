@@ -30,6 +30,9 @@ pub trait Reception: Drop {
     /// A visitor has more to do at once, or somebody may have come.
     ghost busy: { Self → Bool };
 
+    /// The system refused to let somebody in for want of files, and nobody was let in since.
+    ghost full: { Self → Bool };
+
     /// The moment at which somebody's time is over, or the system is asked again for whom it refused, in ms, if there is one.
     ghost closes: { Self → Option ℕ };
 
@@ -53,6 +56,10 @@ pub trait Reception: Drop {
     /// Whether a visitor has more to do at once, or somebody may have come.
     fn is_busy(&self) -> bool
         ensures { result ≡ busy self.now };
+
+    /// Whether the system refused to let somebody in for want of files, and nobody was let in since.
+    fn is_full(&self) -> bool
+        ensures { result ≡ full self.now };
 
     /// The moment at which somebody's time is over, or the system is asked again for whom it refused, in ms.
     fn next_deadline(&self) -> Option<u64>

@@ -1,5 +1,6 @@
 //! The site: the socket at which browsers ask for the page, and whose turn it is.
 ghost use Rattle.std.specs.Prelude.{◌≡◌, ◌||◌, None, IfNone, IfOk, IfSome, IsSomeAnd, OnSome, true, map, replicate, slice_get};
+ghost use Rattle.std.specs.IoError.{error_kind};
 ghost use Rattle.live_ends.specs.Looking.{no_visit};
 ghost use Rattle.page_access.specs.Naming.{names_of};
 ghost use Rattle.page_access.specs.Places.{place_for};
@@ -17,12 +18,16 @@ use page_board::Board;
 use std::alloc::{AllocError, Global};
 use std::hash::RandomState;
 use std::io;
-use std::io::ErrorKind;
 use std::net::{Ipv4Addr, Net, SocketAddr, SocketAddrV4};
 use std::random::RandomSource;
 
 // Where the system refuses to let somebody in who has come, it is asked again so long afterwards, in ms.
 const AGAIN: u64 = 100;
+
+// By these numbers the system says that there are no more files: of this program, and at all.
+const EMFILE: i32 = 24;
+
+const ENFILE: i32 = 23;
 
 /// What becomes of looking for somebody who comes.
 #[derive(Clone, Copy)]
@@ -50,6 +55,8 @@ pub struct Site {
     may_accept: bool,
     // The moment, in ms, at which somebody may have come whom the system refused to let in.
     again: Option<u64>,
+    // Whether that was for want of files.
+    is_full: bool,
     // The place whose turn was last.
     last: usize,
 }
@@ -65,6 +72,7 @@ impl Drop for Site {
             places,
             may_accept: _,
             again: _,
+            is_full: _,
             last: _,
         } = self;
         drop(listener);
@@ -89,6 +97,14 @@ fn is_behind(last: Option<usize>, place: usize) -> bool
     match last {
         Some(last) => last < place,
         None => true,
+    }
+}
+
+// Whether the system has no more files.
+fn is_full(fault: &io::Error) -> bool {
+    match fault.raw_os_error() {
+        Some(number) => number == EMFILE || number == ENFILE,
+        None => false,
     }
 }
 
@@ -271,15 +287,16 @@ impl Site {
     }
 
     // Nobody was let in: nobody has come, or the system refuses, and is asked again a little later.
-    fn let_nobody_in(&mut self, kind: ErrorKind, now: u64) -> Came
-        ensures came { result ≡ came_by kind }
+    fn let_nobody_in(&mut self, fault: &io::Error, now: u64) -> Came
+        ensures came { result ≡ came_by (error_kind fault.now) }
         ensures lets { self.old.may_accept ≡ true → LetsIn now result self.old self.new }
         ensures address { self.new.address ≡ self.old.address }
         ensures names { names_of self.new.names ≡ names_of self.old.names }
         ensures last { self.new.last ≡ self.old.last }
     {
         self.may_accept = false;
-        if may_have_more(kind) {
+        self.is_full = is_full(fault);
+        if may_have_more(fault.kind()) {
             self.again = Some(now.saturating_add(AGAIN));
             return Came::Refused;
         }
@@ -298,11 +315,14 @@ impl Site {
             return Came::Nobody;
         }
         match self.listener.accept() {
-            Ok((stream, source)) => match self.welcome(rt, ready, now, stream, host_of(source)) {
-                Some(()) => Came::LetIn,
-                None => Came::TurnedAway,
-            },
-            Err(fault) => self.let_nobody_in(fault.kind(), now),
+            Ok((stream, source)) => {
+                self.is_full = false;
+                match self.welcome(rt, ready, now, stream, host_of(source)) {
+                    Some(()) => Came::LetIn,
+                    None => Came::TurnedAway,
+                }
+            }
+            Err(fault) => self.let_nobody_in(&fault, now),
         }
     }
 
@@ -341,6 +361,8 @@ impl Reception for Site {
 
     ghost busy = { λ site. site.may_accept || is_some (next_turn site.last site.places.items) };
 
+    ghost full = { λ site. site.is_full };
+
     ghost closes = { λ site. soonest_from site.again site.places.items };
 
     ghost serves = { λ was told board now is after shown. ServesOne was told board now is after shown };
@@ -375,6 +397,7 @@ impl Reception for Site {
             places,
             may_accept: true,
             again: None,
+            is_full: false,
             last: 0,
         })
     }
@@ -385,6 +408,10 @@ impl Reception for Site {
 
     fn is_busy(&self) -> bool {
         self.may_accept || self.next_place().is_some()
+    }
+
+    fn is_full(&self) -> bool {
+        self.is_full
     }
 
     #[tactic(auto, unfolding(crate::specs::Waiting::soonest_from))]

@@ -15,9 +15,11 @@ use rgwd_words::{
     say_setup,
 };
 use std::alloc::Global;
+use std::cell::Cell;
 use std::net::{Net, SocketAddrV4};
 use std::os::fd::AsRawFd;
 use std::random::RandomSource;
+use std::rc::Rc;
 use std::rt::{Clock, Env, Files};
 use surroundings::Surroundings;
 
@@ -76,7 +78,10 @@ fn serve_with<R: Files + Net + Clock + RandomSource + Alloc + Clone + Drop, P: R
         Ok(live) => live,
         Err(ending) => return Ending::Common(ending),
     };
-    let mut visitors = match open_site::<R, P>(rt, alloc, settings, &live.ready) {
+    let Ok(is_full) = recording.is_full.clone() else {
+        return Ending::Common(CommonEnding::OutOfMemory);
+    };
+    let mut visitors = match open_site::<R, P>(rt, alloc, settings, &live.ready, is_full) {
         Ok(visitors) => visitors,
         Err(ending) => return ending,
     };
@@ -164,6 +169,9 @@ where
         let Ok(runtime) = self.rt.clone() else {
             return CommonEnding::OutOfMemory.status();
         };
+        let Ok(is_full) = Rc::new(self.rt.alloc(), Cell::new(false)) else {
+            return CommonEnding::OutOfMemory.status();
+        };
         let Some(begun) = begin(self.rt) else {
             return CommonEnding::OutOfMemory.status();
         };
@@ -173,6 +181,8 @@ where
             outlets,
             files: None,
             days: DayWatch::new(),
+            is_full,
+            is_full_said: false,
         };
         let settings = match asked_by(self.rt, &words, &mut recording.outlets) {
             Ok(settings) => settings,

@@ -12,14 +12,17 @@ use live_page::Reception;
 use plain_machine::Setup;
 use rgwd_words::{Ending, ListFault, Settings, captured_at, page_names, speakers_in};
 use std::alloc::Global;
+use std::cell::Cell;
 use std::net::{Ipv4Addr, Net, SocketAddrV4};
+use std::rc::Rc;
 
-/// The site, if one is asked for.
+/// The site, if one is asked for; there it is told whether nobody is let in for want of files.
 pub fn open_site<R: Net, P: Reception>(
     rt: &R,
     alloc: Global,
     settings: &Settings<'_>,
     ready: &Readiness,
+    is_full: Rc<Cell<bool>>,
 ) -> Result<Option<Box<PageReception<P>>>, Ending>
     ensures asked { IfOk result (λ site. is_some site ≡ is_some settings.now.sockets.http) }
     ensures named { IfOk result (λ site. IfSome site (λ there.
@@ -37,7 +40,7 @@ pub fn open_site<R: Net, P: Reception>(
         Ok(site) => site,
         Err(fault) => return Err(Ending::unbound(AddressWord::Http, address, fault.kind())),
     };
-    match boxed(alloc, PageReception { site }) {
+    match boxed(alloc, PageReception { site, is_full }) {
         Ok(reception) => Ok(Some(reception)),
         Err(_) => Err(Ending::Common(CommonEnding::OutOfMemory)),
     }

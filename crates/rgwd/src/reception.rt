@@ -3,14 +3,18 @@ use live_ends::Live;
 use live_gateway::Visitors;
 use live_page::Reception;
 use page_board::Board;
+use std::cell::Cell;
 use std::net::Net;
 use std::random::RandomSource;
+use std::rc::Rc;
 use std::rt::Clock;
 
 /// The site at which the page is asked for.
 #[derive(Drop)]
 pub struct PageReception<P> {
     pub site: P,
+    /// Whether nobody is let in for want of files.
+    pub is_full: Rc<Cell<bool>>,
 }
 
 impl<'a, R: Net + Clock + RandomSource, P: Reception> Visitors<Live<'a, R>> for PageReception<P> {
@@ -38,5 +42,6 @@ impl<'a, R: Net + Clock + RandomSource, P: Reception> Visitors<Live<'a, R>> for 
 
     fn turn(&mut self, around: &mut Live<'a, R>, board: &mut Board, moment: u64) {
         self.site.serve(around.rt, &mut around.ready, board, moment);
+        self.is_full.set(self.site.is_full());
     }
 }

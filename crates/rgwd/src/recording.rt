@@ -1,7 +1,10 @@
 //! What a gateway's records go to: its outlets, and the files of its capture, of which the next is made where one is full.
 use live_ends::{CaptureFiles, DayWatch};
 use live_journal::{Capture, Journal, Recorder, Trace};
-use live_outlets::{Finisher, Outlets, Written};
+use live_outlets::{Finisher, Outlet, Outlets, Written};
+use std::cell::Cell;
+use std::io::Write;
+use std::rc::Rc;
 use std::rt::{Clock, Files};
 
 /// The outlets of a program, the files of its gateway's capture, where that is parted, and what makes these; and where its log notes that the
@@ -12,6 +15,17 @@ pub struct Recording<R: Files> {
     pub outlets: Outlets<R::File>,
     pub files: Option<Box<CaptureFiles>>,
     pub days: DayWatch,
+    /// Whether no visitor of the page is let in for want of files, and whether that is said.
+    pub is_full: Rc<Cell<bool>>,
+    pub is_full_said: bool,
+}
+
+// That no visitor of the page is let in is said once, until one is let in again.
+fn say_full<F: Write + Drop>(error: &mut Outlet<F>, is_full: bool, is_said: &mut bool) {
+    if is_full && !*is_said {
+        error.say(b"page: nobody is let in: too many open files\n");
+    }
+    *is_said = is_full;
 }
 
 // What a turn has put goes into the next file, where the one that is written is full, and has taken all that was put before; where that
@@ -65,6 +79,8 @@ impl<R: Files + Clock> Recorder<Trace> for Recording<R> {
         if let Some(line) = self.days.line(&self.rt, log.alloc, &log.record) {
             self.outlets.error.say(line.as_slice());
         }
+        let is_full = self.is_full.get();
+        say_full(&mut self.outlets.error, is_full, &mut self.is_full_said);
         journal.write(trace, &mut self.outlets, time);
     }
 
