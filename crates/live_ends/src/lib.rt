@@ -18,6 +18,7 @@ mod parting;
 mod program;
 mod readiness;
 mod standing;
+mod system_signals;
 mod waiting;
 mod wording;
 

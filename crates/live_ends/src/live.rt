@@ -14,7 +14,13 @@ use std::net::{Ipv4Addr, Net, SocketAddr, SocketAddrV4};
 use std::rt::Clock;
 use surroundings::{Fault, Surroundings, Told};
 
-/// A socket for datagrams, another for lines of who types, and the machine's clock. What went over sockets isn't told.
+// Who types the line that a signal stands for: somebody of this machine, who can't be answered.
+fn nobody() -> SocketAddr {
+    SocketAddr::V4(SocketAddrV4::new(Ipv4Addr::LOCALHOST, 0))
+}
+
+/// A socket for datagrams, another for lines of who types, and the machine's clock. What went over sockets isn't told. A signal of the
+/// system that is to end the program is heard as `stop`, typed at this machine.
 pub struct Live<'a, R> {
     pub rt: &'a R,
     socket: UdpSocket,
@@ -123,6 +129,11 @@ impl<'a, R: Net + Clock> Live<'a, R> {
             Err(kind) => Err(datagrams.refused(kind)),
         }
     }
+
+    /// Waits so long, in ms, whatever comes to its sockets; less where a signal comes, which is heard later.
+    pub fn sleep(&self, longest: u64) {
+        self.ready.signals.wait(self.rt, longest);
+    }
 }
 
 impl<R: Net + Clock> Surroundings for Live<'_, R> {
@@ -170,7 +181,7 @@ impl<R: Net + Clock> Surroundings for Live<'_, R> {
 
     fn told(&self) -> Told {
         Told {
-            lines: self.ready.commands,
+            lines: self.ready.commands || self.ready.signals.is_told,
             datagrams: self.ready.socket,
         }
     }
@@ -206,6 +217,12 @@ impl<R: Net + Clock> Surroundings for Live<'_, R> {
     }
 
     fn hear(&mut self, room: &mut [u8]) -> Option<(SocketAddr, usize)> {
+        if let Some(line) = self.ready.signals.line() {
+            if let Some(place) = room.get_mut(..line.len()) {
+                place.copy_from_slice(line);
+                return Some((nobody(), line.len()));
+            }
+        }
         match self.commands.recv_from(room) {
             Ok((len, source)) => Some((source, len)),
             Err(fault) => {

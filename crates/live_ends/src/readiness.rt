@@ -2,6 +2,7 @@
 ghost use Rattle.std.specs.Prelude.{◌≡◌, replicate};
 ghost use Rattle.live_ends.specs.Looking.{no_visit, has_visits, may_have_more};
 
+use crate::system_signals::SystemSignals;
 use live_outlets::boxed;
 use mio::net::{TcpListener, TcpStream, UdpSocket};
 use mio::{Events, Interest, Poll, Token};
@@ -21,7 +22,9 @@ const COMMANDS: usize = 1;
 
 const LISTENER: usize = 2;
 
-const FIRST_VISITOR: usize = 3;
+const SIGNALS: usize = 3;
+
+const FIRST_VISITOR: usize = 4;
 
 const SOCKETS: usize = FIRST_VISITOR + MOST_VISITORS;
 
@@ -38,13 +41,14 @@ const NO_VISIT: Visit = Visit {
 };
 
 /// What is known of the sockets: of the one for datagrams and of the one for commands whether something may have come since it was
-/// last found empty; of a site's what was told since it was forgotten.
+/// last found empty, and so of the system's signals; of a site's what was told since it was forgotten.
 #[derive(Drop)]
 pub struct Readiness {
     poll: Poll,
     events: Events,
     pub socket: bool,
     pub commands: bool,
+    pub(crate) signals: SystemSignals,
     pub listener: bool,
     pub visits: [Visit; MOST_VISITORS],
 }
@@ -70,8 +74,8 @@ pub fn may_have_more(kind: ErrorKind) -> bool
 }
 
 impl Readiness {
-    /// Watches these sockets, of which the second one is for commands: to each something may have come already. An error is of the system's
-    /// kind.
+    /// Watches these sockets, of which the second one is for commands, and the system's signals: to each something may have come already.
+    /// An error is of the system's kind.
     pub fn watch<R: Net>(
         rt: &R,
         alloc: Global,
@@ -89,11 +93,16 @@ impl Readiness {
             Ok(()) => {}
             Err(fault) => return Err(fault.kind()),
         }
+        let signals = match SystemSignals::watch(poll.registry(), Token(SIGNALS)) {
+            Ok(signals) => signals,
+            Err(fault) => return Err(fault.kind()),
+        };
         let ready = Readiness {
             poll,
             events,
             socket: true,
             commands: true,
+            signals,
             listener: false,
             visits: [NO_VISIT; MOST_VISITORS],
         };
@@ -154,6 +163,7 @@ impl Readiness {
                 SOCKET => self.socket = true,
                 COMMANDS => self.commands = true,
                 LISTENER => self.listener = true,
+                SIGNALS => self.signals.is_told = true,
                 token => {
                     if let Some(visit) = self.visits.get_mut(token.saturating_sub(FIRST_VISITOR)) {
                         visit.is_readable = visit.is_readable

@@ -13,8 +13,6 @@ use std::alloc::{AllocError, Global};
 use std::io::{ErrorKind, Write};
 use std::net::{Net, SocketAddrV4};
 use std::rt::{Clock, Files};
-use std::thread::sleep;
-use std::time::Duration;
 use surroundings::Surroundings;
 
 // Puts an address behind its word; nothing where there is none.
@@ -80,7 +78,8 @@ fn open_files<R: Files + Alloc + Clone + Drop>(
 
 /// Makes the file of a capture, where one is asked for, and says on standard error where the sockets are, and the page, where there is
 /// one, and how a gateway starts. As long as a start waits it waits then, before its clock begins: so what is recorded of the gateway
-/// doesn't tell it. It gives what is known of a capture's files, where that is parted; or how the program ends that can't serve.
+/// doesn't tell it. A signal ends that wait. It gives what is known of a capture's files, where that is parted; or how the program ends
+/// that can't serve.
 pub fn begin_serving<R: Files + Net + Clock + Alloc + Clone + Drop>(
     alloc: Global,
     settings: &Settings<'_>,
@@ -102,7 +101,7 @@ pub fn begin_serving<R: Files + Net + Clock + Alloc + Clone + Drop>(
     }
     outlets.offer();
     if let Some(waits) = begun.waits {
-        sleep(rt, Duration::from_millis(waits));
+        live.sleep(waits);
         if live.clock.begin_anew().is_err() {
             return Err(CommonEnding::Clock);
         }
