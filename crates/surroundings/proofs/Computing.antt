@@ -3,8 +3,8 @@ use Rattle.std.specs.Prelude.{⊤}
 use Rattle.mg_bytes.proofs.Computing.{on_examples as byte_examples}
 use Rattle.std.specs.Net.Addr.{ipv4_bits}
 use Rattle.surroundings.specs.Requests.{outcomes, counts, requests_from}
-use Rattle.surroundings.specs.Speaking.{network_of, networks_from, admitted_in}
+use Rattle.surroundings.specs.Speaking.{bare_address_of, host_of, bits_of, network_of, networks_from, admitted_in}
 
 unfoldable pub on_examples : ⊤
-unfolding byte_examples outcomes counts requests_from ipv4_bits network_of networks_from admitted_in
+unfolding byte_examples outcomes counts requests_from ipv4_bits bare_address_of host_of bits_of network_of networks_from admitted_in
 on_examples = tt

@@ -1,14 +1,15 @@
 -- From whom datagrams are taken: who may speak to a program, as far as an address tells. A port tells nobody apart, since who sends
 -- may choose it.
-use Rattle.std.specs.Prelude.{ℕ, ◌+◌, ◌-◌, ◌%◌, ◌^◌, Bool, true, false, ◌&&◌, ◌||◌, nat_le, codes, bytes_eq, if◌then◌else◌, List, [], ◌∷◌}
-use Rattle.std.specs.Prelude.{◌++◌, Option, Some, None, option_map, option_and_then}
-use Rattle.std.specs.List.{list_any}
+use Rattle.std.specs.Prelude.{ℕ, ◌+◌, ◌-◌, ◌%◌, ◌^◌, Bool, true, false, not, ◌&&◌, ◌||◌, nat_le, nat_eq, codes, bytes_eq, if◌then◌else◌, List, [], ◌∷◌}
+use Rattle.std.specs.Prelude.{◌++◌, length, Option, Some, None, option_map, option_and_then}
+use Rattle.std.specs.List.{list_any, starts_with}
 use Rattle.std.specs.Net.Addr.{ipv4_bits}
 use Rattle.std.specs.declared.net.ipv4_addr.Ipv4Addr.{Ipv4Addr}
 use Rattle.mg_bytes.specs.Address.{ipv4_of}
-use Rattle.mg_bytes.specs.Bytes.{slash}
+use Rattle.mg_bytes.specs.Bytes.{full_stop, slash}
 use Rattle.mg_bytes.specs.Items.{items_of}
 use Rattle.mg_bytes.specs.Numbers.{decimal_of}
+use Rattle.mg_bytes.specs.Option.{◌>>=◌}
 use Rattle.mg_bytes.specs.Words.{split_once}
 use Rattle.surroundings.specs.declared.speaking.Network.{Network}
 use Rattle.surroundings.specs.declared.speaking.Speakers.{Speakers}
@@ -62,19 +63,36 @@ may_speak admitted host = admitted.is_any || list_any (is_within host) admitted.
 
 -- What a word says of that, as `10.0.0.7,10.1.0.0/16` (this program's profile)
 
+-- a number has no zero in front of it: some programs read such a number in base 8
+abbrev pub is_bare : List ℕ → Bool
+is_bare number = nat_le (length number) 1 || not (starts_with nat_eq number (codes "0"))
+
+-- four such numbers with dots between them
+unfoldable pub bare_address_of : List ℕ → Option Ipv4Addr
+bare_address_of text = do
+  first ← split_once full_stop text
+  second ← split_once full_stop first.1
+  third ← split_once full_stop second.1
+  if is_bare first.0 && is_bare second.0 && is_bare third.0 && is_bare third.1 then ipv4_of text else None
+
+-- an address, or `localhost`, which is 127.0.0.1 (RFC 6761, 6.3)
+unfoldable pub host_of : List ℕ → Option Ipv4Addr
+host_of text =
+    if bytes_eq text (codes "localhost") then Some (record { octets = 127 ∷ 0 ∷ 0 ∷ 1 ∷ [] }) else bare_address_of text
+
 abbrev pub bits_from : ℕ → Option ℕ
 bits_from number = if nat_le number address_bits then Some number else None
 
 -- so many bits, 0 to 32
-abbrev pub bits_of : List ℕ → Option ℕ
-bits_of text = option_and_then bits_from (decimal_of text)
+unfoldable pub bits_of : List ℕ → Option ℕ
+bits_of text = if is_bare text then option_and_then bits_from (decimal_of text) else None
 
 abbrev pub network_from : List ℕ → Option (List ℕ × List ℕ) → Option Network
-network_from text None = option_map (λ address. network_at address address_bits) (ipv4_of text)
+network_from text None = option_map (λ address. network_at address address_bits) (host_of text)
 network_from text (Some sides) =
-    option_and_then (λ address. option_map (network_at address) (bits_of sides.1)) (ipv4_of sides.0)
+    option_and_then (λ address. option_map (network_at address) (bits_of sides.1)) (host_of sides.0)
 
--- an address alone, or one with the number of those of its bits that count; the others don't
+-- a host alone, or one with the number of those of its bits that count; the others don't
 unfoldable pub network_of : List ℕ → Option Network
 network_of text = network_from text (split_once slash text)
 

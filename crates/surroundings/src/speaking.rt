@@ -3,7 +3,7 @@ ghost use Rattle.std.specs.Prelude.{◌≡◌, ◌≤◌, ◌^◌, [], Some, OnO
 ghost use Rattle.std.specs.List.{list_any};
 ghost use Rattle.mg_bytes.specs.Items.{items_of};
 ghost use Rattle.surroundings.specs.Speaking.{size_of, network_at, is_within, admitted_by, anybody, nobody, with_host, may_speak};
-ghost use Rattle.surroundings.specs.Speaking.{bits_of, network_from, network_of, networks_from, these, admitted_in};
+ghost use Rattle.surroundings.specs.Speaking.{is_bare, bare_address_of, host_of, bits_of, network_from, network_of, networks_from, these, admitted_in};
 
 use mg_bytes::{decimal, ipv4_address, list_items, split_once};
 use std::alloc::{AllocError, Global};
@@ -67,10 +67,47 @@ fn is_within_any(host: Ipv4Addr, networks: &[Network]) -> bool
     false
 }
 
+// Whether a number has no zero in front of it.
+fn is_bare(number: &[u8]) -> bool
+    ensures { result ≡ is_bare number.now }
+{
+    number.len() <= 1 || !number.starts_with(b"0")
+}
+
+// The address that four numbers spell, of which none has a zero in front of it.
+#[tactic(auto, unfolding(crate::specs::Speaking::bare_address_of))]
+fn bare_address(text: &[u8]) -> Option<Ipv4Addr>
+    ensures { result ≡ bare_address_of text.now }
+{
+    let (a, rest) = split_once(text, b'.')?;
+    let (b, rest) = split_once(rest, b'.')?;
+    let (c, d) = split_once(rest, b'.')?;
+    if is_bare(a) && is_bare(b) && is_bare(c) && is_bare(d) {
+        ipv4_address(text)
+    } else {
+        None
+    }
+}
+
+// The address of a host.
+#[tactic(auto, unfolding(crate::specs::Speaking::host_of))]
+fn host_in(text: &[u8]) -> Option<Ipv4Addr>
+    ensures { result ≡ host_of text.now }
+{
+    if text == b"localhost".as_slice() {
+        return Some(Ipv4Addr::new(127, 0, 0, 1));
+    }
+    bare_address(text)
+}
+
 // So many bits, 0 to 32.
+#[tactic(auto, unfolding(crate::specs::Speaking::bits_of))]
 fn bits_in(text: &[u8]) -> Option<u8>
     ensures { result ≡ bits_of text.now }
 {
+    if !is_bare(text) {
+        return None;
+    }
     let number = decimal(text)?;
     if number <= u64::from(ADDRESS_BITS) {
         Some(number as u8)
@@ -79,22 +116,22 @@ fn bits_in(text: &[u8]) -> Option<u8>
     }
 }
 
-// An address with the number of its bits that count.
-fn masked(address: &[u8], bits: &[u8]) -> Option<Network>
-    ensures { result ≡ network_from [] (Some (address.now, bits.now)) }
+// A host with the number of its address's bits that count.
+fn masked(host: &[u8], bits: &[u8]) -> Option<Network>
+    ensures { result ≡ network_from [] (Some (host.now, bits.now)) }
 {
-    let address = ipv4_address(address)?;
+    let address = host_in(host)?;
     Some(network_at(address, bits_in(bits)?))
 }
 
-// An address alone, or one with the number of its bits that count.
+// A host alone, or one with the number of its address's bits that count.
 #[tactic(auto, unfolding(crate::specs::Speaking::network_of))]
 fn network_in(text: &[u8]) -> Option<Network>
     ensures { result ≡ network_of text.now }
 {
     match split_once(text, b'/') {
-        Some((address, bits)) => masked(address, bits),
-        None => Some(network_at(ipv4_address(text)?, ADDRESS_BITS)),
+        Some((host, bits)) => masked(host, bits),
+        None => Some(network_at(host_in(text)?, ADDRESS_BITS)),
     }
 }
 
@@ -141,8 +178,8 @@ impl Speakers {
         these(Vec::new(alloc))
     }
 
-    /// Those whom a word admits: `any`, or addresses, as `10.0.0.7,10.1.0.0/16`, of which so many of the first bits count as behind `/`,
-    /// all 32 where nothing is there. `None` where it says anything else; the only error is want of memory.
+    /// Those whom a word admits: `any`, or addresses, as `localhost,10.0.0.7,10.1.0.0/16`, of which so many of the first bits count as
+    /// behind `/`, all 32 where nothing is there. `None` where it says anything else; the only error is want of memory.
     #[tactic(auto, unfolding(crate::specs::Speaking::admitted_in))]
     pub fn read(alloc: Global, text: &[u8]) -> Result<Option<Speakers>, AllocError>
         ensures { IfOk result (λ found. option_map admitted_by found ≡ admitted_in text.now) }

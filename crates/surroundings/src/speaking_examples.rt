@@ -43,3 +43,20 @@ pub fn each_sentence_has_an_example()
     ensures other_case { admitted_in (codes "Any") ≡ None }
     ensures any_among_others { admitted_in (codes "any,10.0.0.7") ≡ None }
 {}
+
+/// A host is written so.
+pub fn hosts_are_written_so()
+    // The name localhost is 127.0.0.1, and no other name is an address.
+    ensures here { admits (codes "localhost") (host_at 127 0 0 1) ≡ Some true }
+    ensures here_alone { admits (codes "localhost") (host_at 127 0 0 2) ≡ Some false }
+    ensures here_with_bits { admits (codes "localhost/8") (host_at 127 9 9 9) ≡ Some true }
+    ensures other_name { admitted_in (codes "localhost.") ≡ None }
+    ensures name_with_port { admitted_in (codes "localhost:2727") ≡ None }
+    // No number has a zero in front of it; a zero alone is a number.
+    ensures first { admitted_in (codes "010.0.0.7") ≡ None }
+    ensures second { admitted_in (codes "10.00.0.7") ≡ None }
+    ensures third { admitted_in (codes "10.0.01.7") ≡ None }
+    ensures fourth { admitted_in (codes "10.0.0.07") ≡ None }
+    ensures bits { admitted_in (codes "10.0.0.7/08") ≡ None }
+    ensures zeros { admits (codes "0.0.0.0") (host_at 0 0 0 0) ≡ Some true }
+{}
