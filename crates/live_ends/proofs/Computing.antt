@@ -2,10 +2,11 @@
 use Rattle.std.specs.Prelude.{⊤}
 use Rattle.mg_bytes.proofs.Computing.{on_examples as byte_examples}
 use Rattle.live_ends.specs.AddressWords.{word_text}
+use Rattle.live_ends.specs.Addresses.{local_port}
 use Rattle.live_ends.specs.Ending.{ending_text}
 use Rattle.live_ends.specs.Looking.{may_have_more}
 use Rattle.live_ends.specs.NetworkFaults.{wanted_by}
 
 unfoldable pub on_examples : ⊤
-unfolding byte_examples ending_text may_have_more word_text wanted_by
+unfolding byte_examples ending_text may_have_more word_text local_port wanted_by
 on_examples = tt

@@ -3,6 +3,7 @@ pub mod Looking
 pub mod Waiting
 pub mod Days
 pub mod AddressWords
+pub mod Addresses
 pub mod NetworkFaults
 pub mod Wording
 pub mod Ending

@@ -1,6 +1,5 @@
 //! How a program ends, as far as programs have that in common: the status, and what is said then.
 ghost use Rattle.std.specs.Prelude.{◌≡◌, ◌≢◌, ◌++◌, Ok, Err, Some, None, OnOk, IfOk, IfErr, IfSome};
-ghost use Rattle.std.specs.Net.Grammar.{IsSocketV4Text};
 ghost use Rattle.bad_network.specs.Parts.{spoiling_of};
 ghost use Rattle.live_outlets.specs.Reasons.{reason_of};
 ghost use Rattle.live_outlets.specs.Written.{faults_in};
@@ -225,18 +224,6 @@ impl CommonEnding {
             CommonEnding::Clock => put_pieces(out, &["clock fault\n"]),
             CommonEnding::OutOfMemory => put_pieces(out, &["out of memory\n"]),
         }
-    }
-}
-
-/// The address that a text is, which stands behind a word, or by a key of a configuration.
-pub fn address_in(word: AddressWord, text: &str) -> Result<SocketAddrV4, CommonEnding>
-    ensures address { IfOk result (λ address. IsSocketV4Text text.now address) }
-    ensures other { IfErr result (λ ending. ending ≡ CommonEnding.BadAddress word) }
-    ensures none { IfErr result (λ _. (address : SocketAddrV4) → ¬ (IsSocketV4Text text.now address)) }
-{
-    match text.parse::<SocketAddrV4>() {
-        Ok(address) => Ok(address),
-        Err(_) => Err(CommonEnding::BadAddress { word }),
     }
 }
 

@@ -1,8 +1,9 @@
 //! Worked examples of how programs end, as theorems: each sentence of a definition has one that a slip in it breaks.
 #![tactic(auto, unfolding(crate::proofs::Computing::on_examples))]
 
-ghost use Rattle.std.specs.Prelude.{◌≡◌, codes, true, false, [], ◌∷◌, ◌++◌, map};
+ghost use Rattle.std.specs.Prelude.{◌≡◌, codes, true, false, Some, None, [], ◌∷◌, ◌++◌, map};
 ghost use Rattle.std.specs.List.{flat_map};
+ghost use Rattle.std.specs.Net.Grammar.{IsSocketV4Text};
 ghost use Rattle.std.specs.Net.Text.{socket_v4_text};
 ghost use Rattle.std.specs.declared.io.ErrorKind.{ErrorKind};
 ghost use Rattle.std.specs.declared.net.socket_addr.SocketAddrV4.{SocketAddrV4};
@@ -15,6 +16,7 @@ ghost use Rattle.live_ends.specs.declared.ending.FileNames.{FileNames};
 ghost use Rattle.live_ends.specs.declared.ending.CommonEnding.TheVariants.{Served, Help, Version, Usage, Told, BadAddress, BadNetwork};
 ghost use Rattle.live_ends.specs.declared.ending.CommonEnding.TheVariants.{Unreadable, Unwritable, Unbound, Clock, Write, OutOfMemory};
 ghost use Rattle.live_ends.specs.AddressWords.{word_text};
+ghost use Rattle.live_ends.specs.Addresses.{local_port, local_address, IsAddress};
 ghost use Rattle.live_ends.specs.Ending.{status_of, is_asked, served_ending, ending_text};
 ghost use Rattle.live_ends.specs.NetworkFaults.{wanted_by};
 ghost use Rattle.live_outlets.specs.Reasons.{reason_of};
@@ -86,4 +88,22 @@ pub fn further_sentences_have_examples()
         ≡ codes "lose: 0% to 100%, once" ∷ codes "copy: 0% to 100%, once" ∷ codes "seed: a number, once" ∷ [] }
     ensures wanted_late { wanted_by faults.Late ≡ codes "late: LEAST-MOST in ms, 10000 at most, once" }
     ensures wanted_other { wanted_by faults.Other ≡ codes "lose N%, copy N%, late LEAST-MOST, seed N" }
+{}
+
+/// Each sentence at an example.
+pub fn an_address_is_written_so()
+    // Behind localhost stands a port, from 0 to 65535, and nothing else.
+    ensures port { local_port (codes "localhost:2428") ≡ Some 2428 }
+    ensures any_port { local_port (codes "localhost:0") ≡ Some 0 }
+    ensures last_port { local_port (codes "localhost:65535") ≡ Some 65535 }
+    ensures no_port { local_port (codes "localhost") ≡ None }
+    ensures nothing { local_port (codes "localhost:") ≡ None }
+    ensures too_high { local_port (codes "localhost:65536") ≡ None }
+    ensures more { local_port (codes "localhost:2428 ") ≡ None }
+    ensures other { local_port (codes "localhost.example.net:2428") ≡ None }
+    // It is 127.0.0.1; else four numbers say the address.
+    ensures local { (address : SocketAddrV4) → IsAddress (codes "localhost:2428") address → address ≡ local_address 2428 }
+    ensures octets { (local_address 2428).ip.octets ≡ 127 ∷ 0 ∷ 0 ∷ 1 ∷ [] }
+    ensures numbers { (address : SocketAddrV4) → IsAddress (codes "10.0.0.7:2427") address
+        → IsSocketV4Text (codes "10.0.0.7:2427") address }
 {}

@@ -5,6 +5,7 @@
 #![tactic(auto)]
 
 mod address_words;
+mod addresses;
 mod asking;
 mod clock;
 mod day;
@@ -23,10 +24,11 @@ mod waiting;
 mod wording;
 
 pub use crate::address_words::AddressWord;
+pub use crate::addresses::address_in;
 pub use crate::asking::{AskFault, ask};
 pub use crate::clock::{LiveClock, time_of_day};
 pub use crate::day::DayWatch;
-pub use crate::ending::{About, CommonEnding, FileNames, VERSION, address_in, network_in};
+pub use crate::ending::{About, CommonEnding, FileNames, VERSION, network_in};
 pub use crate::files::read_file;
 pub use crate::live::{Live, SocketWanted, bind};
 pub use crate::parting::{CaptureFiles, Parting};

@@ -1,12 +1,12 @@
 -- What stands behind words of the command line.
 use Rattle.std.specs.Prelude.{◌≡◌, ◌<◌, ◌^◌, ℕ, Bool, true, false, ◌||◌, bytes_eq, codes, string_bytes, String, List, [], ◌∷◌}
 use Rattle.std.specs.Prelude.{Option, None, Some, IsSome, IfSome}
-use Rattle.std.specs.Net.Grammar.{IsSocketV4Text}
 use Rattle.std.specs.Result.{result_ok}
 use Rattle.std.specs.Str.Parse.{IsNumeral, digits_value, without_leading_plus}
 use Rattle.std.specs.declared.net.socket_addr.SocketAddrV4.{SocketAddrV4}
 use Rattle.bad_network.specs.Parts.{spoiling_of}
 use Rattle.bad_network.specs.declared.spoiling.Spoiling.{Spoiling}
+use Rattle.live_ends.specs.Addresses.{IsAddress}
 use Rattle.live_checks.specs.declared.telephone.Telephone.{Telephone}
 
 -- the word behind the first asks how the program is used
@@ -18,7 +18,7 @@ asks_for_help (first ∷ word ∷ more) = bytes_eq (string_bytes word) (codes "-
 -- the address that a text behind a word says; none where nothing stands there
 abbrev pub IsBehind : Option (List ℕ) → Option SocketAddrV4 → Type 0
 IsBehind said None = said ≡ None
-IsBehind said (Some address) = (text : List ℕ) × (said ≡ Some text) × IsSocketV4Text text address
+IsBehind said (Some address) = (text : List ℕ) × (said ≡ Some text) × IsAddress text address
 
 -- what is read so of a text behind a word, which says something; nothing where none stands there
 abbrev pub IsRead : {A : Type 0} → (List ℕ → Option A) → Option (List ℕ) → Option A → Type 0

@@ -4,12 +4,12 @@
 ghost use Rattle.std.specs.Prelude.{◌≡◌, ℕ, Bool, codes, true, false, List, [], ◌∷◌, ◌++◌, map, Option, Some, None, String, string_bytes};
 ghost use Rattle.std.specs.Borrow.{Bor};
 ghost use Rattle.std.specs.Global.{Global};
-ghost use Rattle.std.specs.Net.Grammar.{IsSocketV4Text};
 ghost use Rattle.std.specs.Net.Text.{socket_v4_text};
 ghost use Rattle.std.specs.Str.Parse.{digits_value, without_leading_plus};
 ghost use Rattle.std.specs.declared.io.ErrorKind.{ErrorKind};
 ghost use Rattle.std.specs.declared.net.socket_addr.SocketAddrV4.{SocketAddrV4};
 ghost use Rattle.agent_config.specs.declared.config_fault.ConfigRefusal.TheVariants as refusals;
+ghost use Rattle.live_ends.specs.Addresses.{IsAddress};
 ghost use Rattle.live_ends.specs.declared.ending.CommonEnding.{CommonEnding};
 ghost use Rattle.live_ends.specs.declared.ending.CommonEnding.TheVariants.{Served, Help, Version, Usage, Unreadable, Unwritable};
 ghost use Rattle.live_ends.specs.Ending.{status_of as common_status, is_asked as is_commonly_asked, ending_text as common_text};
@@ -201,7 +201,7 @@ pub fn what_stands_behind_words_is_meant()
     // An address is what the text behind its word says, and a word stands there or doesn't.
     ensures nothing { IsBehind None None }
     ensures something { (text : List ℕ) → IsBehind (Some text) None → ⊥ }
-    ensures address { (text : List ℕ) (address : SocketAddrV4) → IsSocketV4Text text address → IsBehind (Some text) (Some address) }
+    ensures address { (text : List ℕ) (address : SocketAddrV4) → IsAddress text address → IsBehind (Some text) (Some address) }
     ensures no_flag { (flag : Bool) → SaysFlag None flag → flag ≡ false }
     ensures flag { (flag : Bool) → SaysFlag (Some (codes "true")) flag → flag ≡ true }
     ensures flag_not { (flag : Bool) → SaysFlag (Some (codes "false")) flag → flag ≡ false }

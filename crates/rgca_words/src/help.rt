@@ -28,7 +28,7 @@ const BELOW: &str = "
   --stop-after MS     it ends at this moment of its clock, in ms; else it goes on
   --help, --version   this, or the version, on standard output
 
-ADDRESS is a.b.c.d:port, and port 0 any free one. Both sockets take datagrams (UDP).
+ADDRESS is a.b.c.d:port or localhost:port, and port 0 any free one. Both sockets take datagrams (UDP).
 
 At the socket for commands a datagram is one of these:
 
@@ -74,7 +74,7 @@ Checks an MGCP gateway as RFC 3435 asks: what it answers, and what it says by it
 connection is not checked, and no other call agent may be at work on the lines. What is changed is undone: connections are
 deleted, and an empty request ends the checks.
 
-  ADDRESS             of the gateway, a.b.c.d:port
+  ADDRESS             of the gateway, a.b.c.d:port or localhost:port
   --domain D          of its endpoint names
   --line NAME         the local name of a line, as aaln/1
   --more-lines NAME   of another one, for checks that need two

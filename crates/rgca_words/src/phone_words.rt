@@ -5,7 +5,7 @@ ghost use Rattle.rgca_words.specs.Statuses.{fails};
 ghost use Rattle.rgca_words.specs.Words.{asks_for_help};
 
 use crate::words::asks_for_help;
-use live_ends::CommonEnding;
+use live_ends::{AddressWord, CommonEnding, address_in};
 use mg_bytes::Text;
 use std::alloc::{AllocError, Global};
 use std::net::{Ipv4Addr, SocketAddrV4};
@@ -64,7 +64,7 @@ fn gateway_of(word: &str) -> Option<(&str, SocketAddrV4)> {
     if !is_name(name) {
         return None;
     }
-    match address.parse::<SocketAddrV4>() {
+    match address_in(AddressWord::Gateway, address) {
         Ok(address) => Some((name, address)),
         Err(_) => None,
     }

@@ -1,7 +1,7 @@
 //! Reads the words of the command line.
 ghost use Rattle.std.specs.Prelude.{◌≡◌, [], true, Some, None, Ok, IfOk, IfErr, IfSome, codes, option_map};
-ghost use Rattle.std.specs.Net.Grammar.{IsSocketV4Text};
 ghost use Rattle.clap.specs.Matches.{found_of, first_value, one_text};
+ghost use Rattle.live_ends.specs.Addresses.{IsAddress};
 ghost use Rattle.rgca_words.specs.Endings.{word_ending};
 ghost use Rattle.rgca_words.specs.Names.{name_of, HasNames};
 ghost use Rattle.rgca_words.specs.Statuses.{fails};
@@ -93,13 +93,13 @@ pub fn address_behind(
     word: AddressWord,
 ) -> Result<Option<SocketAddrV4>, WordFault>
     ensures stands { IfOk result (λ found. IfSome found (λ address.
-        IfSome (first_value (found_of matches.now) name.now) (λ text. IsSocketV4Text text address))) }
+        IfSome (first_value (found_of matches.now) name.now) (λ text. IsAddress text address))) }
     ensures stands_not { IfOk result (λ found. found ≡ None → first_value (found_of matches.now) name.now ≡ None) }
     ensures behind { IfOk result (λ found. IsBehind (first_value (found_of matches.now) name.now) found) }
     ensures none { first_value (found_of matches.now) name.now ≡ None → result ≡ Ok None }
     ensures other { IfErr result (λ fault. fault ≡ WordFault.Common (CommonEnding.BadAddress word)) }
     ensures no_address { IfErr result (λ _. IfSome (first_value (found_of matches.now) name.now) (λ text.
-        (address : SocketAddrV4) → ¬ (IsSocketV4Text text address))) }
+        (address : SocketAddrV4) → ¬ (IsAddress text address))) }
 {
     match matches.get_str(name) {
         Some(text) => match address_in(word, text) {

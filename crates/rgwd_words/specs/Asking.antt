@@ -1,6 +1,5 @@
 -- What stands behind the words of the command line, and what they ask for by that.
 use Rattle.std.specs.Prelude.{◌≡◌, ◌<◌, ◌^◌, ℕ, Bool, true, false, codes, is_some, List, Option, None, Some, IsSome, IfSome, Ok, option_map}
-use Rattle.std.specs.Net.Grammar.{IsSocketV4Text}
 use Rattle.std.specs.Result.{result_ok}
 use Rattle.std.specs.Str.Parse.{IsNumeral, digits_value, without_leading_plus}
 use Rattle.std.specs.declared.net.socket_addr.SocketAddrV4.{SocketAddrV4}
@@ -8,6 +7,7 @@ use Rattle.bad_network.specs.Parts.{spoiling_of}
 use Rattle.bad_network.specs.declared.spoiling.Spoiling.{Spoiling}
 use Rattle.clap.specs.Matches.{first_value, one_text}
 use Rattle.clap.specs.declared.parser.matches.Found.{Found}
+use Rattle.live_ends.specs.Addresses.{IsAddress}
 use Rattle.new_start.specs.Words.{first_in, spread_in}
 use Rattle.rgwd_words.specs.declared.words.Settings.{Settings}
 use Rattle.rgwd_words.specs.declared.words.Sockets.{Sockets}
@@ -23,12 +23,12 @@ usual_phones = codes "127.0.0.1:2428"
 -- the address that a text behind a word says; none where nothing stands there
 abbrev pub IsBehind : Option (List ℕ) → Option SocketAddrV4 → Type 0
 IsBehind said None = said ≡ None
-IsBehind said (Some address) = (text : List ℕ) × (said ≡ Some text) × IsSocketV4Text text address
+IsBehind said (Some address) = (text : List ℕ) × (said ≡ Some text) × IsAddress text address
 
 -- the address that a text behind a word says, or this one where nothing stands there
 abbrev pub IsAt : List ℕ → Option (List ℕ) → SocketAddrV4 → Type 0
-IsAt usual None address = IsSocketV4Text usual address
-IsAt usual (Some text) address = IsSocketV4Text text address
+IsAt usual None address = IsAddress usual address
+IsAt usual (Some text) address = IsAddress text address
 
 -- what is read so of a text behind a word, which says something; nothing where none stands there
 abbrev pub IsRead : {A : Type 0} → (List ℕ → Option A) → Option (List ℕ) → Option A → Type 0

@@ -13,6 +13,7 @@ ghost use Rattle.std.specs.declared.io.ErrorKind.{ErrorKind};
 ghost use Rattle.std.specs.declared.io.ErrorKind.TheVariants as kinds;
 ghost use Rattle.std.specs.declared.net.ipv4_addr.Ipv4Addr.{Ipv4Addr};
 ghost use Rattle.std.specs.declared.net.socket_addr.SocketAddrV4.{SocketAddrV4};
+ghost use Rattle.live_ends.specs.Addresses.{local_address, IsAddress};
 ghost use Rattle.live_ends.specs.declared.asking.AskFault.TheVariants as ask_faults;
 ghost use Rattle.live_ends.specs.declared.ending.About.{About};
 ghost use Rattle.live_ends.specs.declared.ending.FileNames.{FileNames};
@@ -111,10 +112,11 @@ pub fn what_stands_behind_words_is_meant()
     // An address is what the text behind its word says, or none, or a usual one, and a word stands there or doesn't.
     ensures nothing { IsBehind None None }
     ensures something { (text : List ℕ) → IsBehind (Some text) None → ⊥ }
-    ensures address { (text : List ℕ) (address : SocketAddrV4) → IsSocketV4Text text address → IsBehind (Some text) (Some address) }
+    ensures address { (text : List ℕ) (address : SocketAddrV4) → IsAddress text address → IsBehind (Some text) (Some address) }
     ensures listen { (address : SocketAddrV4) → IsAt usual_listen None address → IsSocketV4Text (codes "127.0.0.1:2427") address }
     ensures phones { (address : SocketAddrV4) → IsAt usual_phones None address → IsSocketV4Text (codes "127.0.0.1:2428") address }
-    ensures said { (text : List ℕ) (address : SocketAddrV4) → IsAt usual_listen (Some text) address → IsSocketV4Text text address }
+    ensures said { (text : List ℕ) (address : SocketAddrV4) → IsAt usual_listen (Some text) address → IsAddress text address }
+    ensures here { (address : SocketAddrV4) → IsAt usual_listen (Some (codes "localhost:4000")) address → address ≡ local_address 4000 }
     ensures no_flag { (flag : Bool) → SaysFlag None flag → flag ≡ false }
     ensures flag { (flag : Bool) → SaysFlag (Some (codes "true")) flag → flag ≡ true }
     ensures flag_not { (flag : Bool) → SaysFlag (Some (codes "false")) flag → flag ≡ false }

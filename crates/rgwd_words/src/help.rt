@@ -45,7 +45,7 @@ const BELOW: &str = "
   --stop-after MS     it ends at this moment of its clock, in ms; else it goes on
   --help, --version   this, or the version, on standard output
 
-ADDRESS is a.b.c.d:port, and port 0 any free one. The first two sockets take datagrams (UDP).
+ADDRESS is a.b.c.d:port or localhost:port, and port 0 any free one. The first two sockets take datagrams (UDP).
 With --tell it starts no gateway: LINE, as phone 1 off, goes to the telephones at ADDRESS, and the answer to standard output.
 With --replay it starts none either: what went out in the file TRACE is compared with what the gateway sends for what came in.
 More: the manual page rgwd(8), and docs/OPERATING.md.

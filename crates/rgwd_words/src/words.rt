@@ -1,7 +1,7 @@
 //! What the words of the command line ask for.
 ghost use Rattle.std.specs.Prelude.{◌≡◌, ◌≢◌, ◌⊎◌, true, Some, None, IfOk, IfErr, codes, is_some, option_copied, option_map};
-ghost use Rattle.std.specs.Net.Grammar.{IsSocketV4Text};
 ghost use Rattle.clap.specs.Matches.{found_of, first_value, one_text};
+ghost use Rattle.live_ends.specs.Addresses.{IsAddress};
 ghost use Rattle.new_start.specs.Words.{first_in as first_read, spread_in as spread_read};
 ghost use Rattle.page_access.specs.Naming.{names_in, names_of};
 ghost use Rattle.surroundings.specs.Speaking.{admitted_by, admitted_in};
@@ -153,7 +153,7 @@ pub fn unless_help<'w>(word: &'w str) -> Result<&'w str, Ending>
 
 // The address that this text is, of a socket that a word asks for.
 fn address_of(word: AddressWord, text: &str) -> Result<SocketAddrV4, Ending>
-    ensures read { IfOk result (λ address. IsSocketV4Text text.now address) }
+    ensures read { IfOk result (λ address. IsAddress text.now address) }
     ensures refused { IfErr result (λ ending. fails ending ≡ true) }
 {
     match address_in(word, text) {
