@@ -75,6 +75,9 @@ pub fn each_sentence_has_an_example()
     ensures sender { request_in Here (codes "from 10.0.0.1:2427") ≡ Unknown }
     ensures lines_ask_for_this_nothing { request_in Here [] ≡ Unknown }
     ensures all { request_in Elsewhere (codes "show *") ≡ ShowAll }
+    ensures all_by_a_word { request_in Elsewhere (codes "show all") ≡ ShowAll }
+    ensures all_where_no_line_stands { request_in Elsewhere (codes "show") ≡ ShowAll }
+    ensures all_by_another_word { request_in Here (codes "show every") ≡ Unknown }
     ensures watch { request_in Elsewhere (codes "watch 60") ≡ Watch 60 }
     ensures watch_no_more { request_in Here (codes "watch  0") ≡ Watch 0 }
     ensures too_long { request_in Here (codes "watch 61") ≡ Unknown }

@@ -1,5 +1,5 @@
 -- What lines for the telephones ask for.
-use Rattle.std.specs.Prelude.{◌≡◌, ◌≤◌, ⊤, ℕ, Bool, true, false, nat_le, codes, if◌then◌else◌, List, [], ◌∷◌, Option, Some, None}
+use Rattle.std.specs.Prelude.{◌≡◌, ◌≤◌, ⊤, ℕ, Bool, true, false, ◌||◌, nat_le, codes, if◌then◌else◌, List, [], ◌∷◌, Option, Some, None}
 use Rattle.std.specs.Str.{bytes_eq}
 use Rattle.mg_bytes.specs.Option.{◌>>=◌}
 use Rattle.mg_bytes.specs.Words.{words}
@@ -65,12 +65,16 @@ abbrev pub watch_or : Option ℕ → TelephoneRequest → TelephoneRequest
 watch_or None request = request
 watch_or (Some seconds) request = Watch seconds
 
--- what a line asks for: `counts`, `stop`, `show *`, `watch` for a time, or what a script says by it
+-- a line asks what each line of the gateway is: by a star, which a shell takes for files, or in a word, or by nothing more
+abbrev pub asks_for_all : List ℕ → Bool
+asks_for_all line = bytes_eq line (codes "show *") || bytes_eq line (codes "show all") || bytes_eq line (codes "show")
+
+-- what a line asks for: `counts`, `stop`, `show` for all lines, `watch` for a time, or what a script says by it
 unfoldable pub line_request : Bool → List ℕ → TelephoneRequest
 line_request is_near line =
     if bytes_eq line (codes "counts") then Counts
     else if bytes_eq line (codes "stop") then stop_request is_near
-    else if bytes_eq line (codes "show *") then ShowAll
+    else if asks_for_all line then ShowAll
     else watch_or (watch_in (words line)) (request_by (line_in (words line)))
 
 -- what a line asks for by who typed it: anything, anything but the end, or nothing at all

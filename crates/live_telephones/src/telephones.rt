@@ -6,7 +6,7 @@ ghost use Rattle.rgw_scripts.specs.declared.step.ScriptLine.TheVariants.{Whole};
 ghost use Rattle.rgw_scripts.specs.Script.{line_in};
 ghost use Rattle.live_telephones.specs.declared.telephones.TelephoneRequest.TheVariants.{OutOfMemory};
 ghost use Rattle.live_telephones.specs.Admitting.{typist_of};
-ghost use Rattle.live_telephones.specs.Asking.{AsksFor, request_of, request_by, seconds_of, watch_in, watch_or, line_request, request_in, wants_memory};
+ghost use Rattle.live_telephones.specs.Asking.{AsksFor, request_of, request_by, seconds_of, watch_in, watch_or, asks_for_all, line_request, request_in, wants_memory};
 
 use line_changes::LONGEST_WATCH;
 use mg_bytes::{decimal, words};
@@ -130,6 +130,13 @@ fn watch_or(alloc: Global, line: &[u8]) -> TelephoneRequest
     }
 }
 
+// Whether a line asks what each line of the gateway is.
+fn asks_for_all(line: &[u8]) -> bool
+    ensures { result ≡ asks_for_all line.now }
+{
+    line == b"show *".as_slice() || line == b"show all".as_slice() || line == b"show".as_slice()
+}
+
 // What a line asks for, which came from this machine or from another one.
 #[tactic(auto, unfolding(crate::specs::Asking::line_request))]
 fn line_request(alloc: Global, line: &[u8], is_from_loopback: bool) -> TelephoneRequest
@@ -143,7 +150,7 @@ fn line_request(alloc: Global, line: &[u8], is_from_loopback: bool) -> Telephone
         TelephoneRequest::Stop
     } else if line == b"stop".as_slice() {
         TelephoneRequest::StopFromAfar
-    } else if line == b"show *".as_slice() {
+    } else if asks_for_all(line) {
         TelephoneRequest::ShowAll
     } else {
         watch_or(alloc, line)
