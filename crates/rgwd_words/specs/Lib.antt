@@ -5,4 +5,5 @@ pub mod Names
 pub mod Asking
 pub mod Opening
 pub mod Replaying
+pub mod Telling
 pub mod Flaws

@@ -2,10 +2,10 @@
 use Rattle.std.specs.Prelude.{ℕ, Bool, false, nat_le}
 use Rattle.live_ends.specs.Ending.{status_of as common_status, is_asked as is_commonly_asked}
 use Rattle.rgwd_words.specs.declared.ending.Ending.{Ending}
-use Rattle.rgwd_words.specs.declared.ending.Ending.TheVariants.{Common, Checked, BadAgents, BadHosts, BadSize, BadFiles, AnyAddress, BadFirst, BadSpread, NoTimeOfDay, Replayed, Differs, NoTrace, Answered, NoAnswer}
+use Rattle.rgwd_words.specs.declared.ending.Ending.TheVariants.{Common, Checked, BadAgents, BadHosts, BadSize, BadFiles, AnyAddress, BadFirst, BadSpread, NoTimeOfDay, Replayed, Differs, NoTrace, Answered, Refused, NoAnswer}
 
--- 0: it did what was asked; 1: nobody answered, or a line isn't as its trace tells it; 2: words, a configuration or a trace are refused;
--- 3: memory, a file, a socket, a stream or the clock failed
+-- 0: it did what was asked; 1: nobody answered, or a line is refused, or isn't as its trace tells it; 2: words, a configuration or a
+-- trace are refused; 3: memory, a file, a socket, a stream or the clock failed
 abbrev pub status_of : Ending → ℕ
 status_of (Common ending) = common_status ending
 status_of Checked = 0
@@ -21,6 +21,7 @@ status_of Replayed = 0
 status_of Differs = 1
 status_of NoTrace = 2
 status_of Answered = 0
+status_of Refused = 1
 status_of (NoAnswer address) = 1
 
 -- words are refused, or the system failed: it didn't do what was asked

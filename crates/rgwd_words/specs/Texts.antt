@@ -9,7 +9,7 @@ use Rattle.live_ends.specs.declared.ending.FileNames.{FileNames}
 use Rattle.live_ends.specs.Ending.{ending_text as common_text}
 use Rattle.rgwd_words.specs.declared.ending.TheConstants.{LAST_FIRST}
 use Rattle.rgwd_words.specs.declared.ending.Ending.{Ending}
-use Rattle.rgwd_words.specs.declared.ending.Ending.TheVariants.{Common, Checked, BadAgents, BadHosts, BadSize, BadFiles, AnyAddress, BadFirst, BadSpread, NoTimeOfDay, Replayed, Differs, NoTrace, Answered, NoAnswer}
+use Rattle.rgwd_words.specs.declared.ending.Ending.TheVariants.{Common, Checked, BadAgents, BadHosts, BadSize, BadFiles, AnyAddress, BadFirst, BadSpread, NoTimeOfDay, Replayed, Differs, NoTrace, Answered, Refused, NoAnswer}
 use Rattle.rgwd_words.specs.Parting.{most_megabytes, most_files}
 
 abbrev pub unanswered_text : SocketAddrV4 → List ℕ
@@ -35,4 +35,5 @@ ending_text about files Replayed = []
 ending_text about files Differs = []
 ending_text about files NoTrace = []
 ending_text about files Answered = []
+ending_text about files Refused = []
 ending_text about files (NoAnswer address) = unanswered_text address

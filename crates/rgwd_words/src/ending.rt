@@ -71,6 +71,8 @@ pub enum Ending {
     NoTrace,
     /// The telephones answered a line, and the answer is printed.
     Answered,
+    /// They refuse it, and their answer is printed.
+    Refused,
     /// Nobody answered a line at this address.
     NoAnswer { address: SocketAddrV4 },
 }
@@ -93,15 +95,15 @@ impl Said {
 }
 
 impl Ending {
-    /// The exit status: 0 served, told, checked or replayed, 1 no answer or another line, 2 words, a configuration or a trace that
-    /// are refused, 3 memory, a file, a socket, a stream or the clock.
+    /// The exit status: 0 served, told, checked or replayed, 1 no answer, one that refuses, or another line, 2 words, a configuration or
+    /// a trace that are refused, 3 memory, a file, a socket, a stream or the clock.
     pub fn status(self) -> u8
         ensures { result ≡ status_of self }
     {
         match self {
             Ending::Common(ending) => ending.status(),
             Ending::Checked | Ending::Answered | Ending::Replayed => 0,
-            Ending::NoAnswer { .. } | Ending::Differs => 1,
+            Ending::Refused | Ending::NoAnswer { .. } | Ending::Differs => 1,
             Ending::BadAgents
             | Ending::BadHosts
             | Ending::BadSize
@@ -157,6 +159,7 @@ impl Ending {
             Ending::Common(ending) => ending.put_text(alloc, out, about, files),
             Ending::Checked
             | Ending::Answered
+            | Ending::Refused
             | Ending::Replayed
             | Ending::Differs
             | Ending::NoTrace => Ok(()),

@@ -31,7 +31,7 @@ ghost use Rattle.rgw_scenes.specs.Wording.{Tells};
 ghost use Rattle.surroundings.specs.Speaking.{admitted_in};
 ghost use Rattle.traces.specs.declared.verdict.Verdict.TheVariants as verdicts;
 ghost use Rattle.rgwd_words.specs.declared.ending.Ending.{Ending};
-ghost use Rattle.rgwd_words.specs.declared.ending.Ending.TheVariants.{Common, Checked, BadAgents, BadHosts, BadSize, BadFiles, AnyAddress, BadFirst, BadSpread, NoTimeOfDay, Replayed, Differs, NoTrace, Answered, NoAnswer};
+ghost use Rattle.rgwd_words.specs.declared.ending.Ending.TheVariants.{Common, Checked, BadAgents, BadHosts, BadSize, BadFiles, AnyAddress, BadFirst, BadSpread, NoTimeOfDay, Replayed, Differs, NoTrace, Answered, Refused, NoAnswer};
 ghost use Rattle.rgwd_words.specs.declared.help.TheConstants.{USAGE};
 ghost use Rattle.rgwd_words.specs.declared.words.ListFault.{ListFault};
 ghost use Rattle.rgwd_words.specs.declared.words.ListFault.TheVariants as faults;
@@ -44,6 +44,7 @@ ghost use Rattle.rgwd_words.specs.Opening.{names_asked, RefusesNames, RefusesSpe
 ghost use Rattle.rgwd_words.specs.Parting.{parting_of};
 ghost use Rattle.rgwd_words.specs.Replaying.{replayed_by};
 ghost use Rattle.rgwd_words.specs.Statuses.{status_of, is_asked, fails};
+ghost use Rattle.rgwd_words.specs.Telling.{answered_by};
 ghost use Rattle.rgwd_words.specs.Texts.{ending_text};
 
 /// Each sentence at an example.
@@ -51,21 +52,22 @@ pub fn each_sentence_has_an_example()
     // What was asked was done, or nobody answered, or words are refused, or the system failed.
     ensures statuses_tell_what_came_of_it_common { (ending : CommonEnding) → status_of (Common ending) ≡ common_status ending }
     ensures done { map status_of (Checked ∷ Replayed ∷ Answered ∷ []) ≡ 0 ∷ 0 ∷ 0 ∷ [] }
-    ensures unlike { status_of Differs ≡ 1 }
+    ensures unlike { map status_of (Differs ∷ Refused ∷ []) ≡ 1 ∷ 1 ∷ [] }
     ensures statuses_tell_what_came_of_it_silent { (address : SocketAddrV4) → status_of (NoAnswer address) ≡ 1 }
     ensures words { map status_of (AnyAddress ∷ BadFirst ∷ BadSpread ∷ NoTrace ∷ []) ≡ 2 ∷ 2 ∷ 2 ∷ 2 ∷ [] }
     ensures admission { map status_of (BadAgents ∷ BadHosts ∷ BadSize ∷ BadFiles ∷ []) ≡ 2 ∷ 2 ∷ 2 ∷ 2 ∷ [] }
     ensures system { status_of NoTimeOfDay ≡ 3 }
     ensures failed { map fails (BadAgents ∷ NoTimeOfDay ∷ Common Usage ∷ Common OutOfMemory ∷ []) ≡ true ∷ true ∷ true ∷ true ∷ [] }
-    ensures not_failed { map fails (Common Served ∷ Checked ∷ Replayed ∷ Differs ∷ Answered ∷ [])
-        ≡ false ∷ false ∷ false ∷ false ∷ false ∷ [] }
+    ensures not_failed { map fails (Common Served ∷ Checked ∷ Replayed ∷ Differs ∷ Answered ∷ Refused ∷ [])
+        ≡ false ∷ false ∷ false ∷ false ∷ false ∷ false ∷ [] }
     ensures asked { (ending : CommonEnding) → is_asked (Common ending) ≡ is_commonly_asked ending }
     ensures own { map is_asked (Checked ∷ BadSize ∷ NoTrace ∷ Answered ∷ []) ≡ false ∷ false ∷ false ∷ false ∷ [] }
     // An ending says why, in a line; nothing where what was asked for is printed, or where all was said.
     ensures an_ending_says_why_common { (about : About) (names : FileNames) (ending : CommonEnding) →
         ending_text about names (Common ending) ≡ common_text about names ending }
     ensures an_ending_says_why_nothing { (about : About) (names : FileNames) →
-        map (ending_text about names) (Checked ∷ Answered ∷ Replayed ∷ Differs ∷ NoTrace ∷ []) ≡ [] ∷ [] ∷ [] ∷ [] ∷ [] ∷ [] }
+        map (ending_text about names) (Checked ∷ Answered ∷ Refused ∷ Replayed ∷ Differs ∷ NoTrace ∷ [])
+        ≡ [] ∷ [] ∷ [] ∷ [] ∷ [] ∷ [] ∷ [] }
     ensures size { (about : About) (names : FileNames) → ending_text about names BadSize
         ≡ codes "--capture-size: wanted 1 to 100000 MB, beside --capture\n" }
     ensures files { (about : About) (names : FileNames) → ending_text about names BadFiles
@@ -187,4 +189,14 @@ pub fn a_flaw_is_said_so()
     // It is that of the text, and not of its name.
     ensures whose { (text line : List ℕ) (says : TellsFlaw (codes "gateway.toml") text line flaws.AnyAddress)
         → Tells text flaws.AnyAddress says.0 }
+{}
+
+/// How the program ends by an answer at the telephones.
+pub fn an_answer_ends_it_so()
+    // One that begins with a mark refuses the line, and any other one doesn't.
+    ensures refused { answered_by (codes "! 5 PhoneState\n") ≡ Refused }
+    ensures not_understood { answered_by (codes "? VERB NAME, counts, or stop\n") ≡ Refused }
+    ensures done { answered_by (codes "done\n") ≡ Answered }
+    ensures marked_later { answered_by (codes "line 1 on ! ?\n") ≡ Answered }
+    ensures empty { answered_by [] ≡ Answered }
 {}

@@ -1,5 +1,7 @@
 //! Sends a line to a gateway's telephones, and prints what they answer.
+ghost use Rattle.std.specs.Prelude.{◌≡◌};
 ghost use Rattle.rgwd_words.specs.Opening.{Unanswered};
+ghost use Rattle.rgwd_words.specs.Telling.{answered_by};
 
 use crate::ending::Ending;
 use crate::words::unless_help;
@@ -23,6 +25,17 @@ fn unanswered(address: SocketAddrV4, fault: AskFault) -> Ending
         AskFault::NoAnswer => Ending::NoAnswer { address },
         AskFault::Clock => Ending::Common(CommonEnding::Clock),
         AskFault::Refused { kind } => Ending::unbound(AddressWord::Tell, address, kind),
+    }
+}
+
+/// How the program ends by an answer, which is printed.
+pub fn answered_by(answer: &[u8]) -> Ending
+    ensures { result ≡ answered_by answer.now }
+{
+    if answer.starts_with(b"?") || answer.starts_with(b"!") {
+        Ending::Refused
+    } else {
+        Ending::Answered
     }
 }
 
@@ -59,10 +72,9 @@ pub fn tell_line<R: AllocGlobal + Net + Clock, F: Write + Drop>(
         return Ending::Common(CommonEnding::OutOfMemory);
     };
     match ask(rt, address, line.as_bytes(), &mut room) {
-        Ok(()) => {
-            output.say(room.as_slice());
-            Ending::Answered
-        }
-        Err(fault) => unanswered(address, fault),
+        Ok(()) => {}
+        Err(fault) => return unanswered(address, fault),
     }
+    output.say(room.as_slice());
+    answered_by(room.as_slice())
 }

@@ -5,6 +5,7 @@
 use crate::stories::{Clocks, Plan, Story, Transcript, put_sent};
 use live_ends::{AskFault, ask};
 use mg_bytes::OutOfMemory;
+use rgwd_words::answered_by;
 use scenario_files::parted;
 use std::alloc::Global;
 use std::cell::Cell;
@@ -120,16 +121,31 @@ fn asked_in(words: &[String]) -> Option<(SocketAddrV4, &str)> {
     Some((address.parse::<SocketAddrV4>().ok()?, line))
 }
 
+// Puts what is printed of an answer, and with which status the program ends by it, where a story asks for that.
+fn put_answer<R>(
+    telephones: &Telephones<'_, R>,
+    answer: &[u8],
+    has_status: bool,
+    given: &mut Transcript,
+) {
+    let at = telephones.clocks.stamp();
+    given.tell(at, b"print ", answer);
+    if has_status {
+        given.tell_status(at, answered_by(answer).status());
+    }
+}
+
 // Sends a line to telephones that are there, and puts what is printed: whether it was sent.
 fn tell<R: Net>(
     telephones: &Telephones<'_, R>,
     there: SocketAddrV4,
     line: &str,
+    has_status: bool,
     given: &mut Transcript,
 ) -> Result<bool, OutOfMemory> {
     let mut room = vec![in telephones.alloc; 0u8; ROOM]?;
     match ask(telephones, there, line.as_bytes(), &mut room) {
-        Ok(()) => given.tell(telephones.clocks.stamp(), b"print ", room.as_slice()),
+        Ok(()) => put_answer(telephones, room.as_slice(), has_status, given),
         Err(AskFault::NoAnswer) => {}
         Err(AskFault::Clock | AskFault::Refused { .. }) => return Ok(false),
     }
@@ -164,5 +180,6 @@ pub fn play_telling<R: AllocGlobal + Net>(
         plan: Cell::new(Some(plan)),
         given: Cell::new(Some(Transcript::new(alloc))),
     };
-    Ok(Some(tell(&telephones, there, line, given)?))
+    let has_status = story.has_status;
+    Ok(Some(tell(&telephones, there, line, has_status, given)?))
 }
