@@ -1,6 +1,7 @@
 -- The definitions opened, so that worked examples compute.
 use Rattle.std.specs.Prelude.{⊤}
 use Rattle.mg_bytes.proofs.Computing.{on_examples as byte_examples}
+use Rattle.exchange_log.specs.Escaping.{shown}
 use Rattle.live_ends.specs.AddressWords.{word_text}
 use Rattle.live_ends.specs.Addresses.{local_port}
 use Rattle.live_ends.specs.Ending.{ending_text}
@@ -8,5 +9,5 @@ use Rattle.live_ends.specs.Looking.{may_have_more}
 use Rattle.live_ends.specs.NetworkFaults.{wanted_by}
 
 unfoldable pub on_examples : ⊤
-unfolding byte_examples ending_text may_have_more word_text local_port wanted_by
+unfolding byte_examples shown ending_text may_have_more word_text local_port wanted_by
 on_examples = tt

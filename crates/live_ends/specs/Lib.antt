@@ -6,4 +6,5 @@ pub mod AddressWords
 pub mod Addresses
 pub mod NetworkFaults
 pub mod Wording
+pub mod Printing
 pub mod Ending

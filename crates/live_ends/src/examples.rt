@@ -1,7 +1,7 @@
 //! Worked examples of the definitions, as theorems: each sentence of a definition has one that a slip in it breaks.
 #![tactic(auto, unfolding(crate::proofs::Computing::on_examples))]
 
-ghost use Rattle.std.specs.Prelude.{◌≡◌, codes, true, false, [], ◌∷◌, map, Some, None, Ok, Err};
+ghost use Rattle.std.specs.Prelude.{◌≡◌, codes, true, false, [], ◌∷◌, ◌++◌, map, Some, None, Ok, Err};
 ghost use Rattle.std.specs.IoError.{error_kind};
 ghost use Rattle.std.specs.declared.io.Error.{Error};
 ghost use Rattle.std.specs.declared.io.ErrorKind.TheVariants.{WouldBlock, Interrupted, Uncategorized};
@@ -11,6 +11,7 @@ ghost use Rattle.exchange_log.specs.declared.note.Notice.TheVariants.{SetOn, Set
 ghost use Rattle.live_ends.specs.Days.{jump_from};
 ghost use Rattle.live_ends.specs.Parting.{number_behind, numbered, is_old, is_full};
 ghost use Rattle.live_ends.specs.Looking.{no_visit, has_visits, may_have_more, heard_of, heard_by};
+ghost use Rattle.live_ends.specs.Printing.{printed};
 ghost use Rattle.live_ends.specs.Waiting.{longest_wait};
 
 /// Each sentence at an example.
@@ -50,4 +51,10 @@ pub fn each_sentence_has_an_example()
     ensures nothing_waits { longest_wait false 700 ≡ 700 }
     ensures something_waits { longest_wait true 700 ≡ 20 }
     ensures shorter { longest_wait true 5 ≡ 5 }
+    // Text of a network is printed line by line, and all else in it that isn't printable as the log shows it.
+    ensures lines { printed (codes "line 1 on\nline 2 off\n") ≡ codes "line 1 on\nline 2 off\n" }
+    ensures sequence { printed (27 ∷ codes "]0;x") ≡ 92 ∷ codes "x1b]0;x" }
+    ensures line_end { printed (13 ∷ 10 ∷ []) ≡ 92 ∷ codes "x0d\n" }
+    ensures backslash { printed (92 ∷ []) ≡ 92 ∷ codes "x5c" }
+    ensures high { printed (195 ∷ 169 ∷ []) ≡ (92 ∷ codes "xc3") ++ (92 ∷ codes "xa9") }
 {}

@@ -2,6 +2,7 @@
 use Rattle.std.specs.Prelude.{ℕ, Bool, true, false, codes, List, [], ◌∷◌, ◌++◌}
 use Rattle.std.specs.Net.Text.{socket_v4_text}
 use Rattle.std.specs.declared.net.socket_addr.SocketAddrV4.{SocketAddrV4}
+use Rattle.live_ends.specs.Printing.{printed}
 use Rattle.live_ends.specs.Wording.{joined}
 use Rattle.live_ends.specs.Ending.{ending_text as common_text}
 use Rattle.load_bench.specs.declared.settings.LoadNumber.{LoadNumber}
@@ -38,7 +39,7 @@ number_text Seed = codes "--seed: wanted a number, 0 to 999999999999999999\n"
 number_text Success = codes "--success: wanted a percentage, 0 to 100\n"
 
 -- it is a line, or those of what a telephone was; nothing where a gateway was checked, whose report is printed, or where all was as a
--- script expects
+-- script expects; what keeps a script from its end may be what telephones answer
 unfoldable pub ending_text : Abouts → Named → Ending → List ℕ
 ending_text about named (Common ending) = common_text about.program named.files ending
 ending_text about named (OfCheck ending) = common_text about.checks named.files ending
@@ -48,7 +49,7 @@ ending_text about named (Checked status) = []
 ending_text about named (Loaded is_enough) = []
 ending_text about named Played = []
 ending_text about named (Unexpected text) = text
-ending_text about named (Unplayed text) = text
+ending_text about named (Unplayed text) = printed text
 ending_text about named (BadScript text) = text
 ending_text about named BadGateway = joined (named.gateway.now ∷ codes ": wanted NAME=ADDRESS, each name and each address once\n" ∷ [])
 ending_text about named (BadNumber number) = joined (number_text number ∷ [])

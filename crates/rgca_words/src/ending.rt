@@ -13,7 +13,7 @@ use crate::load_words::LoadWordFault;
 use crate::phone_words::PhoneWordFault;
 use crate::words::WordFault;
 use exchange_log::peer_text;
-use live_ends::{About, CommonEnding, FileNames, end, put_pieces};
+use live_ends::{About, CommonEnding, FileNames, end, put_pieces, put_printed};
 use live_outlets::Outlets;
 use load_bench::LoadNumber;
 use mg_bytes::{OutOfMemory, Text};
@@ -239,8 +239,10 @@ impl Ending {
             Ending::OfPhones(ending) => ending.put_text(alloc, out, about.phones, named.files),
             Ending::OfLoads(ending) => ending.put_text(alloc, out, about.loads, named.files),
             Ending::Checked { .. } | Ending::Played | Ending::Loaded { .. } => Ok(()),
-            Ending::Unexpected { text } | Ending::Unplayed { text } | Ending::BadScript { text } =>
-                { out.extend_from_slice(text.as_bytes()) }
+            Ending::Unplayed { text } => put_printed(alloc, out, text.as_bytes()),
+            Ending::Unexpected { text } | Ending::BadScript { text } => {
+                out.extend_from_slice(text.as_bytes())
+            }
             Ending::BadGateway => put_pieces(out, &[named.gateway, NO_GATEWAY]),
             Ending::BadNumber { number } => put_number(out, *number),
             Ending::Untold { address } => put_of(alloc, out, *address, UNTOLD),

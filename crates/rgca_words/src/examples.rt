@@ -13,6 +13,7 @@ ghost use Rattle.live_ends.specs.Addresses.{IsAddress};
 ghost use Rattle.live_ends.specs.declared.ending.CommonEnding.{CommonEnding};
 ghost use Rattle.live_ends.specs.declared.ending.CommonEnding.TheVariants.{Served, Help, Version, Usage, Unreadable, Unwritable};
 ghost use Rattle.live_ends.specs.Ending.{status_of as common_status, is_asked as is_commonly_asked, ending_text as common_text};
+ghost use Rattle.live_ends.specs.Printing.{printed};
 ghost use Rattle.live_ends.specs.Wording.{joined};
 ghost use Rattle.live_outlets.specs.Reasons.{reason_of};
 ghost use Rattle.rgca_words.specs.declared.help.TheConstants.{USAGE, CHECK_USAGE};
@@ -97,7 +98,7 @@ pub fn further_sentences_have_examples()
     ensures an_ending_says_why_unexpected { (about : Abouts) (named : Named) (text : List ℕ) → ending_text about named (Unexpected text)
         ≡ text }
     ensures an_ending_says_why_unplayed { (about : Abouts) (named : Named) (text : List ℕ) → ending_text about named (Unplayed text)
-        ≡ text }
+        ≡ printed text }
     ensures an_ending_says_why_bad_script { (about : Abouts) (named : Named) (text : List ℕ) → ending_text about named (BadScript text)
         ≡ text }
     ensures an_ending_says_why_bad_gateway { (about : Abouts) (named : Named) → ending_text about named BadGateway

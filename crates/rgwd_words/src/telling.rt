@@ -5,7 +5,7 @@ ghost use Rattle.rgwd_words.specs.Telling.{answered_by};
 
 use crate::ending::Ending;
 use crate::words::unless_help;
-use live_ends::{AddressWord, AskFault, CommonEnding, address_in, ask};
+use live_ends::{AddressWord, AskFault, CommonEnding, address_in, ask, put_printed};
 use live_outlets::Outlet;
 use std::io::Write;
 use std::net::{Net, SocketAddrV4};
@@ -75,6 +75,10 @@ pub fn tell_line<R: AllocGlobal + Net + Clock, F: Write + Drop>(
         Ok(()) => {}
         Err(fault) => return unanswered(address, fault),
     }
-    output.say(room.as_slice());
+    let mut text = Vec::new(alloc);
+    if put_printed(alloc, &mut text, room.as_slice()).is_err() {
+        return Ending::Common(CommonEnding::OutOfMemory);
+    }
+    output.say(text.as_slice());
     answered_by(room.as_slice())
 }

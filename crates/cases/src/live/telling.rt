@@ -3,7 +3,7 @@
 //! Who asks has a socket of the machine's, and so have the telephones here; the clock is the story's. Each time that it is looked at what
 //! comes next comes, at its moment.
 use crate::stories::{Clocks, Plan, Story, Transcript, put_sent};
-use live_ends::{AskFault, ask};
+use live_ends::{AskFault, ask, put_printed};
 use mg_bytes::OutOfMemory;
 use rgwd_words::answered_by;
 use scenario_files::parted;
@@ -127,12 +127,15 @@ fn put_answer<R>(
     answer: &[u8],
     has_status: bool,
     given: &mut Transcript,
-) {
+) -> Result<(), OutOfMemory> {
+    let mut text = Vec::new(telephones.alloc);
+    put_printed(telephones.alloc, &mut text, answer)?;
     let at = telephones.clocks.stamp();
-    given.tell(at, b"print ", answer);
+    given.tell(at, b"print ", text.as_slice());
     if has_status {
         given.tell_status(at, answered_by(answer).status());
     }
+    Ok(())
 }
 
 // Sends a line to telephones that are there, and puts what is printed: whether it was sent.
@@ -145,7 +148,7 @@ fn tell<R: Net>(
 ) -> Result<bool, OutOfMemory> {
     let mut room = vec![in telephones.alloc; 0u8; ROOM]?;
     match ask(telephones, there, line.as_bytes(), &mut room) {
-        Ok(()) => put_answer(telephones, room.as_slice(), has_status, given),
+        Ok(()) => put_answer(telephones, room.as_slice(), has_status, given)?,
         Err(AskFault::NoAnswer) => {}
         Err(AskFault::Clock | AskFault::Refused { .. }) => return Ok(false),
     }
