@@ -1,7 +1,8 @@
 -- What is told of lines and calls on standard output: a line each, in printable ASCII.
-use Rattle.std.specs.Prelude.{◌≡◌, ◌⊎◌, ℕ, Bool, false, ◌==◌, ◌&&◌, nat_le, codes, decimal, if◌then◌else◌, List, [], ◌∷◌, ◌++◌, map}
+use Rattle.std.specs.Prelude.{◌≡◌, ◌⊎◌, ℕ, Bool, false, ◌==◌, codes, decimal, if◌then◌else◌, List, [], ◌∷◌, ◌++◌}
 use Rattle.std.specs.List.{flat_map}
 use Rattle.std.specs.Borrow.{Bor}
+use Rattle.exchange_log.specs.Escaping.{shown}
 use Rattle.live_outlets.specs.declared.record.Record.{Record}
 use Rattle.live_outlets.specs.declared.record.RecordState.TheVariants as records
 use Rattle.live_outlets.specs.Recording.{is_told}
@@ -12,12 +13,12 @@ use Rattle.agent_texts.specs.declared.standing.Standing.TheVariants.{Rest, Diall
 use Rattle.agent_texts.specs.declared.station.Station.{Station}
 use Rattle.agent_texts.specs.Stations.{number_at}
 
--- a byte that isn't printable ASCII is told as a dot
-abbrev pub plain_byte : ℕ → ℕ
-plain_byte byte = if nat_le 32 byte && nat_le byte 126 then byte else 46
+-- a byte is told as the log shows it: printable ASCII as it is, but for the backslash, and any other by its number
+abbrev pub plain_byte : ℕ → List ℕ
+plain_byte byte = shown (byte ∷ [])
 
 abbrev pub plain : List ℕ → List ℕ
-plain text = map plain_byte text
+plain text = flat_map plain_byte text
 
 abbrev pub piece_told : Bor (List ℕ) → List ℕ
 piece_told piece = plain piece.now

@@ -77,7 +77,7 @@ pub fn further_sentences_have_examples()
     ensures busy_later { with_change Reorder Busy nothing_counted ≡ nothing_counted }
     ensures calls_are_counted_as_they_come_called_before { with_change Called Rest nothing_counted ≡ nothing_counted }
     // What becomes of a line is told in lines of printable ASCII: a call that is over, and how the line stands now.
-    ensures plain { plain (31 ∷ 32 ∷ 126 ∷ 127 ∷ []) ≡ 46 ∷ 32 ∷ 126 ∷ 46 ∷ [] }
+    ensures plain { plain (27 ∷ 32 ∷ 126 ∷ 10 ∷ []) ≡ (92 ∷ codes "x1b ~") ++ (92 ∷ codes "x0a") }
     ensures changes_are_told_in_lines_dials { change_told two_stations 1 Rest Dialling ≡ codes "line 202: dialling\n" }
     ensures rests { change_told two_stations 1 Busy Rest ≡ codes "line 202: at rest\n" }
     ensures changes_are_told_in_lines_rings { change_told two_stations 0 Dialling (calls Ringing) ≡ codes "call 3: 201 -> 202 ringing\n" }

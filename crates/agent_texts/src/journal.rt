@@ -14,6 +14,7 @@ use crate::text::header_word;
 use event_values::{Observed, write_observed};
 use exchange_log::{
     Note, Packet, Stamp, Way, put_given_up, put_head, put_message, put_note, put_packet,
+    write_shown,
 };
 use live_outlets::{Outlets, Record, Written};
 use mg_bytes::{Draft, OutOfMemory, lines};
@@ -63,15 +64,13 @@ impl Drop for Journal {
     }
 }
 
-// Each byte that isn't printable ASCII is told as a dot.
-fn put_plain(out: &mut Vec<u8>, bytes: &[u8]) -> Result<(), OutOfMemory>
-    ensures { OnOk result (out.new.items ≡ out.old.items ++ plain bytes.now) }
+// Each byte is told as the log shows it.
+fn put_plain(out: &mut Draft, bytes: &[u8])
+    ensures { out.new ≡ out.old ++ plain bytes.now }
 {
     for byte in bytes {
-        let is_plain = *byte >= b' ' && *byte <= b'~';
-        out.push(if is_plain { *byte } else { b'.' })?;
+        write_shown(out, &[*byte]);
     }
-    Ok(())
 }
 
 // A line of these pieces.
@@ -79,11 +78,12 @@ fn put_plain(out: &mut Vec<u8>, bytes: &[u8]) -> Result<(), OutOfMemory>
 fn put_line(out: &mut Vec<u8>, pieces: &[&[u8]]) -> Result<(), OutOfMemory>
     ensures { OnOk result (out.new.items ≡ out.old.items ++ line_of_pieces pieces.now) }
 {
+    let mut line = Draft::new(*out.allocator());
     for piece in pieces {
-        put_plain(out, piece)?;
+        put_plain(&mut line, piece);
     }
-    out.push(b'\n')?;
-    Ok(())
+    line.put_byte(b'\n');
+    line.append_to(out)
 }
 
 // The lines of a text in one, with bars between them.

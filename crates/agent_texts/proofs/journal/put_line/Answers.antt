@@ -4,4 +4,4 @@ use Rattle.agent_texts.proofs.journal.put_line.Goals as goal
 
 pub loop-piece-preserved : goal.loop-piece-preserved
 loop-piece-preserved c =
-    put_one piece_told c.args.pieces.now c.loop-piece.piece-index _ _ _ _ c.loop-piece-test.true c.in_ok-put_plain.ensures c.loop-piece.invariant
+    put_one piece_told c.args.pieces.now c.loop-piece.piece-index _ _ _ _ c.loop-piece-test.true c.put_plain.ensures c.loop-piece.invariant

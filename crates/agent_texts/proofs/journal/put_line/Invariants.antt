@@ -5,4 +5,4 @@ use Rattle.agent_texts.proofs.journal.put_line.Given as goal
 
 abbrev pub invariant-loop-piece : goal.invariant-loop-piece
 invariant-loop-piece l =
-    l.out.items ++ flat_map piece_told (drop l.piece-index l.pieces) ≡ l.fn.out.items ++ flat_map piece_told l.pieces
+    l.line ++ flat_map piece_told (drop l.piece-index l.pieces) ≡ flat_map piece_told l.pieces

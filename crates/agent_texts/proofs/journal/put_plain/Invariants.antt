@@ -3,4 +3,4 @@ use Rattle.agent_texts.specs.Telling.{plain}
 use Rattle.agent_texts.proofs.journal.put_plain.Given as goal
 
 abbrev pub invariant-loop-byte : goal.invariant-loop-byte
-invariant-loop-byte l = l.out.items ++ plain (drop l.byte-index l.bytes) ≡ l.fn.out.items ++ plain l.bytes
+invariant-loop-byte l = l.out ++ plain (drop l.byte-index l.bytes) ≡ l.fn.out ++ plain l.bytes
