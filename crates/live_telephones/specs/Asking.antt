@@ -85,7 +85,7 @@ request_in Stranger line = Refused
 
 -- what the lines are that ask for something
 abbrev pub usage : List ℕ
-usage = codes "? phone LINE off|on|flash|KEY, show LINE|*, watch SECONDS, counts, or stop\n"
+usage = codes "? phone LINE off|on|flash|KEY, show LINE|all, watch SECONDS, counts, or stop\n"
 
 -- what is answered to a request that is answered by a text alone: where to ask from, want of memory, or what may be asked
 abbrev pub short_text : TelephoneRequest → List ℕ

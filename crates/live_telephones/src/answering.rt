@@ -24,7 +24,7 @@ use surroundings::{Lines, Surroundings};
 
 /// The answer to a line that says nothing that can be done.
 pub const UNKNOWN: &[u8] =
-    b"? phone LINE off|on|flash|KEY, show LINE|*, watch SECONDS, counts, or stop\n";
+    b"? phone LINE off|on|flash|KEY, show LINE|all, watch SECONDS, counts, or stop\n";
 
 /// The answer to whatever comes from another machine, where the telephones aren't open to that.
 pub const PHONES_FROM_AFAR: &[u8] =

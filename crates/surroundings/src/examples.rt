@@ -16,7 +16,7 @@ pub fn each_sentence_has_an_example()
     // Each answer of `rgwd` is known by its beginning, and each line of its counts.
     ensures done { is_answer (codes "done") ≡ true }
     ensures answers_of_a_gateway_are_known_unknown { is_answer (codes
-        "? phone LINE off|on|flash|KEY, show LINE|*, watch SECONDS, counts, or stop") ≡ true }
+        "? phone LINE off|on|flash|KEY, show LINE|all, watch SECONDS, counts, or stop") ≡ true }
     ensures answers_of_a_gateway_are_known_refused { is_answer (codes "! 4 NoSuchLine") ≡ true }
     ensures from_afar { is_answer (codes "! stop is taken from a loopback address alone, 127.0.0.0/8") ≡ true }
     ensures shown { is_answer (codes "line 1 on") ≡ true }
