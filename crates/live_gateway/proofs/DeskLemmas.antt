@@ -9,7 +9,6 @@ use Rattle.surroundings.specs.Sending.{Received, Traffic, Grows}
 use Rattle.surroundings.specs.Speaking.{Admitted}
 use Rattle.surroundings.proofs.TrafficLemmas.{grows_nothing, nothing_more, grows_on}
 use Rattle.gateway_core.specs.Wire.{counted}
-use Rattle.gateway_core.proofs.ServeLemmas.{counted_on}
 use Rattle.gateway_texts.specs.declared.outcome.TextOutcome.{TextOutcome}
 use Rattle.gateway_core.specs.Stands.{Stands}
 use Rattle.plain_machine.specs.declared.setup.Setup.{Setup}
@@ -40,14 +39,18 @@ use Rattle.live_gateway.proofs.HearingLemmas.{heard_both}
 none_more : (n : ℕ) → n ≡ counted n 0
 none_more n = omega arith
 
--- an input was refused, or taken: so many were
+-- an input other than a datagram was refused, or taken: so many were
 abbrev pub refused_of : Bool → ℕ
 refused_of true = 1
 refused_of false = 0
 
-counts_one : (is_refused : Bool) (n : ℕ) → refusals is_refused n ≡ counted n (refused_of is_refused)
+counts_one : (is_refused : Bool) (n : ℕ) → refusals is_refused n ≡ counted n (0 + refused_of is_refused)
 counts_one true n = refl
 counts_one false n = none_more n
+
+-- so many datagrams are missing, and beside them so many other inputs were refused: those of two stretches together
+both_counted : (n m a k b : ℕ) → counted (counted n (m + a)) (k + b) ≡ counted n ((m + k) + (a + b))
+both_counted n m a k b = omega arith
 
 -- how a desk stands, by its play and its exchange
 abbrev pub standing_of : {S T : Type 0} → (T → Option (List ℕ)) → (S → Traffic) → LivePlay T → Exchange S → Standing
@@ -116,6 +119,7 @@ stays_by : (admission : Admission) (was is : Standing) → is ≡ was → GoesOn
 stays_by admission was is same = subst (λ (x : Standing). GoesOnBy admission was x [] [] 0) (sym same) (record {
   ran = ran_stays was.live;
   received = grows_nothing was.came.received;
+  others = 0;
   refused = none_more was.came.refused;
   events = refl;
   inputs = tt;
@@ -127,7 +131,8 @@ then_by : (admission : Admission) (was mid is : Standing) (a b : List Entry) (so
 then_by admission was mid is a b some more m n g h = record {
   ran = ran_on was.live mid.live is.live a b g.ran h.ran;
   received = grows_on was.came.received mid.came.received is.came.received some more g.received h.received;
-  refused = h.refused ∙ ap (λ (k : ℕ). counted k n) g.refused ∙ counted_on was.came.refused m n;
+  others = g.others + h.others;
+  refused = h.refused ∙ ap (λ (k : ℕ). counted k (n + h.others)) g.refused ∙ both_counted was.came.refused m g.others n h.others;
   events = subst (λ (l : List Received). AreAllBut (m + n) l (arrived_in (a ++ b))) (sym (heard_both admission some more))
       (subst (λ (l : List Received). AreAllBut (m + n) (heard_of admission some ++ heard_of admission more) l) (sym (arrived_both a b))
       (all_but_both m n (heard_of admission some) (arrived_in a) (heard_of admission more) (arrived_in b) g.events h.events));
@@ -187,6 +192,7 @@ ticked_by admission was mid moment short t later same = (
   record {
     ran = t.ran;
     received = nothing_more was.came.received mid.came.received (ap (λ (x : Came). x.received) same);
+    others = 0;
     refused = ap (λ (x : Came). x.refused) same ∙ none_more was.came.refused;
     events = marks_bring_nothing 0 (length t.outputs) t.marks t.are;
     inputs = (short, marks_are_of IsReadable 0 (length t.outputs) t.marks t.are);
@@ -194,11 +200,13 @@ ticked_by admission was mid moment short t later same = (
   },
 )
 
-unticked_by : (admission : Admission) (was mid : Standing) → Ran was.live [] mid.live → mid.came ≡ was.came
-    → GoesOnBy admission was (with_input true mid) [] [] 1
-unticked_by admission was mid ran same = record {
+-- no datagram is missing where another input is refused
+pub refused_by : (admission : Admission) (was mid : Standing) → Ran was.live [] mid.live → mid.came ≡ was.came
+    → GoesOnBy admission was (with_input true mid) [] [] 0
+refused_by admission was mid ran same = record {
   ran = ran;
   received = nothing_more was.came.received mid.came.received (ap (λ (x : Came). x.received) same);
+  others = 1;
   refused = ap (λ (x : Came). counted x.refused 1) same;
   events = refl;
   inputs = tt;
@@ -225,9 +233,9 @@ ticks told traffic old new mid (Ok done) moment short takes misses later same in
 ticks told traffic old new mid (Err why) moment short takes misses later same input kept = record {
   entries = [];
   came = [];
-  missing = 1;
-  went = subst (λ (x : Standing). GoesOnBy old.admission (at_desk told traffic old) x [] [] 1) (sym input)
-      (unticked_by old.admission (at_desk told traffic old) mid misses same);
+  missing = 0;
+  went = subst (λ (x : Standing). GoesOnBy old.admission (at_desk told traffic old) x [] [] 0) (sym input)
+      (refused_by old.admission (at_desk told traffic old) mid misses same);
   admission = kept;
 }
 
@@ -235,12 +243,13 @@ ticks told traffic old new mid (Err why) moment short takes misses later same in
 
 quiet_by : (admission : Admission) (was mid is : Standing) (is_refused : Bool) (says : Input → Type 0) → IsQuiet says
     → IsStill says → ((input : Input) → says input → IsReadable input) → RanOf says was.live mid.live
-    → mid.came ≡ was.came → is ≡ with_input is_refused mid → (entries : List Entry) × GoesOnBy admission was is entries [] (refused_of is_refused)
+    → mid.came ≡ was.came → is ≡ with_input is_refused mid → (entries : List Entry) × GoesOnBy admission was is entries [] 0
 quiet_by admission was mid is is_refused says quiet still line went same input = (
   went.entries,
   record {
     ran = subst (λ (x : Live). Ran was.live went.entries x) (sym (ap (λ (x : Standing). x.live) input)) went.ran;
     received = nothing_more was.came.received is.came.received (ap (λ (x : Standing). x.came.received) input ∙ ap (λ (x : Came). x.received) same);
+    others = refused_of is_refused;
     refused = ap (λ (x : Standing). x.came.refused) input ∙ ap (λ (x : Came). refusals is_refused x.refused) same ∙ counts_one is_refused was.came.refused;
     events = nobody_came says quiet went.entries went.inputs;
     inputs = are_so says IsReadable line went.entries went.inputs;
@@ -255,7 +264,7 @@ pub acts : {S T : Type 0} (told : T → Option (List ℕ)) (traffic : S → Traf
     → at_desk told traffic new ≡ with_input is_refused mid → new.admission ≡ old.admission → GoesOn told traffic old new
 acts told traffic old new mid is_refused says quiet still line went same input kept =
     let found = quiet_by old.admission (at_desk told traffic old) mid (at_desk told traffic new) is_refused says quiet still line went same input in
-    record { entries = found.0; came = []; missing = refused_of is_refused; went = found.1; admission = kept }
+    record { entries = found.0; came = []; missing = 0; went = found.1; admission = kept }
 
 -- a question is no input
 pub asks : {S T : Type 0} (told : T → Option (List ℕ)) (traffic : S → Traffic) (old new : Desk S T)
@@ -290,6 +299,7 @@ hears_nobody told traffic old new heard live counts kept = record {
   went = record {
     ran = subst (λ (x : Live). Ran (at_desk told traffic old).live [] x) (sym live) (ran_stays (at_desk told traffic old).live);
     received = heard.1;
+    others = 0;
     refused = counts ∙ none_more (at_desk told traffic old).came.refused;
     events = subst (λ (l : List Received). AreAllBut 0 l []) (sym heard.2) refl;
     inputs = tt;
@@ -308,6 +318,7 @@ taken_by admission was mid source bytes is are heard t counts = (
   record {
     ran = t.ran;
     received = heard.1;
+    others = 0;
     refused = counts ∙ none_more was.came.refused;
     events = subst (λ (l : List Received). AreAllBut 0 l (one ∷ arrived_in t.marks)) (sym heard.2)
         (subst (λ (l : List Received). AreAllBut 0 (one ∷ []) (one ∷ l)) (sym (marks_bring_nothing 0 (length t.outputs) t.marks t.are)) (all_of (one ∷ [])));
@@ -327,6 +338,7 @@ missed_by admission was mid one heard ran counts = (
   record {
     ran = ran;
     received = heard.1;
+    others = 0;
     refused = ap (λ (n : ℕ). counted n 1) counts;
     events = subst (λ (l : List Received). AreAllBut 1 l []) (sym heard.2) (inr (0, refl, refl));
     inputs = tt;
@@ -374,6 +386,7 @@ written_off told traffic old new gateway script handed grows same kept = record 
   went = record {
     ran = ran_written_off (at_desk told traffic old).live (at_desk told traffic new).live gateway script handed grows;
     received = nothing_more (at_desk told traffic old).came.received (at_desk told traffic new).came.received (ap (λ (x : Came). x.received) same);
+    others = 0;
     refused = ap (λ (x : Came). x.refused) same ∙ none_more (at_desk told traffic old).came.refused;
     events = refl;
     inputs = tt;

@@ -1,5 +1,5 @@
 -- A desk, as its contracts see it.
-use Rattle.std.specs.Prelude.{◌≡◌, ℕ, Bool, true, List, Option, None, Some}
+use Rattle.std.specs.Prelude.{◌≡◌, ℕ, ◌+◌, Bool, true, List, Option, None, Some}
 use Rattle.std.specs.declared.net.socket_addr.SocketAddrV4.{SocketAddrV4}
 use Rattle.gateway_core.specs.GatewayState.{GatewayState}
 use Rattle.gateway_core.specs.Stands.{Stands}
@@ -45,12 +45,14 @@ MayRefuseIfDone gateway event refusal = (events : List GatewayEvent) → Stands 
     → refusal_of (plain gateway.setup events) event ≡ None → Ends (plain gateway.setup events) event (Some refusal)
 
 -- It went on by these entries of a play, while this came. The datagrams that came in at the entries are those that came, without what
--- isn't heard, each with its bytes, in their order; but that some may be missing that memory was refused for: no more of them than inputs
--- were counted as refused. What came in can be read again, and each tick goes on.
+-- isn't heard, each with its bytes, in their order; but that so many are missing at most that memory was refused for. Each of these is
+-- counted as an input that was refused, and beside them so are the acts and ticks that were. What came in can be read again, and each
+-- tick goes on.
 pub record GoesOnBy (admission : Admission) (was is : Standing) (entries : List Entry) (came : List Received) (missing : ℕ) : Type 0 where
   pub ran : Ran was.live entries is.live
   pub received : Grows was.came.received came is.came.received
-  pub refused : is.came.refused ≡ counted was.came.refused missing
+  pub others : ℕ
+  pub refused : is.came.refused ≡ counted was.came.refused (missing + others)
   pub events : AreAllBut missing (heard_of admission came) (arrived_in entries)
   pub inputs : AreOf IsReadable entries
   pub later : (before : List GatewayEvent) → Stands was.live.gateway before → AreLater was.live.gateway.setup before entries

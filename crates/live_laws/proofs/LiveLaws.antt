@@ -57,16 +57,20 @@ pub are_from : (admission : Admission) (missing : ℕ) (came : List Received) (e
 are_from admission missing came entries all =
     entries_are_heard admission entries (some_are_heard admission missing (heard_of admission came) (arrived_in entries) all (heard_are_heard admission came))
 
-none_refused : (were are missing : ℕ) → are ≡ counted were missing → are ≡ were → were < 2 ^ 64 - 1 → missing ≡ 0
-none_refused were are missing counts same few = omega (arith, counts, same, few)
+none_of_both : (were are missing others : ℕ) → are ≡ counted were (missing + others) → are ≡ were → were < 2 ^ 64 - 1 → missing ≡ 0
+none_of_both were are missing others counts same few = omega (arith, counts, same, few)
+
+-- where no input was refused no datagram was
+pub none_refused : (admission : Admission) (was is : Standing) (entries : List Entry) (came : List Received) (missing : ℕ)
+    → GoesOnBy admission was is entries came missing → is.came.refused ≡ was.came.refused → was.came.refused < 2 ^ 64 - 1 → missing ≡ 0
+none_refused admission was is entries came missing went same few =
+    none_of_both was.came.refused is.came.refused missing went.others went.refused same few
 
 pub all_are_taken : (admission : Admission) (was is : Standing) (entries : List Entry) (came : List Received) (missing : ℕ)
-    → GoesOnBy admission was is entries came missing → is.came.refused ≡ was.came.refused → was.came.refused < 2 ^ 64 - 1
-    → arrived_in entries ≡ heard_of admission came
-all_are_taken admission was is entries came missing went same few =
+    → GoesOnBy admission was is entries came missing → missing ≡ 0 → arrived_in entries ≡ heard_of admission came
+all_are_taken admission was is entries came missing went none =
     none_missing (heard_of admission came) (arrived_in entries)
-    (subst (λ (n : ℕ). AreAllBut n (heard_of admission came) (arrived_in entries))
-    (none_refused was.came.refused is.came.refused missing went.refused same few) went.events)
+    (subst (λ (n : ℕ). AreAllBut n (heard_of admission came) (arrived_in entries)) none went.events)
 
 pub live_text : (was is : Live) (entries : List Entry) (head text : List ℕ) → Ran was entries is → was.script ≡ opening_script
     → was.told ≡ Some head → is.told ≡ Some text → text ++ clock_text is.script ≡ head ++ whole_text entries

@@ -1,6 +1,6 @@
 //! What a stranger sends changes nothing, nor does what a gateway sends itself, and what comes from others is an event: laws, whose
 //! functions do nothing.
-ghost use Rattle.std.specs.Prelude.{◌≡◌, ◌++◌, ◌<◌, ◌-◌, ◌^◌, ℕ, List, map, Some};
+ghost use Rattle.std.specs.Prelude.{◌≡◌, ◌++◌, ◌<◌, ◌-◌, ◌^◌, ℕ, true, List, [], map, Some};
 ghost use Rattle.surroundings.specs.Sending.{Sent, Received};
 ghost use Rattle.gateway_core.specs.Stands.{Stands};
 ghost use Rattle.plain_machine.specs.Event.{GatewayEvent};
@@ -9,7 +9,7 @@ ghost use Rattle.live_play.specs.Coming.{arrived_in};
 ghost use Rattle.live_play.specs.Running.{AreFrom, sent_of};
 ghost use Rattle.live_gateway.specs.declared.admission.Admission.{Admission};
 ghost use Rattle.live_gateway.specs.Admitting.{heard_of};
-ghost use Rattle.live_gateway.specs.Desk.{IsHeard, Standing, GoesOnBy};
+ghost use Rattle.live_gateway.specs.Desk.{IsHeard, Standing, with_input, GoesOnBy};
 
 /// However a desk went on, there are entries of a play at which each datagram came from who is heard; what the gateway took is theirs,
 /// and what was handed out is what it sends for them. So nothing that a stranger sends is an event, nor anything that came from the
@@ -25,12 +25,18 @@ pub fn what_a_stranger_sends_changes_nothing()
 {}
 
 /// However a desk went on, the datagrams that came in at its entries are all those that came but what isn't heard, each with its bytes, in
-/// their order, where no input was refused, as for want of memory; a count that has come to its end, 2^64 - 1, tells nothing of that.
+/// their order, where memory was refused for none of them, whatever became of acts and ticks: none is missing where one of these is
+/// refused, nor where no input was; but a count that has come to its end, 2^64 - 1, tells nothing of that.
 pub fn each_datagram_that_is_heard_is_an_event()
-    ensures { (admission : Admission) (was is : Standing) (entries : List Entry) (came : List Received) (missing : ℕ)
+    ensures taken { (admission : Admission) (was is : Standing) (entries : List Entry) (came : List Received) (missing : ℕ)
         (were are : List Received)
         → GoesOnBy admission was is entries came missing
         → was.came.received ≡ Some were → is.came.received ≡ Some are
-        → is.came.refused ≡ was.came.refused → was.came.refused < 2 ^ 64 - 1
+        → missing ≡ 0
         → (are ≡ were ++ came) × (arrived_in entries ≡ heard_of admission came) }
+    ensures none_missing { (admission : Admission) (was is : Standing) (entries : List Entry) (came : List Received) (missing : ℕ)
+        → GoesOnBy admission was is entries came missing
+        → is.came.refused ≡ was.came.refused → was.came.refused < 2 ^ 64 - 1
+        → missing ≡ 0 }
+    ensures refuses_an_act { (admission : Admission) (was : Standing) → GoesOnBy admission was (with_input true was) [] [] 0 }
 {}
