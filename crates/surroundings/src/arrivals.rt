@@ -1,7 +1,7 @@
 //! Copies of what comes.
 ghost use Rattle.std.specs.Prelude.{◌≡◌, ◌++◌, ◌∷◌, [], Some, OnOk, OnErr};
 ghost use Rattle.surroundings.specs.Sending.{Grows};
-ghost use Rattle.surroundings.specs.Keeping.{received_in, arrivals_of};
+ghost use Rattle.surroundings.specs.Keeping.{received_in, arrivals_of, KeepsArrival};
 
 use std::alloc::{AllocError, Global};
 use std::net::SocketAddrV4;
@@ -29,11 +29,13 @@ fn keep_copy(
     Ok(())
 }
 
-/// What came, in its order, until memory is refused for a copy; then nothing is kept.
+/// What came, in its order, until memory is refused for a copy.
 #[derive(Drop)]
 pub struct Arrivals {
     alloc: Global,
-    pub(crate) kept: Option<Vec<ReceivedDatagram>>,
+    pub(crate) kept: Vec<ReceivedDatagram>,
+    // No copy is missing.
+    pub(crate) is_whole: bool,
 }
 
 impl Arrivals {
@@ -43,21 +45,19 @@ impl Arrivals {
     {
         Arrivals {
             alloc,
-            kept: Some(Vec::new(alloc)),
+            kept: Vec::new(alloc),
+            is_whole: true,
         }
     }
 
     /// A datagram came.
+    #[tactic(auto, using(crate::proofs::TrafficLemmas::kept_grows))]
     pub fn add(&mut self, source: SocketAddrV4, bytes: &[u8])
-        ensures { Grows (arrivals_of self.old) (record { source = source; bytes = bytes.now } ∷ []) (arrivals_of self.new) }
+        ensures kept { KeepsArrival self.old (record { source = source; bytes = bytes.now }) self.new }
+        ensures told { Grows (arrivals_of self.old) (record { source = source; bytes = bytes.now } ∷ []) (arrivals_of self.new) }
     {
-        let alloc = self.alloc;
-        let Some(kept) = &mut self.kept else {
-            return;
-        };
-        match keep_copy(alloc, kept, source, bytes) {
-            Ok(()) => {}
-            Err(_) => self.kept = None,
+        if keep_copy(self.alloc, &mut self.kept, source, bytes).is_err() {
+            self.is_whole = false;
         }
     }
 }

@@ -1,14 +1,16 @@
 //! Worked examples of the definitions, as theorems: each sentence of a definition has one that a slip in it breaks.
 #![tactic(auto, unfolding(crate::proofs::Computing::on_examples))]
 
-ghost use Rattle.std.specs.Prelude.{◌≡◌, codes, map, true, false, [], ◌∷◌, Some, None, Ok, Err};
+ghost use Rattle.std.specs.Prelude.{◌≡◌, ℕ, Bool, List, codes, map, true, false, [], ◌∷◌, Some, None, Ok, Err};
 ghost use Rattle.std.specs.declared.net.socket_addr.SocketAddr.TheVariants.{V4, V6};
 ghost use Rattle.std.specs.declared.net.socket_addr.SocketAddrV6.{SocketAddrV6};
 ghost use Rattle.mg_bytes.specs.Lines.{cut};
 ghost use Rattle.surroundings.specs.Example.{socket_at, everywhere, here, there};
+ghost use Rattle.surroundings.specs.Keeping.{told_of, Keeps, KeepsArrival, Receives};
 ghost use Rattle.surroundings.specs.Requests.{is_answer, is_request, requests_from, is_from, is_from_any, is_own};
 ghost use Rattle.surroundings.specs.Sending.{found_by, received_at};
 ghost use Rattle.surroundings.specs.Typing.{behind};
+ghost use Rattle.surroundings.specs.declared.scripted.Scripted.{Scripted};
 ghost use Rattle.surroundings.specs.declared.surroundings.Fault.{Fault};
 
 /// Each sentence at an example.
@@ -89,4 +91,17 @@ pub fn further_sentences_have_examples()
     ensures what_is_received_stands_at_the_front_of_the_room_nothing { received_at (Ok None) (7 ∷ []) ≡ [] }
     ensures fault { (fault : Fault) → received_at (Err fault) (7 ∷ []) ≡ [] }
     ensures found { found_by (Some (socket_at there 2727, 1)) (7 ∷ 8 ∷ []) ≡ record { source = socket_at there 2727; bytes = 7 ∷ [] } ∷ [] }
+{}
+
+/// What is kept is still told, behind all that was; where memory is refused for a copy nothing is told any more. What is found comes, and
+/// nothing else does.
+pub fn what_is_kept_is_told()
+    ensures kept { (is_whole : Bool) → Keeps {A = ℕ} true (1 ∷ []) 2 is_whole (1 ∷ 2 ∷ []) → told_of {A = ℕ} is_whole (1 ∷ 2 ∷ []) ≡ Some (1 ∷ 2 ∷ []) }
+    ensures before { (is_whole : Bool) → Keeps {A = ℕ} true (1 ∷ []) 2 is_whole (2 ∷ 1 ∷ []) → ⊥ }
+    ensures refused { (is_whole : Bool) → Keeps {A = ℕ} true (1 ∷ []) 2 is_whole (1 ∷ []) → told_of {A = ℕ} is_whole (1 ∷ []) ≡ None }
+    ensures never_again { (is_whole : Bool) (are : List ℕ) → Keeps {A = ℕ} false [] 2 is_whole are → told_of is_whole are ≡ None }
+    ensures found { (was is : Scripted) → Receives was (Ok (Some (socket_at there 2727, 1))) (7 ∷ 8 ∷ []) is
+        → KeepsArrival was.received (record { source = socket_at there 2727; bytes = 7 ∷ [] }) is.received }
+    ensures nothing { (was is : Scripted) → Receives was (Ok None) (7 ∷ []) is → is.received ≡ was.received }
+    ensures fault { (fault : Fault) (was is : Scripted) → Receives was (Err fault) (7 ∷ []) is → is.received ≡ was.received }
 {}

@@ -1,6 +1,6 @@
 //! A program's surroundings in memory, by a script.
 ghost use Rattle.std.specs.Prelude.{◌≡◌, ◌≤◌, ◌<◌, ◌++◌, ◌∷◌, [], false, Some, length, IfSome, OnOk, OnErr};
-ghost use Rattle.surroundings.specs.Keeping.{told_by, KeepsAnswer};
+ghost use Rattle.surroundings.specs.Keeping.{told_by, KeepsAnswer, Sends};
 ghost use Rattle.surroundings.specs.Waiting.{next_by, HappensFirst, GoesOn};
 
 use crate::arrivals::Arrivals;
@@ -241,6 +241,16 @@ impl Scripted {
         }
     }
 
+    // A copy of what is handed over is kept; where memory is refused for one, what is sent isn't told any more.
+    fn keep_sent(&mut self, to: SocketAddrV4, bytes: &[u8])
+        ensures kept { Sends self.old to bytes.now self.new }
+        ensures received { self.new.received ≡ self.old.received }
+    {
+        if keep(self.alloc, &mut self.sent, self.moment, to, bytes).is_err() {
+            self.is_whole = false;
+        }
+    }
+
     // What was handed over last can't be sent.
     fn fail_to_send(&mut self)
         ensures sent { self.new.sent ≡ self.old.sent }
@@ -264,7 +274,7 @@ fn is_asked(what: &Happening, is_lines: bool) -> bool {
 
 impl Surroundings for Scripted {
     ghost use Rattle.std.specs.Prelude.{◌≡◌, ⊤, Ok};
-    ghost use Rattle.surroundings.specs.Keeping.{told_by, Answers};
+    ghost use Rattle.surroundings.specs.Keeping.{told_by, Answers, Receives, Sends};
     ghost use Rattle.surroundings.specs.Waiting.{time_at, Waits};
 
     ghost traffic = { told_by };
@@ -279,9 +289,9 @@ impl Surroundings for Scripted {
 
     ghost sleeps = { Waits };
 
-    ghost receives = { λ was given room is. ⊤ };
+    ghost receives = { Receives };
 
-    ghost sends = { λ was to bytes outcome is. ⊤ };
+    ghost sends = { λ was to bytes outcome is. Sends was to bytes is };
 
     ghost hears = { λ was given room is. ⊤ };
 
@@ -327,10 +337,9 @@ impl Surroundings for Scripted {
         }
     }
 
+    #[tactic(auto, using(crate::proofs::TrafficLemmas::kept_grows))]
     fn send(&mut self, to: SocketAddrV4, bytes: &[u8]) -> Result<(), Fault> {
-        if keep(self.alloc, &mut self.sent, self.moment, to, bytes).is_err() {
-            self.is_whole = false;
-        }
+        self.keep_sent(to, bytes);
         if self.is_failing {
             self.fail_to_send();
             return Err(Fault);
