@@ -3,6 +3,7 @@
 //! - `words --log` it is called with this; each word stands in a line of its own, with its value. Who may speak is who the configuration
 //!   names, unless `words --agents` says another.
 //! - `set ..` changes the configuration, as in a script.
+//! - `first by day` its ids begin as the time of day says, as those of the program do where no word says with which number; else with 0.
 //! - `at 2000` what stands below comes, and goes out, at this moment, in ms from the start.
 //! - `<`, `>` and the lines of a datagram, up to `--`: it comes from the agent, or goes there; behind them may stand an address.
 //! - `raw 10.0.0.7:2727 AUEP 1 ..` a datagram comes, in short forms.
@@ -43,7 +44,7 @@ use mg_bytes::OutOfMemory;
 use new_start::FirstNumber;
 use page_access::HostNames;
 use rgw_scenes::read_config;
-use rgwd_words::{Settings, hosts_in, speakers_in};
+use rgwd_words::{Settings, Start, hosts_in, speakers_in};
 use scenario_files::{Report, Titled};
 use std::alloc::{AllocError, Global};
 use std::collections::VecDeque;
@@ -73,16 +74,27 @@ impl Recorder<Trace> for Records {
     }
 }
 
-// A gateway of a configuration; nothing where that has a fault. Its ids begin with 0 where no word says with which number.
+// With which number ids begin: as the program says at its start, where a story asks for that; else as a word says, or with 0.
+fn first_by(settings: &Settings<'_>, story: &Story) -> FirstNumber {
+    let zero = FirstNumber::zero();
+    if !story.begins_by_day {
+        return settings.first.unwrap_or(zero);
+    }
+    match Start::now(story.clocks.as_ref(), settings) {
+        Some(start) => start.first,
+        None => zero,
+    }
+}
+
+// A gateway of a configuration, whose ids begin with this number; nothing where that has a fault.
 fn gateway_in(
     alloc: Global,
     config: &str,
-    settings: &Settings<'_>,
+    first: FirstNumber,
 ) -> Result<Option<Box<Gateway>>, OutOfMemory> {
     let Some(config) = read_config(alloc, config.as_bytes())? else {
         return Ok(None);
     };
-    let first = settings.first.unwrap_or(FirstNumber::zero());
     match Gateway::starting_at(alloc, config, first.number()) {
         Ok(gateway) => Ok(Some(boxed(alloc, gateway)?)),
         Err(ConfigFault::OutOfMemory) => Err(AllocError),
@@ -236,7 +248,8 @@ fn play_asked(
     given: &mut Transcript,
 ) -> Result<bool, OutOfMemory> {
     let config = settings_with(alloc, story.settings.as_str())?;
-    match gateway_in(alloc, config.as_str(), settings)? {
+    let first = first_by(settings, story);
+    match gateway_in(alloc, config.as_str(), first)? {
         Some(gateway) => play_with(alloc, settings, config.as_str(), gateway, story, given),
         None => Ok(false),
     }

@@ -74,7 +74,7 @@ fn serve_with<R: Files + Net + Clock + RandomSource + Alloc + Clone + Drop, P: R
     gateway: Box<Gateway>,
     recording: &mut Recording<R>,
 ) -> Ending {
-    let live = match open_sockets(rt, alloc, settings) {
+    let live = match open_sockets(rt, alloc, settings, begun) {
         Ok(live) => live,
         Err(ending) => return Ending::Common(ending),
     };

@@ -7,3 +7,4 @@ pub mod Opening
 pub mod Replaying
 pub mod Telling
 pub mod Flaws
+pub mod Starting

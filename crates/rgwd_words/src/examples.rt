@@ -1,7 +1,7 @@
 //! Worked examples of the definitions, as theorems.
 #![tactic(auto, unfolding(crate::proofs::Computing::on_examples))]
 
-ghost use Rattle.std.specs.Prelude.{◌≡◌, ◌≢◌, ◌<◌, ℕ, Bool, List, Option, codes, true, false, [], ◌∷◌, ◌++◌, map, option_map};
+ghost use Rattle.std.specs.Prelude.{◌≡◌, ◌≢◌, ◌<◌, ◌+◌, ℕ, Bool, List, Option, codes, true, false, [], ◌∷◌, ◌++◌, map, option_map};
 ghost use Rattle.std.specs.Prelude.{Ok, Err, Some, None};
 ghost use Rattle.std.specs.Borrow.{Bor};
 ghost use Rattle.std.specs.Net.Addr.{IsUnspecifiedV4};
@@ -28,6 +28,7 @@ ghost use Rattle.live_outlets.specs.Reasons.{reason_of};
 ghost use Rattle.page_access.specs.Naming.{names_in};
 ghost use Rattle.rgw_scenes.specs.declared.flaw.Flaw.TheVariants as flaws;
 ghost use Rattle.rgw_scenes.specs.Wording.{Tells};
+ghost use Rattle.small_rules.specs.Numbering.{first_at};
 ghost use Rattle.surroundings.specs.Speaking.{admitted_in};
 ghost use Rattle.traces.specs.declared.verdict.Verdict.TheVariants as verdicts;
 ghost use Rattle.rgwd_words.specs.declared.ending.Ending.{Ending};
@@ -43,6 +44,7 @@ ghost use Rattle.rgwd_words.specs.Names.{help_pieces, name_of, version_pieces, S
 ghost use Rattle.rgwd_words.specs.Opening.{names_asked, RefusesNames, RefusesSpeakers, TellsPlace, TellsSocket, Unanswered};
 ghost use Rattle.rgwd_words.specs.Parting.{parting_of};
 ghost use Rattle.rgwd_words.specs.Replaying.{replayed_by};
+ghost use Rattle.rgwd_words.specs.Starting.{first_of, ms_of, rest_of, until_next};
 ghost use Rattle.rgwd_words.specs.Statuses.{status_of, is_asked, fails};
 ghost use Rattle.rgwd_words.specs.Telling.{answered_by};
 ghost use Rattle.rgwd_words.specs.Texts.{ending_text};
@@ -170,6 +172,23 @@ pub fn what_is_opened_has_examples()
         → Unanswered address (ask_faults.Refused kind) ending → status_of ending ≡ 3 }
     ensures no_memory { (address : SocketAddrV4) (ending : Ending) → Unanswered address (ask_faults.Refused kinds.OutOfMemory) ending
         → status_of ending ≡ 3 }
+{}
+
+/// With which number ids begin, and how long a start waits until that is another start's no more.
+#[tactic(auto)]
+pub fn a_start_is_by_its_words_and_the_time_of_day()
+    // It is that of the time of day, of which microseconds are told; a word counts before that. Without both there is none, unless nothing
+    // is to be begun.
+    ensures number { first_of None (Some (ms_of 1767225600123456)) false ≡ Some 4515536 }
+    ensures said { first_of (Some 4711) (Some 1767225600123) false ≡ Some 4711 }
+    ensures checked { first_of None None true ≡ Some 0 }
+    ensures none { first_of None None false ≡ None }
+    // A number is had for 50 ms, and where a word says it nobody waits.
+    ensures whole { rest_of None (Some 1000) ≡ 50 }
+    ensures rest { rest_of None (Some 1049) ≡ 1 }
+    ensures next { first_at (1049 + until_next 1049) ≡ first_at 1049 + 1 }
+    ensures unasked { rest_of (Some 4711) (Some 1049) ≡ 0 }
+    ensures timeless { rest_of None None ≡ 0 }
 {}
 
 /// How the program ends by a trace.

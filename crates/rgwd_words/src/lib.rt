@@ -21,6 +21,6 @@ pub use crate::configuring::{Configured, configure};
 pub use crate::ending::{Ending, Said};
 pub use crate::help::USAGE;
 pub use crate::opening::{captured_at, open_sockets, page_names};
-pub use crate::starting::Begun;
+pub use crate::starting::{Begun, Start};
 pub use crate::telling::answered_by;
 pub use crate::words::{ListFault, Settings, Sockets, WORDS, hosts_in, settings_in, speakers_in};

@@ -4,19 +4,24 @@ ghost use Rattle.std.specs.Net.Socket.{v4_port};
 ghost use Rattle.page_access.specs.Naming.{names_of};
 ghost use Rattle.rgwd_words.specs.Opening.{names_asked, RefusesNames, TellsPlace, TellsSocket};
 
+use crate::starting::Begun;
 use crate::words::{ListFault, Settings, hosts_in};
 use live_ends::{AddressWord, CommonEnding, Live, SocketWanted};
 use page_access::HostNames;
 use std::alloc::Global;
 use std::net::{Ipv4Addr, Net, SocketAddrV4};
 use std::rt::Clock;
+use std::thread::sleep;
+use std::time::Duration;
 
-/// The sockets that are asked for, and the clock.
+/// The sockets that are asked for, and the clock. They are opened once its number is another start's no more.
 pub fn open_sockets<'a, R: Net + Clock>(
     rt: &'a R,
     alloc: Global,
     settings: &Settings<'_>,
+    begun: Begun,
 ) -> Result<Box<Live<'a, R>>, CommonEnding> {
+    sleep(rt, Duration::from_millis(begun.rest));
     let datagrams = SocketWanted {
         word: AddressWord::Listen,
         address: settings.sockets.listen,

@@ -42,6 +42,8 @@ pub struct Story {
     pub words: Vec<String>,
     /// Lines of its configuration.
     pub settings: String,
+    /// Whether its ids begin as the time of day says.
+    pub begins_by_day: bool,
     /// What is to come, and what is to change on its machine.
     pub plan: Plan,
     /// The clocks of its machine.
@@ -91,6 +93,7 @@ enum Says {
     At,
     Set,
     Words,
+    First,
     Raw,
     Typed,
     Asks,
@@ -111,12 +114,13 @@ enum Says {
     Given,
 }
 
-const FIRST_WORDS: [(&str, Says); 22] = [
+const FIRST_WORDS: [(&str, Says); 23] = [
     ("<", Says::Heard),
     (">", Says::Sent),
     ("at", Says::At),
     ("set", Says::Set),
     ("words", Says::Words),
+    ("first", Says::First),
     ("raw", Says::Raw),
     ("type", Says::Typed),
     ("ask", Says::Asks),
@@ -204,6 +208,7 @@ impl Story {
             alloc,
             words: Vec::new(alloc),
             settings: String::new(alloc),
+            begins_by_day: false,
             plan: Plan::none(alloc),
             clocks,
             visits: VecDeque::new(alloc),
@@ -359,6 +364,7 @@ impl Story {
         match said_by(word) {
             Says::Set => return put_line(&mut self.settings, rest),
             Says::Words => return self.put_word(rest),
+            Says::First => self.begins_by_day = true,
             Says::Raw => return self.put_raw(rest),
             Says::Typed => return self.put_typed(rest),
             Says::Asks => return self.put_visit(rest, false),
