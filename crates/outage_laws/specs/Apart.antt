@@ -1,6 +1,6 @@
 -- What the laws of lives speak of: what a life executed and began, which of it the agent took, and when lives' ids lie apart (RFC
 -- 3435, 3.2.1.2 and 3.5.1).
-use Rattle.std.specs.Prelude.{◌≡◌, ℕ, zero, suc, ◌+◌, ◌<◌, ◌≤◌, nat_lt, Bool, true, ◌&&◌, List, [], ◌∷◌, ◌++◌, map, fold, All, AllPairs}
+use Rattle.std.specs.Prelude.{◌≡◌, ℕ, zero, suc, ◌+◌, ◌-◌, ◌<◌, ◌≤◌, nat_lt, Bool, true, ◌&&◌, List, [], ◌∷◌, ◌++◌, map, fold, All, AllPairs}
 use Rattle.history.specs.Memory.{most_firsts}
 use Rattle.history.specs.Firsts.{Kind, a_first, a_repeat, lost, kind_of, IsCopy}
 use Rattle.plain_machine.specs.Event.{GatewayEvent, datagram, phone, tick}
@@ -61,31 +61,34 @@ AreApart earlier later = All (λ (one : Begun). All (BeginsLater one) (begun_of 
 abbrev pub LieApart : List Life → Type 0
 LieApart lives = AllPairs AreApart lives
 
--- By the time of day
+-- By the time of day, in ms: the world began at one, and the first number of each life was drawn at one, at the life's start or before,
+-- since a gateway opens its sockets behind that, and may wait
 
--- the world began at this time of day, in ms: a command of a life that started then began as one whose number follows it, and within
--- five days
-pub record BeganByTime (day start : ℕ) (one : Begun) : Type 0 where
+-- a command of a life whose number was drawn then began as one whose number follows that, and within five days of it
+pub record BeganByTime (day drawn : ℕ) (one : Begun) : Type 0 where
   pub line : ℕ
   pub number : ℕ
   pub below : number < numbers
   pub is : one.id ≡ id_on line number
-  pub began : BeganUnder line (day + start) (day + one.moment) number
-  pub within : one.moment ≤ start + longest_life
+  pub began : BeganUnder line drawn (day + one.moment) number
+  pub within : day + one.moment ≤ drawn + longest_life
 
 -- so did all of its commands
-abbrev pub IsByTime : ℕ → Life → Type 0
-IsByTime day life = All (BeganByTime day life.start) (begun_of life)
+abbrev pub IsByTime : ℕ → (Life → ℕ) → Life → Type 0
+IsByTime day drawn life = All (BeganByTime day (drawn life)) (begun_of life)
 
--- a life starts a second later than an earlier one, or later still
-abbrev pub StartsLater : Life → Life → Type 0
-StartsLater earlier later = earlier.start + shortest_life ≤ later.start
+-- the number of a life was drawn a second later than that of an earlier one, or later still; and where it was drawn before its life
+-- started, the earlier had begun its last command by then
+pub record StartsLater (day : ℕ) (drawn : Life → ℕ) (earlier later : Life) : Type 0 where
+  pub apart : drawn earlier + shortest_life ≤ drawn later
+  pub over : drawn later < day + later.start → All (λ (one : Begun). day + one.moment ≤ drawn later) (begun_of earlier)
 
 -- By counts
 
--- where the world began at this time of day, in ms, a life's first number is that of the time of day at its start
-abbrev pub StartsByTime : ℕ → Life → Type 0
-StartsByTime day life = life.setup.first ≡ first_at (day + life.start)
+-- a life's first number is that of the time of day at which it was drawn, at its start or before
+pub record StartsByTime (day : ℕ) (drawn : Life → ℕ) (life : Life) : Type 0 where
+  pub number : life.setup.first ≡ first_at (drawn life)
+  pub before : drawn life ≤ day + life.start
 
 -- begun behind those before: whenever a line, or the gateway itself, begins a command it began fewer than it may by that ms of its life
 unfoldable pub keeps_pace : List Begun → List Begun → Bool
@@ -93,14 +96,14 @@ keeps_pace before [] = true
 keeps_pace before (one ∷ after) =
     nat_lt (count_of (line_of_id one.id) before) (most_after one.moment) && keeps_pace (before ++ one ∷ []) after
 
--- so it is from the first on, and all began within five days
-pub record ArePaced (begun : List Begun) : Type 0 where
+-- so it is from the first on, and all began within five days, of which so many ms were over at the start of the life
+pub record ArePaced (waited : ℕ) (begun : List Begun) : Type 0 where
   pub few : keeps_pace [] begun ≡ true
-  pub within : All (λ (one : Begun). one.moment ≤ longest_life) begun
+  pub within : All (λ (one : Begun). waited + one.moment ≤ longest_life) begun
 
--- so it is with all that a life began
-abbrev pub KeepsPace : Life → Type 0
-KeepsPace life = ArePaced (own_of life)
+-- so it is with all that a life began, where the five days begin as its number is drawn
+abbrev pub KeepsPace : ℕ → (Life → ℕ) → Life → Type 0
+KeepsPace day drawn life = ArePaced ((day + life.start) - drawn life) (own_of life)
 
 -- Of the agent
 

@@ -1,5 +1,5 @@
 -- The lives of the worked examples: the gateway of two lines is announced and starts again.
-use Rattle.std.specs.Prelude.{ℕ, List, [], ◌∷◌, ◌++◌, map, ◌+◌}
+use Rattle.std.specs.Prelude.{ℕ, List, [], ◌∷◌, ◌++◌, map, ◌+◌, ◌==◌, if◌then◌else◌}
 use Rattle.event_values.specs.declared.observed.Observed.{Observed}
 use Rattle.mg_line.specs.declared.phone.Act.TheVariants.{OffHook}
 use Rattle.plain_machine.specs.Example.{two_lines}
@@ -7,7 +7,7 @@ use Rattle.plain_machine.specs.Message.{Begun}
 use Rattle.call_agent.specs.Agent.{observed_on}
 use Rattle.agent_core.specs.World.{WorldStep, ticking, delivering, dialling}
 use Rattle.world_laws.specs.Example.{announced}
-use Rattle.outage_laws.specs.Lives.{Brought, LivesWorld, LivesStep, stepping, restarting, plain_lives, agent_then}
+use Rattle.outage_laws.specs.Lives.{Brought, Life, LivesWorld, LivesStep, stepping, restarting, plain_lives, agent_then}
 use Rattle.outage_laws.specs.Apart.{firsts_of_lives}
 
 abbrev pub lives : List LivesStep → LivesWorld
@@ -52,3 +52,18 @@ brought_key one = (one.life, one.reached.asked.id)
 
 abbrev pub firsts_after : List LivesStep → List (ℕ × ℕ)
 firsts_after steps = map brought_key (firsts_of_lives (lives steps))
+
+-- Starts that wait. The world begins at 300 ms of the day.
+
+-- the first number is 0, of 0 ms of the day, and 300 ms later its life starts; the notification is answered
+abbrev pub waited_first : List LivesStep
+waited_first = in_one_life (announced ++ dialling 1 OffHook ∷ delivering 2 ∷ delivering 3 ∷ ticking 1001 ∷ ticking 2001 ∷ [])
+
+-- the second life starts at 2,301 ms of the day, with this number; it is announced, and line 1 goes off hook
+abbrev pub waited_lives : ℕ → List LivesStep
+waited_lives first =
+    waited_first ++ restarting first ∷ in_one_life (ticking 2002 ∷ delivering 4 ∷ delivering 5 ∷ dialling 1 OffHook ∷ [])
+
+-- the number of the second was drawn at 1,800 ms of the day, 501 ms before
+abbrev pub drawn_then : Life → ℕ
+drawn_then life = if life.start == 0 then 0 else 1800

@@ -16,3 +16,4 @@ pub mod life_laws;
 pub mod line_examples;
 pub mod line_laws;
 pub mod since_laws;
+pub mod start_examples;

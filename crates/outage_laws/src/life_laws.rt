@@ -18,7 +18,7 @@ ghost use Rattle.agent_core.specs.declared.packet.End.TheVariants.{AgentEnd};
 ghost use Rattle.agent_core.specs.World.{WorldStep, delivering, agent_of, world_opening, plain_world, steps_are_taken};
 ghost use Rattle.world_laws.specs.Reached.{Reached, issued_in, key_kept, key_reached, taken_with};
 ghost use Rattle.outage_laws.specs.Lives.{Life, Letter, Brought, LivesStep, stepping, lives_opening, lives_of, lives_are_taken, plain_lives, agent_side, agent_then, gateway_of, number_of};
-ghost use Rattle.outage_laws.specs.Apart.{executed_by, BringsCopy, begun_of, own_of, OfLife, AllHaveNumbersLeft, LieApart, IsTakenFor, what_came, firsts_of_lives, IsByTime, KeepsPace, StartsByTime, StartsLater};
+ghost use Rattle.outage_laws.specs.Apart.{executed_by, BringsCopy, begun_of, own_of, OfLife, AllHaveNumbersLeft, LieApart, IsTakenFor, what_came, firsts_of_lives, ArePaced, IsByTime, KeepsPace, StartsByTime, StartsLater};
 
 /// In each life the gateway executes each command that the agent issued once at most, as it was issued, and only where a copy of
 /// it was handed to that life; and no id is issued twice, however often the gateway starts.
@@ -79,25 +79,28 @@ pub fn no_life_is_taken_for_another()
         Any (λ (b : Begun). b.id ≡ message.id) (begun_of life))) (lives_of (plain_lives setup steps)) }
 {}
 
-/// Lives whose numbers follow the time of day lie apart: where this was the time of day at the world's beginning, in ms, starts are
-/// a second apart at least, and in no life a line, or the gateway itself, began more than 10 commands and one for each 100 ms, or any
-/// five days after its start.
+/// Lives whose numbers follow the time of day lie apart: where this was the time of day at the world's beginning, and these the ones at
+/// which their numbers were drawn, both in ms, these are a second apart at least; where one was drawn before its life started, the lives
+/// before had begun their last commands; and in no life a line, or the gateway itself, began more than 10 commands and one for each 100 ms,
+/// or any five days after its number was drawn.
 pub fn lives_by_the_time_of_day_lie_apart()
-    ensures { (day : ℕ) (setup : Setup) (steps : List LivesStep) →
-        lives_are_taken setup (lives_opening setup) steps ≡ true → All (IsByTime day) (lives_of (plain_lives setup steps)) →
-        AllPairs StartsLater (lives_of (plain_lives setup steps)) → LieApart (lives_of (plain_lives setup steps)) }
+    ensures { (day : ℕ) (drawn : Life → ℕ) (setup : Setup) (steps : List LivesStep) →
+        lives_are_taken setup (lives_opening setup) steps ≡ true → All (IsByTime day drawn) (lives_of (plain_lives setup steps)) →
+        AllPairs (StartsLater day drawn) (lives_of (plain_lives setup steps)) → LieApart (lives_of (plain_lives setup steps)) }
 {}
 
-/// Counted so: where a life's first number is that of the time of day at its start, and by each of its ms a line, or the gateway
-/// itself, began 10 commands and one for each 100 ms at most, none of them five days after its start, its numbers follow the time of
-/// day, whatever it took. So such lives lie apart, where starts are a second apart.
+/// Counted so: where a life's first number is that of the time of day at which it was drawn, at its start or however long before, and by
+/// each of its ms a line, or the gateway itself, began 10 commands and one for each 100 ms at most, none of them five days after that
+/// number was drawn, its numbers follow the time of day, whatever it took. So such lives lie apart, where their numbers are drawn a second
+/// apart, and none before the lives before have begun their last commands.
 pub fn lives_that_keep_pace_follow_the_time_of_day()
-    ensures follow { (day : ℕ) (life : Life) → StartsByTime day life → KeepsPace life → IsByTime day life }
-    ensures apart { (day : ℕ) (setup : Setup) (steps : List LivesStep) →
-        lives_are_taken setup (lives_opening setup) steps ≡ true → All (StartsByTime day) (lives_of (plain_lives setup steps)) →
-        All KeepsPace (lives_of (plain_lives setup steps)) → AllPairs StartsLater (lives_of (plain_lives setup steps)) →
-        LieApart (lives_of (plain_lives setup steps)) }
-    ensures numbers_left { (life : Life) → KeepsPace life → HasNumbersLeft (own_of life) }
+    ensures follow { (day : ℕ) (drawn : Life → ℕ) (life : Life) → StartsByTime day drawn life → KeepsPace day drawn life →
+        IsByTime day drawn life }
+    ensures apart { (day : ℕ) (drawn : Life → ℕ) (setup : Setup) (steps : List LivesStep) →
+        lives_are_taken setup (lives_opening setup) steps ≡ true → All (StartsByTime day drawn) (lives_of (plain_lives setup steps)) →
+        All (KeepsPace day drawn) (lives_of (plain_lives setup steps)) →
+        AllPairs (StartsLater day drawn) (lives_of (plain_lives setup steps)) → LieApart (lives_of (plain_lives setup steps)) }
+    ensures numbers_left { (waited : ℕ) (life : Life) → ArePaced waited (own_of life) → HasNumbersLeft (own_of life) }
 {}
 
 /// Where the gateway never starts again, all is as in a world of one gateway: what both ends took, and all packets.
