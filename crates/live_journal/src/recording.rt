@@ -1,6 +1,7 @@
 //! What was recorded is kept for its outlets, and written as far as these take it; and what is told of that, and of what was counted.
-ghost use Rattle.std.specs.Prelude.{◌≡◌, [], IfOk};
+ghost use Rattle.std.specs.Prelude.{◌≡◌, [], false, true, IfOk, IfSome};
 ghost use Rattle.live_outlets.specs.Backlog.{room_left};
+ghost use Rattle.live_outlets.specs.Recording.{is_open, is_refused};
 ghost use Rattle.surroundings.specs.Sending.{Grows};
 ghost use Rattle.live_journal.specs.Reporting.{counts_with};
 ghost use Rattle.live_journal.specs.Writing.{IsKept, IsKeptFor, KeepsLog, KeepsCapture, IsWritten};
@@ -38,7 +39,8 @@ pub trait Recorder<T: Teller> {
 
 // What the log says is kept for standard error, or that memory was refused for it.
 fn keep_log<F: Write + Drop>(error: &mut Outlet<F>, log: &mut Record, time: u64)
-    ensures { IsKept log.old log.new }
+    ensures kept { IsKept log.old log.new }
+    ensures refused { is_refused log.old.state ≡ true → is_open error.new.state ≡ false }
 {
     error.keep_log(log, time);
     error.say_refused(log);
@@ -46,7 +48,9 @@ fn keep_log<F: Write + Drop>(error: &mut Outlet<F>, log: &mut Record, time: u64)
 
 // What is captured is kept for its file, where there is one, which ends where memory was refused for that.
 fn keep_capture<F: Write + Drop>(file: &mut Option<Box<Outlet<F>>>, capture: &mut Record)
-    ensures { IsKeptFor file.old capture.old capture.new }
+    ensures kept { IsKeptFor file.old capture.old capture.new }
+    ensures refused { is_refused capture.old.state ≡ true → capture.old.out.items ≡ []
+        → IfSome file.new (λ file. is_open file.value.state ≡ false) }
 {
     if let Some(file) = file {
         file.keep_whole(capture, b"");
