@@ -1,11 +1,11 @@
--- Which datagrams came in at entries.
+-- Which datagrams came in at entries, and which inputs were refused there.
 use Rattle.std.proofs.Common.{◌≡◌, inl, inr, ℕ, ◌+◌, ◌-◌, ◌≤◌, List, [], ◌∷◌, ◌++◌, refl, sym, ◌∙◌, ap, subst, arith}
-use Rattle.std.specs.declared.net.socket_addr.SocketAddrV4.{SocketAddrV4}
 use Rattle.std.proofs.lemmas.Grind.{flat_map-append}
 use Rattle.surroundings.specs.Sending.{Received}
-use Rattle.traces.specs.Writing.{Entry, Input, arrived, typed, passed, showed, became}
+use Rattle.traces.specs.Writing.{Entry, showed, became}
 use Rattle.live_play.specs.Coming.{arrived_at, arrived_in, AreAllBut}
-use Rattle.live_play.specs.Running.{AreOf, AreMarks}
+use Rattle.live_play.specs.Running.{AreMarks}
+use Rattle.live_gateway.specs.Desk.{refusals_at, refusals_in}
 
 pub arrived_both : (a b : List Entry) → arrived_in (a ++ b) ≡ arrived_in a ++ arrived_in b
 arrived_both a b = flat_map-append arrived_at a b
@@ -15,16 +15,18 @@ marks_bring_nothing after last [] are = refl
 marks_bring_nothing after last (showed input move shown ∷ marks) are = absurd are
 marks_bring_nothing after last (became mark place ∷ marks) are = marks_bring_nothing place last marks are.2
 
--- no datagram is so
-abbrev pub IsQuiet : (Input → Type 0) → Type 0
-IsQuiet says = (source : SocketAddrV4) (bytes : List ℕ) → says (arrived source bytes) → ⊥
+pub refusals_both : (a b : List Entry) → refusals_in (a ++ b) ≡ refusals_in a + refusals_in b
+refusals_both [] b = omega arith
+refusals_both (entry ∷ a) b =
+    let rest = refusals_both a b in
+    omega (arith, rest)
 
-pub nobody_came : (says : Input → Type 0) → IsQuiet says → (entries : List Entry) → AreOf says entries → arrived_in entries ≡ []
-nobody_came says quiet [] are = refl
-nobody_came says quiet (showed (arrived source bytes) move shown ∷ entries) are = absurd (quiet source bytes are.0)
-nobody_came says quiet (showed (typed line) move shown ∷ entries) are = nobody_came says quiet entries are.1
-nobody_came says quiet (showed (passed moment) move shown ∷ entries) are = nobody_came says quiet entries are.1
-nobody_came says quiet (became mark place ∷ entries) are = nobody_came says quiet entries are
+pub marks_refuse_nothing : (after last : ℕ) (marks : List Entry) → AreMarks after last marks → refusals_in marks ≡ 0
+marks_refuse_nothing after last [] are = refl
+marks_refuse_nothing after last (showed input move shown ∷ marks) are = absurd are
+marks_refuse_nothing after last (became mark place ∷ marks) are =
+    let rest = marks_refuse_nothing place last marks are.2 in
+    omega (arith, rest)
 
 -- ---- all but some
 

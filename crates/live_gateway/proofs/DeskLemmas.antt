@@ -1,11 +1,11 @@
 -- How a desk goes on.
-use Rattle.std.proofs.Common.{◌≡◌, ℕ, ◌+◌, ◌<◌, inr, Bool, true, false, List, [], ◌∷◌, ◌++◌, length, Option, refl, sym, ◌∙◌, ap, subst, arith}
+use Rattle.std.proofs.Common.{◌≡◌, ℕ, ◌+◌, ◌<◌, inl, inr, Bool, true, false, List, [], ◌∷◌, ◌++◌, length, Option, refl, sym, ◌∙◌, ap, subst, arith}
 use Rattle.std.specs.List.{AllByRecursion}
-use Rattle.std.specs.Prelude.{not, is_ok, Result, Ok, Err, OnOk, OnErr}
+use Rattle.std.specs.Prelude.{not, is_ok, Result, Ok, Err, OnOk, OnErr, IfErr}
 use Rattle.std.specs.Global.{Box}
 use Rattle.std.specs.declared.net.socket_addr.SocketAddrV4.{SocketAddrV4}
 use Rattle.message_counts.specs.declared.reporting.Faults.{Faults}
-use Rattle.surroundings.specs.Sending.{Received, Traffic, Grows}
+use Rattle.surroundings.specs.Sending.{Received, Sent, Traffic, Grows}
 use Rattle.surroundings.specs.Speaking.{Admitted}
 use Rattle.surroundings.proofs.TrafficLemmas.{grows_nothing, nothing_more, grows_on}
 use Rattle.gateway_core.specs.Wire.{counted}
@@ -15,22 +15,23 @@ use Rattle.plain_machine.specs.declared.setup.Setup.{Setup}
 use Rattle.plain_machine.specs.Event.{GatewayEvent, datagram, tick}
 use Rattle.plain_machine.specs.declared.label.SentMessage.{SentMessage}
 use Rattle.plain_machine.specs.Lists.{plain}
-use Rattle.rgw_scripts.specs.Moves.{give, sends}
+use Rattle.gateway_rules.specs.declared.refusal.Refusal.{Refusal}
+use Rattle.rgw_scripts.specs.Moves.{give, ask, sends, refuses, told as answer_of}
 use Rattle.mg_bytes.specs.Lines.{is_line_feed}
-use Rattle.traces.specs.Writing.{Entry, Input, arrived, typed, passed, showed, taken_after}
+use Rattle.traces.specs.Writing.{Entry, arrived, typed, passed, showed, taken_after}
 use Rattle.live_play.specs.Coming.{Came, arrived_in, AreAllBut}
 use Rattle.live_play.specs.Readable.{first_unread, Never, IsAddress, IsReadable, AreLater}
-use Rattle.live_play.specs.Running.{Live, live, Ran, Takes, RanOf}
-use Rattle.live_gateway.proofs.CameLemmas.{arrived_both, marks_bring_nothing, IsQuiet, nobody_came, all_of, all_but_both}
-use Rattle.live_play.proofs.RunLemmas.{ran_on, ran_stays, ran_written_off, marks_are_of, are_of_more, are_so, IsStill, marks_are_later, later_more, later_of}
+use Rattle.live_play.specs.Running.{Live, live, Ran, Takes, Refuses, Asked}
+use Rattle.live_gateway.proofs.CameLemmas.{arrived_both, marks_bring_nothing, refusals_both, marks_refuse_nothing, all_of, all_but_both}
+use Rattle.live_play.proofs.RunLemmas.{ran_on, ran_stays, ran_written_off, marks_are_of, are_of_more, marks_are_later, later_more}
 use Rattle.live_gateway.specs.declared.admission.Admission.{Admission}
 use Rattle.live_gateway.specs.declared.desk.Desk.{Desk}
 use Rattle.live_gateway.specs.declared.exchange.Exchange.{Exchange}
 use Rattle.live_gateway.specs.declared.spoilt_way.SpoiltWay.{SpoiltWay}
 use Rattle.live_play.specs.declared.play.LivePlay.{LivePlay}
 use Rattle.live_gateway.specs.Admitting.{heard_of, HeardSince}
-use Rattle.live_gateway.specs.Desk.{Standing, at_desk, with_input, GoesOnBy, GoesOn}
-use Rattle.live_gateway.specs.Exchanging.{handed_by, received_by, came_by, refusals, Explains, Notes}
+use Rattle.live_gateway.specs.Desk.{Standing, at_desk, with_input, refusals_in, GoesOnBy, GoesOn}
+use Rattle.live_gateway.specs.Exchanging.{handed_by, received_by, came_by, Explains, Notes}
 use Rattle.live_gateway.specs.Leaving.{OnlyTells}
 use Rattle.live_gateway.proofs.HearingLemmas.{heard_both}
 
@@ -39,18 +40,13 @@ use Rattle.live_gateway.proofs.HearingLemmas.{heard_both}
 none_more : (n : ℕ) → n ≡ counted n 0
 none_more n = omega arith
 
--- an input other than a datagram was refused, or taken: so many were
-abbrev pub refused_of : Bool → ℕ
-refused_of true = 1
-refused_of false = 0
+-- so many datagrams are missing, and so many other inputs were refused: those of two stretches together
+both_counted : (n m r a k s b : ℕ) → counted (counted n (m + (r + a))) (k + (s + b)) ≡ counted n ((m + k) + ((r + s) + (a + b)))
+both_counted n m r a k s b = omega arith
 
-counts_one : (is_refused : Bool) (n : ℕ) → refusals is_refused n ≡ counted n (0 + refused_of is_refused)
-counts_one true n = refl
-counts_one false n = none_more n
-
--- so many datagrams are missing, and beside them so many other inputs were refused: those of two stretches together
-both_counted : (n m a k b : ℕ) → counted (counted n (m + a)) (k + b) ≡ counted n ((m + k) + (a + b))
-both_counted n m a k b = omega arith
+-- behind an entry at which nothing was refused stands what became of its datagrams
+none_with : (n marked : ℕ) → marked ≡ 0 → n ≡ counted n (0 + ((0 + marked) + 0))
+none_with n marked none = omega (arith, none)
 
 -- how a desk stands, by its play and its exchange
 abbrev pub standing_of : {S T : Type 0} → (T → Option (List ℕ)) → (S → Traffic) → LivePlay T → Exchange S → Standing
@@ -132,7 +128,9 @@ then_by admission was mid is a b some more m n g h = record {
   ran = ran_on was.live mid.live is.live a b g.ran h.ran;
   received = grows_on was.came.received mid.came.received is.came.received some more g.received h.received;
   others = g.others + h.others;
-  refused = h.refused ∙ ap (λ (k : ℕ). counted k (n + h.others)) g.refused ∙ both_counted was.came.refused m g.others n h.others;
+  refused = h.refused ∙ ap (λ (k : ℕ). counted k (n + (refusals_in b + h.others))) g.refused
+      ∙ both_counted was.came.refused m (refusals_in a) g.others n (refusals_in b) h.others
+      ∙ ap (λ (r : ℕ). counted was.came.refused ((m + n) + (r + (g.others + h.others)))) (sym (refusals_both a b));
   events = subst (λ (l : List Received). AreAllBut (m + n) l (arrived_in (a ++ b))) (sym (heard_both admission some more))
       (subst (λ (l : List Received). AreAllBut (m + n) (heard_of admission some ++ heard_of admission more) l) (sym (arrived_both a b))
       (all_but_both m n (heard_of admission some) (arrived_in a) (heard_of admission more) (arrived_in b) g.events h.events));
@@ -193,7 +191,7 @@ ticked_by admission was mid moment short t later same = (
     ran = t.ran;
     received = nothing_more was.came.received mid.came.received (ap (λ (x : Came). x.received) same);
     others = 0;
-    refused = ap (λ (x : Came). x.refused) same ∙ none_more was.came.refused;
+    refused = ap (λ (x : Came). x.refused) same ∙ none_with was.came.refused (refusals_in t.marks) (marks_refuse_nothing 0 (length t.outputs) t.marks t.are);
     events = marks_bring_nothing 0 (length t.outputs) t.marks t.are;
     inputs = (short, marks_are_of IsReadable 0 (length t.outputs) t.marks t.are);
     later = λ before s. (later before s, marks_are_later was.live.gateway.setup _ 0 (length t.outputs) t.marks t.are);
@@ -241,49 +239,104 @@ ticks told traffic old new mid (Err why) moment short takes misses later same in
 
 -- ---- acts and questions: nobody is heard, and no time passes
 
-quiet_by : (admission : Admission) (was mid is : Standing) (is_refused : Bool) (says : Input → Type 0) → IsQuiet says
-    → IsStill says → ((input : Input) → says input → IsReadable input) → RanOf says was.live mid.live
-    → mid.came ≡ was.came → is ≡ with_input is_refused mid → (entries : List Entry) × GoesOnBy admission was is entries [] 0
-quiet_by admission was mid is is_refused says quiet still line went same input = (
-  went.entries,
+-- an act that was taken
+done_by : (admission : Admission) (was mid : Standing) (text : List ℕ) (event : GatewayEvent) → Never is_line_feed text
+    → Takes was.live (typed text) event mid.live → mid.came ≡ was.came → (entries : List Entry) × GoesOnBy admission was (with_input false mid) entries [] 0
+done_by admission was mid text event free t same = (
+  showed (typed text) (give event) (sends t.outputs) ∷ t.marks,
   record {
-    ran = subst (λ (x : Live). Ran was.live went.entries x) (sym (ap (λ (x : Standing). x.live) input)) went.ran;
-    received = nothing_more was.came.received is.came.received (ap (λ (x : Standing). x.came.received) input ∙ ap (λ (x : Came). x.received) same);
-    others = refused_of is_refused;
-    refused = ap (λ (x : Standing). x.came.refused) input ∙ ap (λ (x : Came). refusals is_refused x.refused) same ∙ counts_one is_refused was.came.refused;
-    events = nobody_came says quiet went.entries went.inputs;
-    inputs = are_so says IsReadable line went.entries went.inputs;
-    later = λ before s. later_of says still went.entries went.inputs was.live.gateway.setup before;
+    ran = t.ran;
+    received = nothing_more was.came.received mid.came.received (ap (λ (x : Came). x.received) same);
+    others = 0;
+    refused = ap (λ (x : Came). x.refused) same ∙ none_with was.came.refused (refusals_in t.marks) (marks_refuse_nothing 0 (length t.outputs) t.marks t.are);
+    events = marks_bring_nothing 0 (length t.outputs) t.marks t.are;
+    inputs = (free, marks_are_of IsReadable 0 (length t.outputs) t.marks t.are);
+    later = λ before s. (tt, marks_are_later was.live.gateway.setup _ 0 (length t.outputs) t.marks t.are);
   },
 )
 
--- a line was taken, or refused
-pub acts : {S T : Type 0} (told : T → Option (List ℕ)) (traffic : S → Traffic) (old new : Desk S T) (mid : Standing) (is_refused : Bool)
-    (says : Input → Type 0) → IsQuiet says → IsStill says → ((input : Input) → says input → IsReadable input)
-    → RanOf says (at_desk told traffic old).live mid.live → mid.came ≡ (at_desk told traffic old).came
-    → at_desk told traffic new ≡ with_input is_refused mid → new.admission ≡ old.admission → GoesOn told traffic old new
-acts told traffic old new mid is_refused says quiet still line went same input kept =
-    let found = quiet_by old.admission (at_desk told traffic old) mid (at_desk told traffic new) is_refused says quiet still line went same input in
-    record { entries = found.0; came = []; missing = 0; went = found.1; admission = kept }
+-- one that was refused, as its entry says, or for want of memory
+undone_by : (admission : Admission) (was mid : Standing) (text : List ℕ) (event : GatewayEvent) (refusal : Refusal) (printed : List ℕ) → Never is_line_feed text
+    → Refuses was.live text event refusal printed mid.live → mid.came ≡ was.came → (entries : List Entry) × GoesOnBy admission was (with_input true mid) entries [] 0
+undone_by admission was mid text event refusal printed free (inl untold) same = ([], refused_by admission was mid untold.1 same)
+undone_by admission was mid text event refusal printed free (inr told) same = (
+  showed (typed text) (give event) (refuses refusal) ∷ [],
+  record {
+    ran = told.1;
+    received = nothing_more was.came.received mid.came.received (ap (λ (x : Came). x.received) same);
+    others = 0;
+    refused = ap (λ (x : Came). counted x.refused 1) same;
+    events = refl;
+    inputs = (free, tt);
+    later = λ before s. (tt, tt);
+  },
+)
 
--- a question is no input
-pub asks : {S T : Type 0} (told : T → Option (List ℕ)) (traffic : S → Traffic) (old new : Desk S T)
-    (says : Input → Type 0) → IsQuiet says → IsStill says → ((input : Input) → says input → IsReadable input)
-    → RanOf says (at_desk told traffic old).live (at_desk told traffic new).live
+pub acts : {S T A : Type 0} (told : T → Option (List ℕ)) (traffic : S → Traffic) (old new : Desk S T) (mid : Standing) (done : Result A Refusal) (text : List ℕ)
+    (event : GatewayEvent) (printed : List ℕ) → Never is_line_feed text → OnOk done (Takes (at_desk told traffic old).live (typed text) event mid.live)
+    → IfErr done (λ refusal. Refuses (at_desk told traffic old).live text event refusal printed mid.live) → mid.came ≡ (at_desk told traffic old).came
+    → at_desk told traffic new ≡ with_input (not (is_ok done)) mid → new.admission ≡ old.admission → GoesOn told traffic old new
+acts told traffic old new mid (Ok done) text event printed free takes misses same input kept =
+    let found = done_by old.admission (at_desk told traffic old) mid text event free takes same in
+    record {
+      entries = found.0;
+      came = [];
+      missing = 0;
+      went = subst (λ (x : Standing). GoesOnBy old.admission (at_desk told traffic old) x found.0 [] 0) (sym input) found.1;
+      admission = kept;
+    }
+acts told traffic old new mid (Err refusal) text event printed free takes misses same input kept =
+    let found = undone_by old.admission (at_desk told traffic old) mid text event refusal printed free misses same in
+    record {
+      entries = found.0;
+      came = [];
+      missing = 0;
+      went = subst (λ (x : Standing). GoesOnBy old.admission (at_desk told traffic old) x found.0 [] 0) (sym input) found.1;
+      admission = kept;
+    }
+
+-- a question is no input: it is an entry, or memory was refused, and nothing was told
+pub asks : {S T A B : Type 0} (told : T → Option (List ℕ)) (traffic : S → Traffic) (old new : Desk S T) (done : Result A B) (text : List ℕ) (number : ℕ)
+    (printed : List ℕ) → Never is_line_feed text → OnOk done (Asked (at_desk told traffic old).live text number printed (at_desk told traffic new).live)
+    → OnErr done ((at_desk told traffic new).live ≡ (at_desk told traffic old).live)
     → (at_desk told traffic new).came ≡ (at_desk told traffic old).came → new.admission ≡ old.admission → GoesOn told traffic old new
-asks told traffic old new says quiet still line went same kept =
-    acts told traffic old new (at_desk told traffic new) false says quiet still line went same refl kept
+asks told traffic old new (Ok done) text number printed free asked still same kept = record {
+  entries = showed (typed text) (ask number) (answer_of asked.answer.status) ∷ [];
+  came = [];
+  missing = 0;
+  went = record {
+    ran = asked.ran;
+    received = nothing_more (at_desk told traffic old).came.received (at_desk told traffic new).came.received (ap (λ (x : Came). x.received) same);
+    others = 0;
+    refused = ap (λ (x : Came). x.refused) same ∙ none_more (at_desk told traffic old).came.refused;
+    events = refl;
+    inputs = (free, tt);
+    later = λ before s. (tt, tt);
+  };
+  admission = kept;
+}
+asks told traffic old new (Err why) text number printed free asked still same kept = record {
+  entries = [];
+  came = [];
+  missing = 0;
+  went = record {
+    ran = subst (λ (x : Live). Ran (at_desk told traffic old).live [] x) (sym still) (ran_stays (at_desk told traffic old).live);
+    received = nothing_more (at_desk told traffic old).came.received (at_desk told traffic new).came.received (ap (λ (x : Came). x.received) same);
+    others = 0;
+    refused = ap (λ (x : Came). x.refused) same ∙ none_more (at_desk told traffic old).came.refused;
+    events = refl;
+    inputs = tt;
+    later = λ before s. tt;
+  };
+  admission = kept;
+}
 
--- a line is neither a datagram nor a tick
-
-pub line_is_quiet : (line : List ℕ) → IsQuiet (λ (input : Input). input ≡ typed line)
-line_is_quiet line source bytes e = absurd cc
-
-pub line_is_still : (line : List ℕ) → IsStill (λ (input : Input). input ≡ typed line)
-line_is_still line moment e = absurd cc
-
-pub line_is_line : (line : List ℕ) → Never is_line_feed line → (input : Input) → input ≡ typed line → IsReadable input
-line_is_line line free input e = subst IsReadable (sym e) free
+-- a play that wasn't told of a question stands as it did
+pub untold_still : {A B T : Type 0} (done : Result A B) (told : T → Option (List ℕ)) (was is : LivePlay T) (handed : Option (List Sent)) → OnErr done (is ≡ record was { printed = is.printed })
+    → OnErr done (live is.gateway.value is.script (told is.teller) handed ≡ live was.gateway.value was.script (told was.teller) handed)
+untold_still (Ok a) told was is handed same = tt
+untold_still {A} {B} {T} (Err b) told was is handed same =
+    ap (λ (p : LivePlay T). live p.gateway.value p.script (told p.teller) handed) same
 
 -- ---- a datagram
 
@@ -319,7 +372,7 @@ taken_by admission was mid source bytes is are heard t counts = (
     ran = t.ran;
     received = heard.1;
     others = 0;
-    refused = counts ∙ none_more was.came.refused;
+    refused = counts ∙ none_with was.came.refused (refusals_in t.marks) (marks_refuse_nothing 0 (length t.outputs) t.marks t.are);
     events = subst (λ (l : List Received). AreAllBut 0 l (one ∷ arrived_in t.marks)) (sym heard.2)
         (subst (λ (l : List Received). AreAllBut 0 (one ∷ []) (one ∷ l)) (sym (marks_bring_nothing 0 (length t.outputs) t.marks t.are)) (all_of (one ∷ [])));
     inputs = ((is, are), marks_are_of IsReadable 0 (length t.outputs) t.marks t.are);

@@ -1,5 +1,5 @@
 -- A desk, as its contracts see it.
-use Rattle.std.specs.Prelude.{◌≡◌, ℕ, ◌+◌, Bool, true, List, Option, None, Some}
+use Rattle.std.specs.Prelude.{◌≡◌, ℕ, ◌+◌, Bool, true, List, [], ◌∷◌, Option, None, Some}
 use Rattle.std.specs.declared.net.socket_addr.SocketAddrV4.{SocketAddrV4}
 use Rattle.gateway_core.specs.GatewayState.{GatewayState}
 use Rattle.gateway_core.specs.Stands.{Stands}
@@ -9,7 +9,8 @@ use Rattle.plain_machine.specs.Event.{GatewayEvent}
 use Rattle.plain_machine.specs.Lists.{plain}
 use Rattle.plain_machine.specs.Refusing.{Ends, refusal_of}
 use Rattle.surroundings.specs.Sending.{Received, Traffic, Grows}
-use Rattle.traces.specs.Writing.{Entry}
+use Rattle.rgw_scripts.specs.Moves.{give, pass, ask, sends, refuses, tells}
+use Rattle.traces.specs.Writing.{Entry, showed, became}
 use Rattle.live_play.specs.Coming.{Came, arrived_in, AreAllBut}
 use Rattle.live_play.specs.Readable.{IsReadable, AreLater}
 use Rattle.live_play.specs.Running.{Live, live, Ran, AreOf}
@@ -44,15 +45,28 @@ abbrev pub MayRefuseIfDone : GatewayState → GatewayEvent → Refusal → Type 
 MayRefuseIfDone gateway event refusal = (events : List GatewayEvent) → Stands gateway events
     → refusal_of (plain gateway.setup events) event ≡ None → Ends (plain gateway.setup events) event (Some refusal)
 
+-- an input that was refused at an entry, which says why
+abbrev pub refusals_at : Entry → ℕ
+refusals_at (became mark place) = 0
+refusals_at (showed input (give event) (sends datagrams)) = 0
+refusals_at (showed input (give event) (refuses refusal)) = 1
+refusals_at (showed input (give event) (tells status)) = 0
+refusals_at (showed input (pass by) shown) = 0
+refusals_at (showed input (ask line) shown) = 0
+
+abbrev pub refusals_in : List Entry → ℕ
+refusals_in [] = 0
+refusals_in (entry ∷ entries) = refusals_at entry + refusals_in entries
+
 -- It went on by these entries of a play, while this came. The datagrams that came in at the entries are those that came, without what
 -- isn't heard, each with its bytes, in their order; but that so many are missing at most that memory was refused for. Each of these is
--- counted as an input that was refused, and beside them so are the acts and ticks that were. What came in can be read again, and each
--- tick goes on.
+-- counted as an input that was refused, and so is each act of which an entry says why, and beside these the acts and ticks that memory
+-- was refused for. What came in can be read again, and each tick goes on.
 pub record GoesOnBy (admission : Admission) (was is : Standing) (entries : List Entry) (came : List Received) (missing : ℕ) : Type 0 where
   pub ran : Ran was.live entries is.live
   pub received : Grows was.came.received came is.came.received
   pub others : ℕ
-  pub refused : is.came.refused ≡ counted was.came.refused (missing + others)
+  pub refused : is.came.refused ≡ counted was.came.refused (missing + (refusals_in entries + others))
   pub events : AreAllBut missing (heard_of admission came) (arrived_in entries)
   pub inputs : AreOf IsReadable entries
   pub later : (before : List GatewayEvent) → Stands was.live.gateway before → AreLater was.live.gateway.setup before entries

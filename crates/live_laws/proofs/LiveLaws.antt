@@ -1,5 +1,5 @@
 -- What the trace of a live run was told.
-use Rattle.std.proofs.Common.{◌≡◌, inl, inr, ℕ, ◌-◌, ◌<◌, ◌^◌, Bool, true, false, cond, List, [], ◌∷◌, refl, sym, ◌∙◌, ap, subst, arith, ◌≤◌, ◌++◌, length, Some, append_assoc}
+use Rattle.std.proofs.Common.{◌≡◌, inl, inr, ℕ, ◌+◌, ◌-◌, ◌<◌, ◌^◌, Bool, true, false, cond, List, [], ◌∷◌, refl, sym, ◌∙◌, ap, subst, arith, ◌≤◌, ◌++◌, length, Some, append_assoc}
 use Rattle.std.specs.Prelude.{⊤, ◌&&◌, not, nat_lt}
 use Rattle.surroundings.specs.Sending.{Received}
 use Rattle.gateway_core.specs.Wire.{counted}
@@ -9,7 +9,7 @@ use Rattle.live_play.specs.Running.{AreFrom, Live, Ran, AreOf, AreInPlace}
 use Rattle.live_gateway.proofs.CameLemmas.{none_missing}
 use Rattle.live_gateway.specs.declared.admission.Admission.{Admission}
 use Rattle.live_gateway.specs.Admitting.{is_heard, heard_of, is_its_own}
-use Rattle.live_gateway.specs.Desk.{IsHeard, Standing, GoesOnBy}
+use Rattle.live_gateway.specs.Desk.{IsHeard, Standing, refusals_in, GoesOnBy}
 use Rattle.std.specs.List.{AllByRecursion}
 use Rattle.std.specs.declared.net.socket_addr.SocketAddrV4.{SocketAddrV4}
 use Rattle.std.proofs.lemmas.Bool.{ltb-true}
@@ -57,14 +57,14 @@ pub are_from : (admission : Admission) (missing : ℕ) (came : List Received) (e
 are_from admission missing came entries all =
     entries_are_heard admission entries (some_are_heard admission missing (heard_of admission came) (arrived_in entries) all (heard_are_heard admission came))
 
-none_of_both : (were are missing others : ℕ) → are ≡ counted were (missing + others) → are ≡ were → were < 2 ^ 64 - 1 → missing ≡ 0
-none_of_both were are missing others counts same few = omega (arith, counts, same, few)
+none_of_all : (were are missing told others : ℕ) → are ≡ counted were (missing + (told + others)) → are ≡ were + told → are < 2 ^ 64 - 1 → missing ≡ 0
+none_of_all were are missing told others counts same few = omega (arith, counts, same, few)
 
--- where no input was refused no datagram was
+-- where entries say of all inputs that were refused why, no datagram was
 pub none_refused : (admission : Admission) (was is : Standing) (entries : List Entry) (came : List Received) (missing : ℕ)
-    → GoesOnBy admission was is entries came missing → is.came.refused ≡ was.came.refused → was.came.refused < 2 ^ 64 - 1 → missing ≡ 0
+    → GoesOnBy admission was is entries came missing → is.came.refused ≡ was.came.refused + refusals_in entries → is.came.refused < 2 ^ 64 - 1 → missing ≡ 0
 none_refused admission was is entries came missing went same few =
-    none_of_both was.came.refused is.came.refused missing went.others went.refused same few
+    none_of_all was.came.refused is.came.refused missing (refusals_in entries) went.others went.refused same few
 
 pub all_are_taken : (admission : Admission) (was is : Standing) (entries : List Entry) (came : List Received) (missing : ℕ)
     → GoesOnBy admission was is entries came missing → missing ≡ 0 → arrived_in entries ≡ heard_of admission came

@@ -1,12 +1,11 @@
 use Rattle.std.proofs.Common.{◌≡◌, inr, refl, ap}
 use Rattle.plain_machine.specs.Event.{phone}
 use Rattle.surroundings.specs.Speaking.{admitted_by}
-use Rattle.traces.specs.Writing.{Input, typed}
 use Rattle.live_play.specs.Coming.{Came}
 use Rattle.live_telephones.specs.declared.telephones.TelephoneRequest.TheVariants.{Act as AsksAct, Show}
 use Rattle.live_gateway.specs.Desk.{at_desk}
 use Rattle.live_gateway.specs.Exchanging.{handed_by}
-use Rattle.live_gateway.proofs.DeskLemmas.{stays_so, stays, standing_of, counted_behind, acts, asks, line_is_quiet, line_is_still, line_is_line}
+use Rattle.live_gateway.proofs.DeskLemmas.{stays_so, stays, standing_of, counted_behind, acts, asks, untold_still}
 use Rattle.live_gateway.proofs.LineLemmas.{taken_free}
 use Rattle.live_gateway.proofs.OverLemmas.{taken_quietly, refused_quietly, shown_so, told_so as only_told}
 use Rattle.live_gateway.proofs.AnsweringLemmas.{tries_act, asks_of}
@@ -14,11 +13,12 @@ use Rattle.live_gateway.proofs.desk.Desk.take_line.Goals as goal
 
 pub returns-in-Show-clause-play : goal.returns-in-Show-clause-play
 returns-in-Show-clause-play g c =
-    asks g.T.Teller.told g.S.Surroundings.traffic _ _ (λ (input : Input). input ≡ typed c.in-Some.text.now)
-    (line_is_quiet c.in-Some.text.now) (line_is_still c.in-Some.text.now)
-    (line_is_line c.in-Some.text.now (taken_free _ c.in-Some.text.now _ c.in-Some.ensures))
+    let handed = handed_by c.args.self.now.exchange.network (g.S.Surroundings.traffic c.args.self.now.exchange.around).sent in
+    asks g.T.Teller.told g.S.Surroundings.traffic _ _ c.ask-asked.result c.in-Some.text.now c.in-Show.line c.ask-asked.new.self.printed.items
+    (taken_free _ c.in-Some.text.now _ c.in-Some.ensures)
+    (rw (c.answer-in-Show.ensures.traffic) (c.ask-asked.ensures.answered handed))
     (rw (c.answer-in-Show.ensures.traffic)
-    (c.ask-asked.ensures.ran (handed_by c.args.self.now.exchange.network (g.S.Surroundings.traffic c.args.self.now.exchange.around).sent)))
+    (untold_still c.ask-asked.result g.T.Teller.told c.args.self.now.play c.ask-asked.new.self handed c.ask-asked.ensures.unanswered))
     (rw (c.answer-in-Show.ensures.traffic) refl)
     refl
 
@@ -63,14 +63,15 @@ pub returns-in-Act-clause-play : goal.returns-in-Act-clause-play
 returns-in-Act-clause-play g c =
     let told = g.T.Teller.told in
     let traffic = g.S.Surroundings.traffic in
-    acts told traffic _ _ (standing_of told traffic c.act-done.new.self c.act-done.new.out) _ (λ (input : Input). input ≡ typed c.in-Some.text.now)
-    (line_is_quiet c.in-Some.text.now) (line_is_still c.in-Some.text.now)
-    (line_is_line c.in-Some.text.now (taken_free _ c.in-Some.text.now _ c.in-Some.ensures))
-    c.act-done.ensures.ran
+    acts told traffic _ _ (standing_of told traffic c.act-done.new.self c.act-done.new.out) c.act-done.result c.in-Some.text.now
+    (phone c.in-Act.line c.in-Act.act) c.act-done.new.self.printed.items
+    (taken_free _ c.in-Some.text.now _ c.in-Some.ensures)
+    c.act-done.ensures.taken
+    c.act-done.ensures.refused
     c.act-done.ensures.came
     (counted_behind told traffic c.act-done.new.self c.act-done.new.out c.note_taken.new.exchange
     (record c.note_taken.new.exchange { around = c.answer.new.around; journal = c.answered.new.self }) _ _ _
-    c.note_taken.ensures (only_told c.note_taken.new.exchange c.answered.new.self c.answer.new.around c.answered.ensures.rest) c.answer.ensures.traffic)
+    (rw (c.is_ok.ensures.value, c.sent.ensures.kept, c.deref.ensures) at c.note_taken.ensures) (only_told c.note_taken.new.exchange c.answered.new.self c.answer.new.around c.answered.ensures.rest) c.answer.ensures.traffic)
     refl
 
 pub returns-in-Act-clause-line : goal.returns-in-Act-clause-line
