@@ -1,17 +1,20 @@
 //! Reads the configuration of a call agent from TOML.
 use crate::config_fault::{
     ConfigRefusal, LONGEST_NUMBER, MOST_GATEWAYS, MOST_NUMBERS, Place, ValueFault, miscounted,
-    misnamed, refused, said, told, unknown,
+    misnamed, missing, refused, told, unknown,
 };
 use crate::text::copied;
 use digit_map::{MapFault, read_map};
 use endpoint_names::is_domain;
-use mg_bytes::{Draft, Text};
+use mg_bytes::{Draft, OutOfMemory, Text};
 use std::alloc::{AllocError, Global};
 use std::collections::BTreeMap;
 use std::net::{Ipv4Addr, SocketAddrV4};
 use toml::de::Error;
 use toml::{Table, Value};
+use toml_places::{
+    Places, Told, line_at, put_nearest, put_toml_fault, replaced, toml_fault, written,
+};
 
 const KEYS: [&str; 3] = ["own", "digit_map", "gateways"];
 
@@ -75,17 +78,6 @@ fn is_among(known: &[&str], name: &str) -> bool {
         }
     }
     false
-}
-
-// A key of a table that isn't one of these.
-fn other_key<'a>(table: &'a Table, known: &[&str]) -> Option<&'a str> {
-    for (name, _value) in table.iter() {
-        let name = name.as_str();
-        if !is_among(known, name) {
-            return Some(name);
-        }
-    }
-    None
 }
 
 // A key of the agent's own.
@@ -157,32 +149,143 @@ fn has_address(gateways: &[GatewayConfig], address: SocketAddrV4) -> bool {
     false
 }
 
-// What a configuration is read with: the numbers so far, of all gateways, and why it is refused, if it is. It is read on behind that,
-// so that no piece is an error, but the first refusal alone is told.
-#[derive(Drop)]
-struct Reading {
-    alloc: Global,
-    seen: Numbers,
-    refusal: Option<ConfigRefusal>,
+// What a value is of which its kind is told: as it is written, where that is one piece.
+fn seen(alloc: Global, value: &Value) -> Result<Option<String>, OutOfMemory> {
+    match value {
+        Value::Integer(_) | Value::Float(_) | Value::Boolean(_) | Value::Datetime(_) => Ok(Some(
+            written(alloc, value)?,
+        )),
+        Value::String(_) | Value::Array(_) | Value::Table(_) => Ok(None),
+    }
 }
 
-impl Reading {
-    fn refuse(&mut self, refusal: ConfigRefusal) {
-        if self.refusal.is_none() {
-            self.refusal = Some(refusal);
+// A line about a value, with the value in the place of its kind.
+fn with_value(alloc: Global, line: Vec<u8>, value: &Value) -> Result<Vec<u8>, OutOfMemory> {
+    let Some(seen) = seen(alloc, value)? else {
+        return Ok(line);
+    };
+    let mut kind = Draft::new(alloc);
+    kind.put(b": ");
+    kind.put(value.type_str().as_bytes());
+    kind.put(b",");
+    let kind = kind.end()?;
+    let mut instead = Draft::new(alloc);
+    instead.put(b": ");
+    instead.put(seen.as_bytes());
+    instead.put(b",");
+    let instead = instead.end()?;
+    let kind = std::str::from_utf8(kind.as_slice()).unwrap_or("");
+    replaced(alloc, line.as_slice(), kind, instead.as_slice())
+}
+
+// What a configuration is read with: where its keys stand, the numbers so far, of all gateways, and what is told of its faults. It is read
+// on behind each, so that no piece is an error.
+#[derive(Drop)]
+struct Reading<'t> {
+    alloc: Global,
+    places: Places<'t>,
+    seen: Numbers,
+    faults: Told,
+    // Whether memory was refused.
+    is_refused: bool,
+}
+
+impl Reading<'_> {
+    // Notes want of memory.
+    fn note<T>(&mut self, done: Result<T, OutOfMemory>) -> Option<T> {
+        match done {
+            Ok(done) => Some(done),
+            Err(_) => {
+                self.is_refused = true;
+                None
+            }
+        }
+    }
+
+    // The line of a key, or of the table in which it is missing; none of one that is missing at the top.
+    fn line_of(&mut self, place: Place<'_>) -> Option<u64> {
+        let found = match (place.gateway, place.key) {
+            (None, key) => self.places.line_of(self.alloc, &[key]),
+            (Some(domain), "") => self.places.line_of(self.alloc, &["gateways", domain]),
+            (Some(domain), key) => self.places.line_of(self.alloc, &["gateways", domain, key]),
+        };
+        match self.note(found) {
+            Some(line) => line,
+            None => None,
+        }
+    }
+
+    // It has a fault in this line, where that stands in one.
+    fn tell(&mut self, line: Option<u64>, words: &[u8]) {
+        let told = self.faults.tell(line, words);
+        if told.is_err() {
+            self.is_refused = true;
+        }
+    }
+
+    // It has a fault at a key.
+    fn refuse(&mut self, place: Place<'_>, refusal: ConfigRefusal) {
+        let line = self.line_of(place);
+        match refusal {
+            ConfigRefusal::OutOfMemory => self.is_refused = true,
+            ConfigRefusal::Told { line: words } => self.tell(line, words.as_slice()),
+        }
+    }
+
+    // What stands at a key may not.
+    fn refuse_there(&mut self, place: Place<'_>, value: &Value, fault: ValueFault) {
+        let words = match refused(self.alloc, place, Some(value), fault) {
+            ConfigRefusal::OutOfMemory => Err(AllocError),
+            ConfigRefusal::Told { line } => with_value(self.alloc, line, value),
+        };
+        let line = self.line_of(place);
+        if let Some(words) = self.note(words) {
+            self.tell(line, words.as_slice());
         }
     }
 
     // What stands at a key may not, or nothing stands there.
     fn refuse_value(&mut self, place: Place<'_>, value: Option<&Value>, fault: ValueFault) {
-        let refusal = refused(self.alloc, place, value, fault);
-        self.refuse(refusal);
+        match value {
+            Some(value) => self.refuse_there(place, value, fault),
+            None => self.refuse(place, missing(self.alloc, place)),
+        }
     }
 
     // So many may not stand at a key.
     fn refuse_count(&mut self, place: Place<'_>, count: usize, fault: ValueFault) {
         let refusal = miscounted(self.alloc, place, count, fault);
-        self.refuse(refusal);
+        self.refuse(place, refusal);
+    }
+
+    // The line of a key that isn't one of these.
+    fn unknown_line(&self, place: Place<'_>, known: &[&str]) -> Result<Vec<u8>, OutOfMemory> {
+        let mut line = Draft::new(self.alloc);
+        match unknown(self.alloc, place) {
+            ConfigRefusal::OutOfMemory => return Err(AllocError),
+            ConfigRefusal::Told { line: words } => line.put(words.as_slice()),
+        }
+        put_nearest(self.alloc, &mut line, place.key, known)?;
+        line.end()
+    }
+
+    // The keys of a table that aren't among these; of a gateway's, where a domain is there.
+    fn refuse_others(&mut self, table: &Table, gateway: Option<&str>, known: &[&str]) {
+        for (name, _value) in table.iter() {
+            if self.faults.is_full() {
+                break;
+            }
+            let key = name.as_str();
+            if is_among(known, key) {
+                continue;
+            }
+            let place = Place { gateway, key };
+            let words = self.unknown_line(place, known);
+            let line = self.line_of(place);
+            if let Some(words) = self.note(words) {
+                self.tell(line, words.as_slice());
+            }
+        }
     }
 
     // A text; an empty one where memory is refused for it.
@@ -190,7 +293,7 @@ impl Reading {
         match copied(self.alloc, bytes) {
             Ok(text) => text,
             Err(_) => {
-                self.refuse(ConfigRefusal::OutOfMemory);
+                self.is_refused = true;
                 Text::of(Vec::new(self.alloc))
             }
         }
@@ -222,7 +325,7 @@ impl Reading {
         let text = value.as_str().unwrap_or("").as_bytes();
         match read_map(self.alloc, text) {
             Ok(_) => {}
-            Err(MapFault::OutOfMemory) => self.refuse(ConfigRefusal::OutOfMemory),
+            Err(MapFault::OutOfMemory) => self.is_refused = true,
             Err(_) => self.refuse_value(own_key("digit_map"), Some(value), ValueFault::NoDigitMap),
         }
         Some(self.text(text))
@@ -236,7 +339,7 @@ impl Reading {
         match put_number(self.alloc, &mut self.seen, numbers, number) {
             Ok(true) => {}
             Ok(false) => self.refuse_value(place, Some(value), ValueFault::Twice),
-            Err(_) => self.refuse(ConfigRefusal::OutOfMemory),
+            Err(_) => self.is_refused = true,
         }
     }
 
@@ -272,12 +375,9 @@ impl Reading {
     fn gateway(&mut self, domain: &str, table: &Table) -> GatewayConfig {
         if !is_domain(domain.as_bytes()) {
             let refusal = misnamed(self.alloc, key_of(domain, ""), ValueFault::NoDomain);
-            self.refuse(refusal);
+            self.refuse(key_of(domain, ""), refusal);
         }
-        if let Some(other) = other_key(table, &GATEWAY_KEYS) {
-            let refusal = unknown(self.alloc, key_of(domain, other));
-            self.refuse(refusal);
-        }
+        self.refuse_others(table, Some(domain), &GATEWAY_KEYS);
         GatewayConfig {
             domain: self.text(domain.as_bytes()),
             address: self.address(table, key_of(domain, "address")),
@@ -297,7 +397,7 @@ impl Reading {
             self.refuse_value(place, table.get("address"), ValueFault::Twice);
         }
         if gateways.push(gateway).is_err() {
-            self.refuse(ConfigRefusal::OutOfMemory);
+            self.is_refused = true;
         }
     }
 
@@ -329,10 +429,7 @@ impl Reading {
     }
 
     fn config(&mut self, table: &Table) -> AgentConfig {
-        if let Some(key) = other_key(table, &KEYS) {
-            let refusal = unknown(self.alloc, own_key(key));
-            self.refuse(refusal);
-        }
+        self.refuse_others(table, None, &KEYS);
         AgentConfig {
             own: self.address(table, own_key("own")),
             map: self.map(table),
@@ -341,55 +438,79 @@ impl Reading {
     }
 }
 
-fn config_of(alloc: Global, table: &Table) -> Result<AgentConfig, ConfigRefusal> {
-    let mut reading = Reading {
-        alloc,
-        seen: BTreeMap::new(alloc),
-        refusal: None,
-    };
-    let config = reading.config(table);
-    if let Some(refusal) = reading.refusal.take() {
-        return Err(refusal);
+// Why a configuration is refused of which these faults are told.
+fn refusal_of(faults: Told) -> ConfigRefusal {
+    match faults.end() {
+        Ok(line) => ConfigRefusal::Told { line },
+        Err(_) => ConfigRefusal::OutOfMemory,
     }
-    Ok(config)
 }
 
-// The number of the line that a place in a text is in, from 1.
-fn line_at(text: &str, place: usize) -> u64 {
-    let mut line: u64 = 1;
-    let text = text.as_bytes();
-    for byte in text.get(..place).unwrap_or(text) {
-        if *byte == b'\n' {
-            line = line.saturating_add(1);
-        }
+fn config_of(alloc: Global, text: &str, table: &Table) -> Result<AgentConfig, ConfigRefusal> {
+    let places = match Places::of(alloc, text) {
+        Ok(places) => places,
+        Err(_) => return Err(ConfigRefusal::OutOfMemory),
+    };
+    let mut reading = Reading {
+        alloc,
+        places,
+        seen: BTreeMap::new(alloc),
+        faults: Told::new(alloc),
+        is_refused: false,
+    };
+    let config = reading.config(table);
+    let Reading {
+        alloc: _,
+        places,
+        seen,
+        faults,
+        is_refused,
+    } = reading;
+    drop(places);
+    drop(seen);
+    if is_refused {
+        return Err(ConfigRefusal::OutOfMemory);
     }
-    line
+    if faults.is_empty() {
+        Ok(config)
+    } else {
+        Err(refusal_of(faults))
+    }
+}
+
+// What is told in one line of a text, in which it stands.
+fn told_at(alloc: Global, line: u64, words: &[u8]) -> ConfigRefusal {
+    let mut faults = Told::new(alloc);
+    match faults.tell(Some(line), words) {
+        Ok(()) => refusal_of(faults),
+        Err(_) => ConfigRefusal::OutOfMemory,
+    }
 }
 
 // A text is no TOML.
-fn unreadable(alloc: Global, text: &str, fault: &Error) -> ConfigRefusal {
-    if fault.is_memory() {
+fn unreadable(alloc: Global, text: &str, error: &Error) -> ConfigRefusal {
+    if error.is_memory() {
         return ConfigRefusal::OutOfMemory;
     }
-    let start = match fault.span() {
-        Some(span) => span.start,
-        None => 0,
+    let Ok(fault) = toml_fault(alloc, text, error) else {
+        return ConfigRefusal::OutOfMemory;
     };
-    let mut line = Draft::new(alloc);
-    line.put(b"line ");
-    line.put_decimal(line_at(text, start));
-    line.put(b": ");
-    line.put(fault.message().as_bytes());
-    told(line)
+    let mut words = Draft::new(alloc);
+    put_toml_fault(&mut words, fault.reason, error.message());
+    match told(words) {
+        ConfigRefusal::OutOfMemory => ConfigRefusal::OutOfMemory,
+        ConfigRefusal::Told { line } => told_at(alloc, fault.line, line.as_slice()),
+    }
 }
 
-/// The configuration that a text writes, or what is wrong with it: the key, what stands there, and what may.
+/// The configuration that a text writes, or all that is wrong with it: the line, the key, what stands there, and what may.
 pub fn read_config(alloc: Global, text: &[u8]) -> Result<AgentConfig, ConfigRefusal> {
-    let Ok(text) = std::str::from_utf8(text) else {
-        return Err(said(alloc, "no UTF-8"));
+    let words = match std::str::from_utf8(text) {
+        Ok(words) => words,
+        Err(fault) => return Err(told_at(alloc, line_at(text, fault.valid_up_to()), b"no UTF-8")),
     };
-    match toml::table_from_str(alloc, text) {
-        Ok(table) => config_of(alloc, &table),
-        Err(fault) => Err(unreadable(alloc, text, &fault)),
+    match toml::table_from_str(alloc, words) {
+        Ok(table) => config_of(alloc, words, &table),
+        Err(error) => Err(unreadable(alloc, words, &error)),
     }
 }

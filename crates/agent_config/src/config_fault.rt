@@ -24,7 +24,7 @@ pub const LONGEST_NUMBER: usize = 32;
 pub enum ConfigRefusal {
     /// Memory was refused.
     OutOfMemory,
-    /// It has a fault, which a line tells, without its end: printable ASCII.
+    /// It has faults, each of which a line tells: printable ASCII. The last has no end.
     Told { line: Vec<u8> },
 }
 
@@ -225,15 +225,6 @@ pub(crate) fn misnamed(alloc: Global, place: Place<'_>, fault: ValueFault) -> Co
 {
     let mut line = place_line(alloc, "", place);
     put_fault(&mut line, fault);
-    told(line)
-}
-
-/// It has a fault that these words tell.
-pub(crate) fn said(alloc: Global, words: &str) -> ConfigRefusal
-    ensures { IsTold words.now result }
-{
-    let mut line = Draft::new(alloc);
-    put(&mut line, words);
     told(line)
 }
 

@@ -8,6 +8,7 @@ use live_ends::{CommonEnding, read_file};
 use rgw_scripts::LIMIT;
 use std::alloc::Global;
 use std::rt::Files;
+use toml_places::named;
 
 // The configuration that a text writes; where calls are to be routed it has a digit map.
 fn config_of(alloc: Global, is_routed: bool, text: &[u8]) -> Result<AgentConfig, ConfigRefusal> {
@@ -43,6 +44,17 @@ fn bench_refusal(alloc: Global, config: &AgentConfig) -> Option<ConfigRefusal> {
     None
 }
 
+// Why the configuration in this file is refused, where each line names the file but the first, before which that stands already.
+fn named_refusal(alloc: Global, file: &str, refusal: ConfigRefusal) -> ConfigRefusal {
+    match refusal {
+        ConfigRefusal::OutOfMemory => ConfigRefusal::OutOfMemory,
+        ConfigRefusal::Told { line } => match named(alloc, file, line.as_slice()) {
+            Ok(line) => ConfigRefusal::Told { line },
+            Err(_) => ConfigRefusal::OutOfMemory,
+        },
+    }
+}
+
 // How the program ends by a configuration that is refused.
 fn config_ending(refusal: ConfigRefusal) -> Ending
     ensures { result ≡ config_by refusal }
@@ -67,7 +79,7 @@ pub fn config_at<R: Files>(
     };
     match config_of(alloc, is_routed, text.as_slice()) {
         Ok(config) => Ok(config),
-        Err(refusal) => Err(config_ending(refusal)),
+        Err(refusal) => Err(config_ending(named_refusal(alloc, file, refusal))),
     }
 }
 

@@ -6,5 +6,5 @@ pub mod Asking
 pub mod Opening
 pub mod Replaying
 pub mod Telling
-pub mod Flaws
+pub mod Warning
 pub mod Starting

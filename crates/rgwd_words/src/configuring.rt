@@ -1,16 +1,14 @@
 //! The gateway of the configuration that the words name, at a start; or why there is none.
-ghost use Rattle.std.specs.Prelude.{◌≡◌, is_some, IfOk, IfSome};
-ghost use Rattle.rgw_scenes.specs.Flaws.{flaw_of};
-ghost use Rattle.rgwd_words.specs.Flaws.{TellsFlaw};
-
 use crate::ending::Ending;
 use crate::starting::{Begun, Start};
+use crate::warnings::warnings_text;
 use crate::words::Settings;
+use config_flaws::{flaws_text, with_names};
 use gateway_core::Gateway;
 use live_ends::{CommonEnding, read_file};
 use live_outlets::{Outlet, boxed};
-use mg_bytes::Draft;
-use rgw_scenes::{flaw_of, read_config, told};
+use plain_machine::Setup;
+use rgw_scenes::read_config;
 use rgw_scripts::LIMIT;
 use std::alloc::{AllocError, Global};
 use std::io::Write;
@@ -35,25 +33,23 @@ fn gateway_of(alloc: Global, text: &[u8], start: &Start) -> Result<Box<Gateway>,
     }
 }
 
-// What is said of the flaw that the configuration in this file with this text has, if it has one: a line that names the file.
-fn flaw_text(alloc: Global, file: &str, text: &[u8]) -> Result<Option<Vec<u8>>, AllocError>
-    ensures flawed { IfOk result (λ said. is_some said ≡ is_some (flaw_of text.now)) }
-    ensures told { IfOk result (λ said. IfSome said (λ line. IfSome (flaw_of text.now) (TellsFlaw file.now text.now line.items))) }
-{
-    let Some(flaw) = flaw_of(alloc, text)? else {
-        return Ok(None);
-    };
-    let line = told(alloc, text, flaw)?;
-    let mut said = Draft::new(alloc);
-    said.put(file.as_bytes());
-    said.put(b": ");
-    said.put(line.as_slice());
-    said.put(b"\n");
-    Ok(Some(said.end()?))
+// Says at this outlet what is right but may be meant otherwise, where it is asked for a check; for want of memory that alone isn't said.
+fn say_warnings<F: Write + Drop>(
+    alloc: Global,
+    settings: &Settings<'_>,
+    setup: &Setup,
+    error: &mut Outlet<F>,
+) {
+    if !settings.check {
+        return;
+    }
+    if let Ok(said) = warnings_text(alloc, settings, setup) {
+        error.say(said.as_slice());
+    }
 }
 
-/// The gateway of the configuration that the settings name, at a start that begins now; or how the program ends without one. Which flaw a
-/// configuration has this outlet says.
+/// The gateway of the configuration that the settings name, at a start that begins now; or how the program ends without one. Which flaws a
+/// configuration has this outlet says, and of what is checked what may be meant otherwise.
 pub fn configure<R: Files + Clock, F: Write + Drop>(
     rt: &R,
     alloc: Global,
@@ -64,10 +60,13 @@ pub fn configure<R: Files + Clock, F: Write + Drop>(
         Ok(config) => config,
         Err(kind) => return Err(Ending::unreadable(kind)),
     };
-    let Ok(flaw) = flaw_text(alloc, settings.config, config.as_slice()) else {
+    let Ok(config) = with_names(alloc, config) else {
         return Err(Ending::Common(CommonEnding::OutOfMemory));
     };
-    if let Some(said) = &flaw {
+    let Ok(flaws) = flaws_text(alloc, settings.config, config.as_slice()) else {
+        return Err(Ending::Common(CommonEnding::OutOfMemory));
+    };
+    if let Some(said) = &flaws {
         error.say(said.as_slice());
         return Err(Ending::Common(CommonEnding::Told));
     }
@@ -77,6 +76,7 @@ pub fn configure<R: Files + Clock, F: Write + Drop>(
     let Ok(gateway) = gateway_of(alloc, config.as_slice(), &start) else {
         return Err(Ending::Common(CommonEnding::OutOfMemory));
     };
+    say_warnings(alloc, settings, gateway.setup(), error);
     let begun = start.begun(gateway.setup().names.domain.as_bytes());
     Ok(Configured {
         config,

@@ -39,7 +39,6 @@ ghost use Rattle.rgwd_words.specs.declared.words.ListFault.TheVariants as faults
 ghost use Rattle.rgwd_words.specs.declared.words.Settings.{Settings};
 ghost use Rattle.rgwd_words.specs.declared.words.Sockets.{Sockets};
 ghost use Rattle.rgwd_words.specs.Asking.{usual_listen, usual_phones, spoiling_read, IsAt, IsBehind, IsRead, IsMoment, SaysFlag, AsksSockets, Asks};
-ghost use Rattle.rgwd_words.specs.Flaws.{TellsFlaw};
 ghost use Rattle.rgwd_words.specs.Names.{help_pieces, name_of, version_pieces, Says};
 ghost use Rattle.rgwd_words.specs.Opening.{names_asked, RefusesNames, RefusesSpeakers, TellsPlace, TellsSocket, Unanswered};
 ghost use Rattle.rgwd_words.specs.Parting.{parting_of};
@@ -197,17 +196,6 @@ pub fn a_replay_ends_so()
     ensures as_told { (lines : ℕ) → replayed_by (verdicts.AsTold lines) ≡ Replayed }
     ensures differs { (line : ℕ) (told : _) (sent : _) → replayed_by (verdicts.Differs line told sent) ≡ Differs }
     ensures broken { (line : ℕ) → replayed_by (verdicts.Broken line) ≡ NoTrace }
-{}
-
-/// What it says of a flaw.
-#[tactic(auto)]
-pub fn a_flaw_is_said_so()
-    // A line with the name of the file, and behind that which flaw it is.
-    ensures line { (text line : List ℕ) → TellsFlaw (codes "gateway.toml") text line flaws.NoUtf8
-        → line ≡ codes "gateway.toml: no UTF-8\n" }
-    // It is that of the text, and not of its name.
-    ensures whose { (text line : List ℕ) (says : TellsFlaw (codes "gateway.toml") text line flaws.AnyAddress)
-        → Tells text flaws.AnyAddress says.0 }
 {}
 
 /// How the program ends by an answer at the telephones.

@@ -13,6 +13,7 @@ mod parted;
 mod replaying;
 mod starting;
 mod telling;
+mod warnings;
 mod words;
 
 pub use crate::asked::asked_by;
