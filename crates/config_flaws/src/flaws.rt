@@ -26,6 +26,7 @@ const TOO_MANY: &str = "65 hosts";
 const NO_HOST: &str = ", no such host";
 
 // What is told of a document.
+#[derive(Drop)]
 struct Telling<'t> {
     alloc: Global,
     table: &'t Table,

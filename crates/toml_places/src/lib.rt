@@ -2,6 +2,7 @@
 //! keys that there are. What is right is judged elsewhere.
 #![tactic(auto)]
 
+pub mod examples;
 mod fault;
 mod lines;
 mod names;
