@@ -225,6 +225,9 @@ impl Reading<'_> {
 
     // It has a fault at a key.
     fn refuse(&mut self, place: Place<'_>, refusal: ConfigRefusal) {
+        if self.faults.is_full() {
+            return;
+        }
         let line = self.line_of(place);
         match refusal {
             ConfigRefusal::OutOfMemory => self.is_refused = true,
@@ -234,6 +237,9 @@ impl Reading<'_> {
 
     // What stands at a key may not.
     fn refuse_there(&mut self, place: Place<'_>, value: &Value, fault: ValueFault) {
+        if self.faults.is_full() {
+            return;
+        }
         let words = match refused(self.alloc, place, Some(value), fault) {
             ConfigRefusal::OutOfMemory => Err(AllocError),
             ConfigRefusal::Told { line } => with_value(self.alloc, line, value),

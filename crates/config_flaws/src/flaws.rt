@@ -159,6 +159,9 @@ impl Telling<'_> {
     // Tells names with dots that lack their quotes.
     fn tell_dotted(&mut self, dotted: &[Dotted]) -> Result<(), OutOfMemory> {
         for other in dotted {
+            if self.told.is_full() {
+                break;
+            }
             let mut words = Draft::new(self.alloc);
             words.put(b"names: ");
             write_shown(&mut words, other.name.as_slice());
@@ -180,10 +183,13 @@ impl Telling<'_> {
         self.tell_dotted(dotted.as_slice())?;
         for (name, value) in hosts.iter() {
             let name = name.as_str();
+            if self.told.is_full() {
+                break;
+            }
             if self.is_misplaced(name) || (value.is_table() && is_among(dotted.as_slice(), name)) {
                 continue;
             }
-            if self.told.is_full() || !self.tell_host(hosts.len(), name, value)? {
+            if !self.tell_host(hosts.len(), name, value)? {
                 break;
             }
         }
