@@ -1,4 +1,5 @@
-"""Puts the library, as ./build leaves it, into the package; so a wheel is one of this platform, for any Python 3."""
+"""Puts the library into the package, as ./build or `tools/unproved library` left it last; so a wheel is one of this platform, for any
+Python 3. The version says where the library is unproved."""
 
 from pathlib import Path
 from shutil import copy
@@ -11,7 +12,11 @@ try:
 except ImportError:
     from wheel.bdist_wheel import bdist_wheel
 
-LIBRARY = Path(__file__).resolve().parent.parent / "out" / "librgw.so.1"
+OUT = Path(__file__).resolve().parent.parent / "out"
+BUILT = [it for it in (OUT / "librgw.so.1", OUT / "unproved" / "librgw.so.1") if it.is_file()]
+LIBRARY = max(BUILT, key=lambda it: it.stat().st_mtime, default=None)
+# (the name that an unproved one exports besides)
+IS_UNPROVED = LIBRARY is not None and b"\0rgw_unproved\0" in LIBRARY.read_bytes()
 
 
 class WithLibrary(build_py):
@@ -19,8 +24,8 @@ class WithLibrary(build_py):
 
     def run(self):
         super().run()
-        if not LIBRARY.is_file():
-            raise SystemExit(f"there is no {LIBRARY}: ./build makes it")
+        if LIBRARY is None:
+            raise SystemExit(f"there is no {OUT}/librgw.so.1: ./build makes it, and `tools/unproved library` an unproved one in minutes")
         copy(LIBRARY, Path(self.build_lib, "rgw"))
 
 
@@ -35,4 +40,4 @@ class OfPlatform(bdist_wheel):
         return "py3", "none", super().get_tag()[2]
 
 
-setup(cmdclass={"build_py": WithLibrary, "bdist_wheel": OfPlatform})
+setup(version="0.1.0+unproved" if IS_UNPROVED else "0.1.0", cmdclass={"build_py": WithLibrary, "bdist_wheel": OfPlatform})

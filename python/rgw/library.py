@@ -115,20 +115,24 @@ PARAMETERS = {
 
 
 def _path() -> str:
-    """Where the library is: RGW_LIBRARY, in this package, as ./build leaves it, or as it is installed."""
+    """Where the library is: RGW_LIBRARY, in this package, as ./build or tools/unproved left it last, or as it is installed."""
     here = Path(__file__).resolve().parent
-    built = here.parent.parent / "out" / "librgw.so.1"
-    for path in (os.environ.get("RGW_LIBRARY"), here / "librgw.so.1", built):
+    for path in (os.environ.get("RGW_LIBRARY"), here / "librgw.so.1"):
         if path and Path(path).is_file():
             return str(path)
+    out = here.parent.parent / "out"
+    built = [it for it in (out / "librgw.so.1", out / "unproved" / "librgw.so.1") if it.is_file()]
+    if built:
+        return str(max(built, key=lambda it: it.stat().st_mtime))
     found = find_library("rgw")
     if found is None:
-        raise ImportError("there is no librgw.so.1: RGW_LIBRARY may say where it is, and ./build leaves it in out/")
+        raise ImportError("there is no librgw.so.1: RGW_LIBRARY may say where it is; ./build makes it, and `tools/unproved library` "
+                          "an unproved one in minutes")
     return found
 
 
 def _loaded() -> ctypes.PyDLL:
-    library = ctypes.PyDLL(_path())
+    library = ctypes.PyDLL(PATH)
     library.rgw_version.restype, library.rgw_version.argtypes = c_uint32, []
     if library.rgw_version() != VERSION:
         raise ImportError(f"librgw has version {library.rgw_version()}, and this package is for {VERSION}")
@@ -138,6 +142,9 @@ def _loaded() -> ctypes.PyDLL:
     return library
 
 
+PATH = _path()
 LIBRARY = _loaded()
+# Whether nothing of the library is proved: tools/unproved made it.
+IS_UNPROVED = hasattr(LIBRARY, "rgw_unproved")
 # Each export by its name in PARAMETERS.
 CALLS = {name: getattr(LIBRARY, f"rgw_{name}_nonnull") for name in PARAMETERS}

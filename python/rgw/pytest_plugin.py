@@ -14,10 +14,17 @@ from typing import Any
 
 import pytest
 
+from rgw import __version__
 from rgw.gateway import Gateway
+from rgw.library import PATH
 from rgw.world import CONFIG, Agent, BadNetwork, World, agent_of
 
 WORLDS = pytest.StashKey[list[World]]()
+
+
+def pytest_report_header() -> str:
+    """Which library is tested with: its version, which says whether it is unproved, and where it is."""
+    return f"rgw {__version__}: {PATH}"
 
 
 @pytest.fixture
