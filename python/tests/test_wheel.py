@@ -12,11 +12,13 @@ import pytest
 
 PYTHON = Path(__file__).resolve().parent.parent
 USE = """
+from importlib.metadata import version
 from pathlib import Path
 import rgw.library
 from rgw.world import CONFIG
 with rgw.Gateway(CONFIG, first=7) as gateway:
-    print(Path(rgw.library._path()).parent == Path(rgw.__file__).parent, gateway.tick(1)[0].data.split()[:2])
+    print(Path(rgw.library.PATH).parent == Path(rgw.__file__).parent, gateway.tick(1)[0].data.split()[:2])
+print(rgw.__version__ == version("rgw"), rgw.__version__.endswith("+unproved") == hasattr(rgw.library.LIBRARY, "rgw_unproved"))
 """
 
 
@@ -44,4 +46,4 @@ def test_a_wheel_has_the_library(tmp_path: Path) -> None:
     run("-m", "pip", "install", *apart, "--target", tmp_path / "installed", wheel)
     rest = {name: value for name, value in os.environ.items() if name != "RGW_LIBRARY"}
     said = run("-c", USE, cwd=tmp_path, env={**rest, "PYTHONPATH": str(tmp_path / "installed")})
-    assert said == "True [b'RSIP', b'8']\n"
+    assert said == "True [b'RSIP', b'8']\nTrue True\n"
