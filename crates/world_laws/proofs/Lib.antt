@@ -62,3 +62,4 @@ pub mod CourseLemmas
 pub mod DialledLemmas
 pub mod OverLists
 pub mod AskingLemmas
+pub mod CopyExamples

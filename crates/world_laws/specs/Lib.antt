@@ -16,3 +16,4 @@ pub mod Keeping
 pub mod Following
 pub mod Dialled
 pub mod OnceExample
+pub mod LawExample

@@ -15,5 +15,6 @@ pub mod delivery_laws;
 pub mod dialled_examples;
 pub mod dialled_laws;
 pub mod examples;
+pub mod law_examples;
 pub mod laws;
 pub mod standing_laws;
