@@ -1,5 +1,5 @@
 -- What comes to the gateway of the worked examples, which has two lines.
-use Rattle.std.specs.Prelude.{ℕ, ◌+◌, List, [], ◌∷◌, ◌++◌, codes, Option, option_map}
+use Rattle.std.specs.Prelude.{ℕ, List, [], ◌∷◌, ◌++◌, codes, Option, option_map}
 use Rattle.std.specs.Option.{unwrap_or}
 use Rattle.event_values.specs.declared.observed.Observed.{Observed}
 use Rattle.event_values.specs.declared.observed.Observed.TheVariants.{Happened}
