@@ -1,16 +1,12 @@
 //! Worked examples of the definitions, as theorems: each sentence of a definition has one that a slip in it breaks.
 #![tactic(auto, unfolding(crate::proofs::Computing::on_examples))]
 
-ghost use Rattle.std.specs.Prelude.{◌≡◌, codes, true, false, [], ◌∷◌, ◌++◌, map, Some, None, Ok, Err};
-ghost use Rattle.std.specs.IoError.{error_kind};
-ghost use Rattle.std.specs.declared.io.Error.{Error};
+ghost use Rattle.std.specs.Prelude.{◌≡◌, codes, true, false, [], ◌∷◌, ◌++◌, map, Some, None};
 ghost use Rattle.std.specs.declared.io.ErrorKind.TheVariants.{WouldBlock, Interrupted, Uncategorized};
-ghost use Rattle.std.specs.declared.net.socket_addr.SocketAddr.{SocketAddr};
-ghost use Rattle.live_ends.specs.declared.readiness.Readiness.{Readiness};
 ghost use Rattle.exchange_log.specs.declared.note.Notice.TheVariants.{SetOn, SetBack};
 ghost use Rattle.live_ends.specs.Days.{jump_from};
 ghost use Rattle.live_ends.specs.Parting.{number_behind, numbered, is_old, is_full};
-ghost use Rattle.live_ends.specs.Looking.{no_visit, has_visits, may_have_more, heard_of, heard_by};
+ghost use Rattle.live_ends.specs.Looking.{no_visit, has_visits, may_have_more};
 ghost use Rattle.live_ends.specs.Printing.{printed};
 ghost use Rattle.live_ends.specs.Waiting.{longest_wait};
 
@@ -23,11 +19,6 @@ pub fn each_sentence_has_an_example()
     ensures writable { has_visits false (record { is_readable = false; is_writable = true } ∷ no_visit ∷ []) ≡ true }
     // Only a look that would have waited says that a socket is empty: behind any other fault it is looked at again.
     ensures faults { map may_have_more (WouldBlock ∷ Interrupted ∷ Uncategorized ∷ []) ≡ false ∷ true ∷ true ∷ [] }
-    ensures found { (sender : SocketAddr) → heard_of (Ok (5, sender)) ≡ Some (sender, 5) }
-    ensures found_more { (sender : SocketAddr) (ready : Readiness) → heard_by (Ok (5, sender)) ready ≡ ready }
-    ensures failed { (fault : Error) → heard_of (Err fault) ≡ None }
-    ensures failed_so { (fault : Error) (ready : Readiness) → (heard_by (Err fault) ready).commands ≡ may_have_more (error_kind fault) }
-    ensures others { (fault : Error) (ready : Readiness) → (heard_by (Err fault) ready).socket ≡ ready.socket }
     // The files of a capture have numbers behind its name, and nothing behind those.
     ensures seventh { number_behind (codes "calls.pcap") (codes "calls.pcap.7") ≡ Some 7 }
     ensures twelfth { numbered (codes "calls.pcap") 12 ≡ codes "calls.pcap.12" }

@@ -4,7 +4,7 @@ ghost use Rattle.std.specs.Prelude.{◌≡◌};
 use crate::address_words::AddressWord;
 use crate::clock::LiveClock;
 use crate::ending::CommonEnding;
-use crate::readiness::{Readiness, may_have_more};
+use crate::readiness::Readiness;
 use live_outlets::boxed;
 use mio::net::UdpSocket;
 use std::alloc::Global;
@@ -137,10 +137,7 @@ impl<'a, R: Net + Clock> Live<'a, R> {
 }
 
 impl<R: Net + Clock> Surroundings for Live<'_, R> {
-    ghost use Rattle.std.specs.Prelude.{◌≡◌, ⊤, ℕ, Result};
-    ghost use Rattle.std.specs.declared.io.Error.{Error};
-    ghost use Rattle.std.specs.declared.net.socket_addr.SocketAddr.{SocketAddr};
-    ghost use Rattle.live_ends.specs.Looking.{heard_of, heard_by};
+    ghost use Rattle.std.specs.Prelude.{⊤};
     ghost use Rattle.surroundings.specs.Sending.{untold};
 
     ghost traffic = { λ live. untold };
@@ -159,8 +156,7 @@ impl<R: Net + Clock> Surroundings for Live<'_, R> {
 
     ghost sends = { λ was to bytes outcome is. ⊤ };
 
-    ghost hears = { λ was given room is. (gave : Result (ℕ × SocketAddr) Error) × (given ≡ heard_of gave)
-        × (is ≡ record was { ready = is.ready }) × (is.ready.value ≡ heard_by gave was.ready.value) };
+    ghost hears = { λ was given room is. ⊤ };
 
     ghost answers = { λ was to text is. ⊤ };
 
@@ -226,7 +222,7 @@ impl<R: Net + Clock> Surroundings for Live<'_, R> {
         match self.commands.recv_from(room) {
             Ok((len, source)) => Some((source, len)),
             Err(fault) => {
-                self.ready.commands = may_have_more(fault.kind());
+                self.ready.fail_to_hear(fault.kind());
                 None
             }
         }

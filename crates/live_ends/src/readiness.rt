@@ -126,6 +126,13 @@ impl Readiness {
         self.poll.registry().register(stream, token, both)
     }
 
+    /// A look for lines failed so: where it only found none their socket isn't looked at again before it is told.
+    pub(crate) fn fail_to_hear(&mut self, kind: ErrorKind)
+        ensures { self.new ≡ record self.old { commands = may_have_more kind } }
+    {
+        self.commands = may_have_more(kind);
+    }
+
     /// Nothing was told of the site's visitors.
     pub fn forget_visits(&mut self)
         ensures visits { self.new.visits ≡ replicate MOST_VISITORS no_visit }
