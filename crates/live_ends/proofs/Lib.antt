@@ -1,2 +1,3 @@
 pub mod Computing
+mod AddressLemmas
 mod PuttingLemmas
