@@ -1,12 +1,12 @@
 -- What comes to the gateway of the worked examples, which has two lines; and requests of which walks begin.
-use Rattle.std.specs.Prelude.{List, [], ◌∷◌, codes}
-use Rattle.mg_packages.specs.declared.event.LineEvent.TheVariants as events
+use Rattle.std.specs.Prelude.{List, [], ◌∷◌, ◌++◌, codes}
 use Rattle.event_requests.specs.declared.request.Request.{Request}
 use Rattle.mg_line.specs.declared.phone.Act.TheVariants.{OffHook, Key}
 use Rattle.mg_line.specs.declared.phone.Key.TheVariants.{Five, Six}
-use Rattle.mg_line.specs.Scenario.{requests}
+use Rattle.mg_line.specs.Scenario.{requests, with_map}
 use Rattle.plain_machine.specs.Event.{GatewayEvent, phone}
-use Rattle.plain_machine.specs.Example.{response}
+use Rattle.plain_machine.specs.Example.{ready, response}
+use Rattle.machine_laws.specs.IsolationExample.{asks_for_two}
 use Rattle.world_laws.specs.OnceExample.{course_then, line_then}
 use Rattle.told_laws.specs.Walking.{nothing_asked, Walks, Stays}
 
@@ -24,3 +24,11 @@ has_lifting_told = requests (codes "A1") (codes "L/hd(N)")
 -- what is told of line 1 then walks through what was done at it
 abbrev pub WalksThen : List GatewayEvent → Type 0
 WalksThen events = Walks nothing_asked [] (course_then events) (Stays (line_then events))
+
+-- two digits are asked for, and a lifting isn't to be told
+abbrev pub wants_both : Request
+wants_both = with_map (codes "(xx)") (requests (codes "B1") (codes "L/hd(I),D/X(D)"))
+
+-- line 1 is asked so, lifted, and dials 5 and 6
+abbrev pub dials_both : List GatewayEvent
+dials_both = ready ++ asks_for_two 1701 (codes "aaln/1") ∷ phone 1 OffHook ∷ phone 1 (Key Five) ∷ phone 1 (Key Six) ∷ []

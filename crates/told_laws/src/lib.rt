@@ -6,4 +6,5 @@
 #![tactic(auto)]
 
 pub mod examples;
+pub mod law_examples;
 pub mod laws;
