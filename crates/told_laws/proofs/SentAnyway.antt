@@ -1,6 +1,6 @@
 -- All that a gateway says is posted, whatever steps are refused: so a command of its own goes out at its moments, whichever line sent it.
 -- And an answer that was sent is had in time.
-use Rattle.std.proofs.Common.{◌+◌, List, [], ◌∷◌, ◌++◌}
+use Rattle.std.proofs.Common.{List, [], ◌∷◌, ◌++◌}
 use Rattle.plain_machine.specs.declared.setup.Setup.{Setup}
 use Rattle.plain_machine.specs.Setup.{IsSetUp}
 use Rattle.plain_machine.specs.Message.{Begun}
