@@ -5,3 +5,4 @@ pub mod Example
 pub mod Lives
 pub mod Apart
 pub mod LifeExample
+pub mod LawExample

@@ -11,6 +11,7 @@
 
 pub mod alone_laws;
 pub mod examples;
+pub mod law_examples;
 pub mod life_examples;
 pub mod life_laws;
 pub mod line_examples;
