@@ -1,5 +1,5 @@
 //! The lines of a text.
-ghost use Rattle.std.specs.Prelude.{◌≡◌, ◌++◌, take};
+ghost use Rattle.std.specs.Prelude.{◌≡◌, ◌≤◌, ◌++◌, filter, length, take};
 ghost use Rattle.toml_places.specs.Lines.{is_feed, line_at, line_before};
 
 use exchange_log::write_number;
@@ -22,15 +22,20 @@ fn is_feed(byte: u8) -> bool
     byte == b'\n'
 }
 
+// How many lines end in a text.
+#[tactic(auto, using(crate::proofs::Counting::filter_le))]
+fn feeds_in(text: &[u8]) -> usize
+    ensures count { result ≡ length (filter is_feed text.now) }
+    ensures within { result ≤ length text.now }
+{
+    text.iter().filter(|byte| is_feed(**byte)).count()
+}
+
 /// The number of the line that a place in a text is in, from 1.
 pub fn line_at(text: &[u8], place: usize) -> u64
     ensures { result ≡ line_at text.now place }
 {
-    let feeds = front(text, place)
-        .iter()
-        .filter(|byte| is_feed(**byte))
-        .count();
-    feeds as u64 + 1
+    feeds_in(front(text, place)) as u64 + 1
 }
 
 /// Puts the number of a line before what is told of it.
