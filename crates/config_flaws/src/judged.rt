@@ -13,7 +13,7 @@ const GREATEST: i64 = i64::MAX;
 const GREATEST_SHOWN: &str = "9,223,372,036,854,775,807";
 
 /// The keys of a configuration.
-pub const KEYS: [ConfigKey; 8] = [
+pub(crate) const KEYS: [ConfigKey; 8] = [
     ConfigKey::Domain,
     ConfigKey::Lines,
     ConfigKey::Agent,
@@ -25,7 +25,7 @@ pub const KEYS: [ConfigKey; 8] = [
 ];
 
 /// Their names.
-pub fn key_names() -> [&'static str; 8] {
+pub(crate) fn key_names() -> [&'static str; 8] {
     [
         ConfigKey::Domain.name(),
         ConfigKey::Lines.name(),
@@ -39,7 +39,7 @@ pub fn key_names() -> [&'static str; 8] {
 }
 
 /// The key with this name.
-pub fn key_called(name: &str) -> Option<ConfigKey> {
+pub(crate) fn key_called(name: &str) -> Option<ConfigKey> {
     for key in KEYS {
         if key.name() == name {
             return Some(key);
@@ -85,7 +85,7 @@ fn text_with(
 }
 
 /// What is wrong with this at a key, in words, where the names are these; nothing where it may stand there.
-pub fn judged(
+pub(crate) fn judged(
     alloc: Global,
     key: ConfigKey,
     value: &str,
@@ -99,7 +99,7 @@ pub fn judged(
 }
 
 /// What is wrong with a number at a key that TOML has not, shown so; `None` where no number may stand there.
-pub fn judged_number(
+pub(crate) fn judged_number(
     alloc: Global,
     key: ConfigKey,
     shown: &[u8],

@@ -17,3 +17,7 @@ line_before line = codes "line " ++ number_shown line ++ codes ": "
 abbrev pub fault_line : Option ℕ → List ℕ → List ℕ
 fault_line None words = words
 fault_line (Some line) words = line_before line ++ words
+
+-- so many faults of a file are told at most
+abbrev pub most_told : ℕ
+most_told = 64

@@ -39,7 +39,7 @@ pub fn line_at(text: &[u8], place: usize) -> u64
 }
 
 /// Puts the number of a line before what is told of it.
-pub fn put_line_at(out: &mut Draft, line: u64)
+pub(crate) fn put_line_at(out: &mut Draft, line: u64)
     ensures { out.new ≡ out.old ++ line_before line }
 {
     out.put(b"line ");

@@ -12,7 +12,7 @@ pub const BETWEEN: u8 = 0xff;
 const MOST_NAMES: usize = 128;
 
 /// These names, one behind the other.
-pub fn joined(alloc: Global, names: &[&str]) -> Result<Vec<u8>, OutOfMemory> {
+pub(crate) fn joined(alloc: Global, names: &[&str]) -> Result<Vec<u8>, OutOfMemory> {
     let mut out = Draft::new(alloc);
     let mut is_first = true;
     for name in names {
@@ -26,7 +26,7 @@ pub fn joined(alloc: Global, names: &[&str]) -> Result<Vec<u8>, OutOfMemory> {
 }
 
 /// The names that lead to the only value of a table.
-pub fn names_in(alloc: Global, table: &Table) -> Result<Vec<u8>, OutOfMemory> {
+pub(crate) fn names_in(alloc: Global, table: &Table) -> Result<Vec<u8>, OutOfMemory> {
     let mut out = Draft::new(alloc);
     let mut inner = table;
     for depth in 0..MOST_NAMES {
@@ -65,7 +65,7 @@ fn behind<'a>(path: &'a [u8], names: &[u8]) -> Option<&'a [u8]> {
 }
 
 /// How names go along a path.
-pub fn along<'a>(path: &'a [u8], names: &[u8]) -> Fit<'a> {
+pub(crate) fn along<'a>(path: &'a [u8], names: &[u8]) -> Fit<'a> {
     if path == names {
         return Fit::Whole;
     }

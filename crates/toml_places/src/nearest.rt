@@ -6,8 +6,19 @@ use strsim::levenshtein;
 // A name with more bytes is compared with none.
 const LONGEST_NAME: usize = 64;
 
-// The nearest of these names to another one, which is written so, in capitals or not: by the fewest letters that are put in, left out or
-// turned; of several the first. `None` where it has more than 64 bytes, or there is none.
+// How far a name is from another one: how many letters are put in, left out or turned; behind all that have it in them where the other one
+// hasn't.
+fn distance(alloc: Global, name: &str, other: &str) -> Result<usize, OutOfMemory> {
+    let turned = levenshtein(alloc, name, other)?;
+    if other.split_once(name).is_some() {
+        Ok(turned)
+    } else {
+        Ok(turned.saturating_add(LONGEST_NAME))
+    }
+}
+
+// The nearest of these names to another one, in capitals or not; of several the first. `None` where it has more than 64 bytes, or there is
+// none.
 fn nearest<'n>(
     alloc: Global,
     name: &str,
@@ -20,9 +31,9 @@ fn nearest<'n>(
     let mut found = None;
     let mut least = usize::MAX;
     for other in known {
-        let turned = levenshtein(alloc, small.as_str(), other)?;
-        if turned < least {
-            least = turned;
+        let away = distance(alloc, small.as_str(), other)?;
+        if away < least {
+            least = away;
             found = Some(*other);
         }
     }

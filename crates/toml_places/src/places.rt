@@ -209,7 +209,11 @@ impl<'t> Places<'t> {
     }
 
     /// The statement that ends in the line of a place, or goes on there.
-    pub fn around(&self, alloc: Global, place: usize) -> Result<Option<Around<'t>>, OutOfMemory> {
+    pub(crate) fn around(
+        &self,
+        alloc: Global,
+        place: usize,
+    ) -> Result<Option<Around<'t>>, OutOfMemory> {
         let Some(statement) = self.last_before(line_end(self.text, place)) else {
             return Ok(None);
         };

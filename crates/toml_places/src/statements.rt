@@ -93,7 +93,7 @@ impl Reader {
 }
 
 /// Where the statements of a text stand.
-pub fn marks_of(alloc: Global, text: &[u8]) -> Result<Vec<Mark>, OutOfMemory> {
+pub(crate) fn marks_of(alloc: Global, text: &[u8]) -> Result<Vec<Mark>, OutOfMemory> {
     let mut reader = Reader {
         within: Within::Plain,
         depth: 0,
@@ -114,7 +114,7 @@ pub fn marks_of(alloc: Global, text: &[u8]) -> Result<Vec<Mark>, OutOfMemory> {
 }
 
 /// What stands in a text from one place to another.
-pub fn between(text: &[u8], start: usize, end: usize) -> &[u8] {
+pub(crate) fn between(text: &[u8], start: usize, end: usize) -> &[u8] {
     match text.get(start..end) {
         Some(piece) => piece,
         None => b"".as_slice(),
@@ -122,7 +122,7 @@ pub fn between(text: &[u8], start: usize, end: usize) -> &[u8] {
 }
 
 /// A key as it is written, or a head.
-pub fn key_at(text: &[u8], mark: Mark) -> &[u8] {
+pub(crate) fn key_at(text: &[u8], mark: Mark) -> &[u8] {
     match mark.equals {
         Some(equals) => between(text, mark.start, equals),
         None => between(text, mark.start, mark.end),
@@ -130,7 +130,7 @@ pub fn key_at(text: &[u8], mark: Mark) -> &[u8] {
 }
 
 /// The value of a key as it is written; nothing of a head.
-pub fn value_at(text: &[u8], mark: Mark) -> &[u8] {
+pub(crate) fn value_at(text: &[u8], mark: Mark) -> &[u8] {
     match mark.equals {
         Some(equals) => between(text, equals.saturating_add(1), mark.end),
         None => b"".as_slice(),
@@ -138,7 +138,7 @@ pub fn value_at(text: &[u8], mark: Mark) -> &[u8] {
 }
 
 /// The names of a key, or of a head, as TOML reads them: what no names are where it doesn't.
-pub fn names_at(alloc: Global, text: &[u8], mark: Mark) -> Result<Vec<u8>, OutOfMemory> {
+pub(crate) fn names_at(alloc: Global, text: &[u8], mark: Mark) -> Result<Vec<u8>, OutOfMemory> {
     let mut line = Draft::new(alloc);
     line.put(key_at(text, mark));
     if mark.equals.is_some() {

@@ -1,6 +1,6 @@
 //! What is told of a file: a line of words for each fault, in the order of the lines where they stand.
-ghost use Rattle.std.specs.Prelude.{◌≡◌, ◌++◌};
-ghost use Rattle.toml_places.specs.Lines.{fault_line};
+ghost use Rattle.std.specs.Prelude.{◌≡◌, ◌++◌, ◌==◌, nat_lt};
+ghost use Rattle.toml_places.specs.Lines.{fault_line, most_told};
 
 use crate::lines::put_line_at;
 use mg_bytes::{Draft, OutOfMemory};
@@ -36,7 +36,9 @@ fn order_of(line: Option<u64>, count: usize) -> u64 {
 
 impl Told {
     /// None yet.
-    pub fn new(alloc: Global) -> Told {
+    pub fn new(alloc: Global) -> Told
+        ensures { result.count ≡ 0 }
+    {
         Told {
             alloc,
             lines: BTreeMap::new(alloc),
@@ -56,12 +58,16 @@ impl Told {
     }
 
     /// Whether none is told.
-    pub fn is_empty(&self) -> bool {
+    pub fn is_empty(&self) -> bool
+        ensures { result ≡ (self.now.count == 0) }
+    {
         self.count == 0
     }
 
     /// Whether no further one is told.
-    pub fn is_full(&self) -> bool {
+    pub fn is_full(&self) -> bool
+        ensures { result ≡ nat_lt most_told self.now.count }
+    {
         self.count > MOST_TOLD
     }
 

@@ -114,7 +114,7 @@ fn behind_long(quote: u8, is_escaped: bool, quotes: u8, byte: u8) -> Within {
 
 impl Within {
     /// Where a reader is behind a byte, and what that belongs to.
-    pub fn behind(self, byte: u8) -> (Within, Seen) {
+    pub(crate) fn behind(self, byte: u8) -> (Within, Seen) {
         match self {
             Within::Plain => behind_plain(byte),
             Within::Comment if byte == b'\n' => behind_plain(byte),

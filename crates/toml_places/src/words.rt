@@ -1,4 +1,7 @@
 //! Words that are told of a value.
+ghost use Rattle.std.specs.Prelude.{◌≡◌, IfOk};
+ghost use Rattle.exchange_log.specs.Escaping.{shown};
+
 use exchange_log::write_shown;
 use mg_bytes::{Draft, OutOfMemory};
 use std::alloc::{AllocError, Global};
@@ -14,7 +17,9 @@ pub fn written(alloc: Global, value: &Value) -> Result<String, OutOfMemory> {
 }
 
 /// Bytes as they are shown. Its only error is want of memory.
-pub fn shown(alloc: Global, bytes: &[u8]) -> Result<Vec<u8>, OutOfMemory> {
+pub fn shown(alloc: Global, bytes: &[u8]) -> Result<Vec<u8>, OutOfMemory>
+    ensures { IfOk result (λ text. text.items ≡ shown bytes.now) }
+{
     let mut out = Draft::new(alloc);
     write_shown(&mut out, bytes);
     out.end()
