@@ -325,9 +325,14 @@ impl Reading<'_> {
         Some(self.address(table, place))
     }
 
-    // The digit map, where there is one.
-    fn map(&mut self, table: &Table) -> Option<Text> {
-        let value = table.get("digit_map")?;
+    // The digit map, where there is one; it is missing there where calls are to be routed and there is none.
+    fn map(&mut self, table: &Table, is_routed: bool) -> Option<Text> {
+        let Some(value) = table.get("digit_map") else {
+            if is_routed {
+                self.refuse_value(own_key("digit_map"), None, ValueFault::NoDigitMap);
+            }
+            return None;
+        };
         let text = value.as_str().unwrap_or("").as_bytes();
         match read_map(self.alloc, text) {
             Ok(_) => {}
@@ -434,11 +439,11 @@ impl Reading<'_> {
         }
     }
 
-    fn config(&mut self, table: &Table) -> AgentConfig {
+    fn config(&mut self, table: &Table, is_routed: bool) -> AgentConfig {
         self.refuse_others(table, None, &KEYS);
         AgentConfig {
             own: self.address(table, own_key("own")),
-            map: self.map(table),
+            map: self.map(table, is_routed),
             gateways: self.gateways_at(table),
         }
     }
@@ -452,7 +457,12 @@ fn refusal_of(faults: Told) -> ConfigRefusal {
     }
 }
 
-fn config_of(alloc: Global, text: &str, table: &Table) -> Result<AgentConfig, ConfigRefusal> {
+fn config_of(
+    alloc: Global,
+    text: &str,
+    table: &Table,
+    is_routed: bool,
+) -> Result<AgentConfig, ConfigRefusal> {
     let places = match Places::of(alloc, text) {
         Ok(places) => places,
         Err(_) => return Err(ConfigRefusal::OutOfMemory),
@@ -464,7 +474,7 @@ fn config_of(alloc: Global, text: &str, table: &Table) -> Result<AgentConfig, Co
         faults: Told::new(alloc),
         is_refused: false,
     };
-    let config = reading.config(table);
+    let config = reading.config(table, is_routed);
     let Reading {
         alloc: _,
         places,
@@ -509,14 +519,19 @@ fn unreadable(alloc: Global, text: &str, error: &Error) -> ConfigRefusal {
     }
 }
 
-/// The configuration that a text writes, or all that is wrong with it: the line, the key, what stands there, and what may.
-pub fn read_config(alloc: Global, text: &[u8]) -> Result<AgentConfig, ConfigRefusal> {
+/// The configuration that a text writes, where calls are to be routed one with a digit map; or all that is wrong with it: the line, the
+/// key, what stands there, and what may.
+pub fn read_config(
+    alloc: Global,
+    text: &[u8],
+    is_routed: bool,
+) -> Result<AgentConfig, ConfigRefusal> {
     let words = match std::str::from_utf8(text) {
         Ok(words) => words,
         Err(fault) => return Err(told_at(alloc, line_at(text, fault.valid_up_to()), b"no UTF-8")),
     };
     match toml::table_from_str(alloc, words) {
-        Ok(table) => config_of(alloc, words, &table),
+        Ok(table) => config_of(alloc, words, &table, is_routed),
         Err(error) => Err(unreadable(alloc, words, &error)),
     }
 }

@@ -61,7 +61,7 @@ impl Recorder for Records {
 /// A configuration; nothing where it has a fault.
 pub(crate) fn config_in(alloc: Global, settings: &str) -> Result<Option<AgentConfig>, OutOfMemory> {
     let text = if settings.is_empty() { USUAL } else { settings };
-    match read_config(alloc, text.as_bytes()) {
+    match read_config(alloc, text.as_bytes(), false) {
         Ok(config) => Ok(Some(config)),
         Err(ConfigRefusal::OutOfMemory) => Err(AllocError),
         Err(_) => Ok(None),

@@ -6,31 +6,21 @@ use crate::ending::Ending;
 use agent_config::{AgentConfig, ConfigRefusal, Place, missing, read_config, too_long};
 use live_ends::{CommonEnding, read_file};
 use rgw_scripts::LIMIT;
-use std::alloc::Global;
+use std::alloc::{AllocError, Global};
 use std::rt::Files;
-use toml_places::named;
+use toml_places::{Told, named};
 
 // The configuration that a text writes; where calls are to be routed it has a digit map.
 fn config_of(alloc: Global, is_routed: bool, text: &[u8]) -> Result<AgentConfig, ConfigRefusal> {
     if text.len() > LIMIT {
         return Err(too_long(alloc, LIMIT));
     }
-    let config = match read_config(alloc, text) {
-        Ok(config) => config,
-        Err(refusal) => return Err(refusal),
-    };
-    if is_routed && config.map.is_none() {
-        let place = Place {
-            gateway: None,
-            key: "digit_map",
-        };
-        return Err(missing(alloc, place));
-    }
-    Ok(config)
+    read_config(alloc, text, is_routed)
 }
 
-// Why a configuration has no load, if it hasn't: a gateway doesn't say where its telephones are.
+// Why a configuration has no load, if it hasn't: gateways don't say where their telephones are.
 fn bench_refusal(alloc: Global, config: &AgentConfig) -> Option<ConfigRefusal> {
+    let mut faults = Told::new(alloc);
     for gateway in config.gateways.iter() {
         if gateway.phones.is_none() {
             let domain = str::from_utf8(gateway.domain.as_bytes()).unwrap_or("");
@@ -38,10 +28,22 @@ fn bench_refusal(alloc: Global, config: &AgentConfig) -> Option<ConfigRefusal> {
                 gateway: Some(domain),
                 key: "phones",
             };
-            return Some(missing(alloc, place));
+            let told = match missing(alloc, place) {
+                ConfigRefusal::OutOfMemory => Err(AllocError),
+                ConfigRefusal::Told { line } => faults.tell(None, line.as_slice()),
+            };
+            if told.is_err() {
+                return Some(ConfigRefusal::OutOfMemory);
+            }
         }
     }
-    None
+    if faults.is_empty() {
+        return None;
+    }
+    match faults.end() {
+        Ok(line) => Some(ConfigRefusal::Told { line }),
+        Err(_) => Some(ConfigRefusal::OutOfMemory),
+    }
 }
 
 // Why the configuration in this file is refused, where each line names the file but the first, before which that stands already.
@@ -95,7 +97,7 @@ pub fn load_config_at<R: Files>(
         Err(ending) => return Err(ending),
     };
     if let Some(refusal) = bench_refusal(alloc, &config) {
-        return Err(config_ending(refusal));
+        return Err(config_ending(named_refusal(alloc, file, refusal)));
     }
     Ok(config)
 }
