@@ -1,5 +1,5 @@
 //! The site: the socket at which browsers ask for the page, and whose turn it is.
-ghost use Rattle.std.specs.Prelude.{◌≡◌, ◌||◌, None, IfNone, IfOk, IfSome, IsSomeAnd, OnSome, true, map, replicate, slice_get};
+ghost use Rattle.std.specs.Prelude.{◌≡◌, ◌||◌, None, IfNone, IfOk, IfSome, IsSomeAnd, OnSome, true, map, replicate, slice_get, false};
 ghost use Rattle.std.specs.IoError.{error_kind};
 ghost use Rattle.live_ends.specs.Looking.{no_visit};
 ghost use Rattle.page_access.specs.Naming.{names_of};
