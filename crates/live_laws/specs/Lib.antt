@@ -5,3 +5,4 @@ pub mod TurnExample
 pub mod WayExample
 pub mod CallTurns
 pub mod CallExample
+pub mod LawExample

@@ -9,6 +9,7 @@ pub mod call_laws;
 pub mod call_record_examples;
 pub mod desk_examples;
 pub mod examples;
+pub mod law_examples;
 pub mod laws;
 pub mod passing_examples;
 pub mod play_laws;
