@@ -1,5 +1,5 @@
 -- What the worked examples of what laws ask for speak of: commands as they began, firsts, and lives that follow the time of day.
-use Rattle.std.specs.Prelude.{List, [], ◌∷◌, ◌++◌}
+use Rattle.std.specs.Prelude.{ℕ, List, [], ◌∷◌, ◌++◌}
 use Rattle.history.specs.Arrival.{Arrival}
 use Rattle.history.specs.Example.{comes}
 use Rattle.outbound.specs.Flight.{InFlight, sent_first}
@@ -10,7 +10,7 @@ use Rattle.plain_machine.specs.Message.{Begun}
 use Rattle.agent_core.specs.World.{delivering, dialling, ticking}
 use Rattle.world_laws.specs.DeliveryExample.{lifted}
 use Rattle.outage_laws.specs.Example.{announcement}
-use Rattle.outage_laws.specs.Lives.{LivesStep, restarting, stepping}
+use Rattle.outage_laws.specs.Lives.{Life, LivesStep, restarting, stepping}
 use Rattle.outage_laws.specs.LifeExample.{first_life, in_one_life}
 
 -- A gateway alone
@@ -48,3 +48,7 @@ by_the_day = first_life ++ stepping (ticking 1001) ∷ restarting 20 ∷ in_one_
 -- the answer to the notification of its first life, packet 3, comes to the second
 abbrev pub answered_late : List LivesStep
 answered_late = by_the_day ++ stepping (delivering 3) ∷ []
+
+-- the number of each life is drawn as it starts
+abbrev pub at_start : Life → ℕ
+at_start life = life.start

@@ -30,7 +30,7 @@ ghost use Rattle.outage_laws.specs.Carrying.{IsCarriedBack};
 ghost use Rattle.outage_laws.specs.Lives.{Letter, lives_are_taken, lives_of, lives_opening, number_of};
 ghost use Rattle.outage_laws.specs.Example.{announcement, asked_again, connected_in_step, connected_late, saved, serving_late};
 ghost use Rattle.outage_laws.specs.LifeExample.{lives};
-ghost use Rattle.outage_laws.specs.LawExample.{announced_anew, announced_flight, answered_late, by_the_day, lifted_alone, lifted_later, line_announced, two_came};
+ghost use Rattle.outage_laws.specs.LawExample.{at_start, announced_anew, announced_flight, answered_late, by_the_day, lifted_alone, lifted_later, line_announced, two_came};
 
 /// What laws ask of a gateway alone is met where line 1 is lifted, and where the gateway announced itself; of firsts, where two came.
 pub fn what_is_asked_of_a_gateway_has_examples()
@@ -111,8 +111,8 @@ pub fn what_is_asked_of_lives_has_examples()
     ensures answer { (letter : Letter) × (slice_get (lives by_the_day).letters 3 ≡ Some letter) × (letter.post.end ≡ AgentEnd)
         × (letter.life ≢ number_of (lives by_the_day)) }
     // lives_by_the_time_of_day_lie_apart, lives_that_keep_pace_follow_the_time_of_day
-    ensures by_time { All (IsByTime 0) (lives_of (lives by_the_day)) }
-    ensures starts { AllPairs StartsLater (lives_of (lives by_the_day)) }
-    ensures starts_by_time { All (StartsByTime 0) (lives_of (lives by_the_day)) }
-    ensures paced { All KeepsPace (lives_of (lives by_the_day)) }
+    ensures by_time { All (IsByTime 0 at_start) (lives_of (lives by_the_day)) }
+    ensures starts { AllPairs (StartsLater 0 at_start) (lives_of (lives by_the_day)) }
+    ensures starts_by_time { All (StartsByTime 0 at_start) (lives_of (lives by_the_day)) }
+    ensures paced { All (KeepsPace 0 at_start) (lives_of (lives by_the_day)) }
 {}
