@@ -5,10 +5,10 @@ ghost use Rattle.mg_packages.specs.Looking.{is_same_signal};
 ghost use Rattle.phone_scripts.specs.Telephones.{Telephone};
 ghost use Rattle.phone_scripts.specs.Expecting.{last_moment, hears, is_same_mode, talks, is_silent, is_so, opened, next_open, passed, verdict_of};
 
+use crate::deadline::is_in_time;
 use crate::telephone::{Connected, Telephone};
 use connections::{Mode, mode_text};
 use mg_packages::Signal;
-use small_rules::is_in_time;
 
 /// What is expected of a telephone.
 #[derive(Clone, Copy)]

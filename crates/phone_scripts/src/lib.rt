@@ -7,6 +7,7 @@
 mod act;
 mod asking;
 mod change;
+mod deadline;
 pub mod examples;
 mod expecting;
 mod failure;
