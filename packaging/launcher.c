@@ -8,7 +8,7 @@
  *     program looks for it. Each of them is `stop` there. One that was ignored before, as SIGHUP by nohup, stays ignored;
  *   - ignores SIGHUP where standard error is no terminal, and the signals that would end a program that is to serve on: a write past
  *     `ulimit -f` is then an error of that write.
- * Before words that start nothing that serves (rgwd --tell and --replay, rgca check, load and phones) signals stay as they are.
+ * Before words that start nothing that serves (rgwd --tell and --replay) signals stay as they are.
  *
  * This is C, and isn't proved. It has its own declarations, for x86-64 and glibc: the kit's clang, which compiles it, has no headers. */
 typedef struct {
@@ -73,17 +73,8 @@ static char *installed(const char *path, const char *name) {
 }
 
 /* Whether a program serves that is started with this first word. */
-static int serves(char *program, const char *word) {
-    static const char *const of_rgca[] = {"check", "load", "phones"}, *const of_rgwd[] = {"--tell", "--replay"};
-    if (!word)
-        return 1;
-    for (unsigned i = 0; i < sizeof of_rgwd / sizeof *of_rgwd; i++)
-        if (!strcmp(word, of_rgwd[i]))
-            return 0;
-    for (unsigned i = 0; i < sizeof of_rgca / sizeof *of_rgca; i++)
-        if (!strcmp(word, of_rgca[i]) && !strcmp(base(program), "rgca"))
-            return 0;
-    return 1;
+static int serves(const char *word) {
+    return !word || (strcmp(word, "--tell") && strcmp(word, "--replay"));
 }
 
 static void set_signals(void) {
@@ -120,7 +111,7 @@ int main(int count, char **words) {
         path = words[0];
     } else
         path = installed(path, name);
-    if (serves(path, words[0] ? words[1] : 0))
+    if (serves(words[0] ? words[1] : 0))
         set_signals();
     execv(path, words);
     perror(path);

@@ -6,13 +6,9 @@
 //! - `script  LINE  LINE ..  script line 3` a script with the usual settings, from the opening;
 //! - `command  LINE  LINE ..  510 1` a datagram from the agent at Ready, and what is sent to it;
 //! - `request  LINE  LINE ..  518 1` the same of a request of line 1 that has an X, and these lines besides;
-//! - `check  WORD  WORD ..  gateway 127.0.0.1:2427 domain ..` what words behind `rgca check` ask for, or why no check is asked for;
-//! - `phones  WORD  WORD ..  script a at 127.0.0.1:2428` what words behind `rgca phones` ask for, or why no script is played;
 //! - `sequence  1000  2  1002` how many values a list has that grew by so many one by one, and then by a list of so many.
 //!
 //! Where nothing is printed the answer is `ok`; more than a line is all that is printed, with `\n` for each line end.
-use crate::checks::put_check;
-use crate::phone_words::put_phones;
 use crate::played::{settings_with, simulated};
 use gateway_core::Gateway;
 use mg_bytes::{OutOfMemory, Sequence};
@@ -173,8 +169,6 @@ impl Scenario for Calls {
             "sequence" => put_length(given, values),
             "fault" => put_flaw(given, values),
             "setup" => put_setup(given, values),
-            "check" => put_check(given, values),
-            "phones" => put_phones(given, values),
             _ => put_printed(given, call, values),
         };
         if done.is_err() {

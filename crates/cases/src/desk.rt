@@ -6,13 +6,11 @@
 //! - `<`, `>` a datagram comes from the first gateway, 127.0.0.1:2427, or goes there, or from and to the address behind them.
 //! - `type AUEP ..` this is typed at the socket for commands.
 //! - `print ..` a line of standard output.
-//! - `words check`, `words --list` it is asked which checks there are; `--help` behind `check`, `phones` or `load`, how that is used. What
-//!   is said of words that ask for nothing to serve is told, and the exit status: `print ..`, or `log ..` of standard error, `status ..`.
+//! - `words check` a first word that is no option stands in the place of the configuration. What is said of words that ask for nothing to
+//!   serve is told, and the exit status: `print ..`, or `log ..` of standard error, `status ..`. What `clap` says of wrong words isn't.
 //! - `read print` what is printed is read from here on, and `read print 1048413` so many bytes wait for that from the start; where the log
 //!   is read late, nobody reads that without it.
 //! - `refused print` memory is refused for what is printed, from the start.
-use crate::asked::{asks_for_help, asks_for_list, put_help, put_list, put_said};
-use crate::loads::{load_line, play_load};
 use crate::stories::{
     Clocks, EndClock, LateRecord, Machine, Place, Program, Records, Story, Transcript, line_of,
     told, unread_outlet,
@@ -22,7 +20,7 @@ use agent_texts::Journal;
 use live_agent::{Recorder, Wire, WireSettings, serve_over, wire_over};
 use live_ends::{AddressWord, CommonEnding, SocketWanted};
 use mg_bytes::OutOfMemory;
-use rgca_words::{Named, Settings, WordFault, read_words, word_ending};
+use rgca_words::{Ending, Said, Settings, asked_by};
 use scenario_files::{Report, Titled};
 use std::alloc::{AllocError, Global};
 use std::net::{Ipv4Addr, Net, SocketAddrV4};
@@ -58,8 +56,8 @@ impl Recorder for Records {
     }
 }
 
-/// A configuration; nothing where it has a fault.
-pub(crate) fn config_in(alloc: Global, settings: &str) -> Result<Option<AgentConfig>, OutOfMemory> {
+// A configuration; nothing where it has a fault.
+fn config_in(alloc: Global, settings: &str) -> Result<Option<AgentConfig>, OutOfMemory> {
     let text = if settings.is_empty() { USUAL } else { settings };
     match read_config(alloc, text.as_bytes(), false) {
         Ok(config) => Ok(Some(config)),
@@ -68,12 +66,32 @@ pub(crate) fn config_in(alloc: Global, settings: &str) -> Result<Option<AgentCon
     }
 }
 
-// What a command line asks for, read as the program reads it; or why it asks for nothing that is served.
-fn settings_by<'a>(alloc: Global, line: &'a [String]) -> Result<Box<Settings<'a>>, WordFault> {
-    let Ok(mut said) = unread_outlet(alloc) else {
-        return Err(WordFault::Common(CommonEnding::OutOfMemory));
+// The command line that a story says, where a first word that is no option stands in the place of the configuration.
+fn line_in(alloc: Global, words: &[String]) -> Result<Vec<String>, OutOfMemory> {
+    match words {
+        [first, rest @ ..] if !first.as_str().starts_with('-') => {
+            line_of(alloc, "rgca", first.as_str(), rest)
+        }
+        _ => line_of(alloc, "rgca", "agent.toml", words),
+    }
+}
+
+// Puts what it says, and with which status it ends: it runs.
+fn put_said(said: Said, story: &Story, given: &mut Transcript) -> Result<bool, OutOfMemory> {
+    let Said { ending, text } = said;
+    let text = text?;
+    // Played again by who refused memory.
+    if let Ending::Common(CommonEnding::OutOfMemory) = &ending {
+        return Err(AllocError);
+    }
+    let before = if ending.is_asked() {
+        b"print ".as_slice()
+    } else {
+        b"log ".as_slice()
     };
-    read_words(alloc, line, &mut said)
+    given.tell(story.clocks.stamp(), before, text.as_slice());
+    given.tell_status(story.clocks.stamp(), ending.status());
+    Ok(true)
 }
 
 // What is asked of a wire, which ends behind what comes where no word says when.
@@ -95,8 +113,8 @@ fn wire_settings(settings: &Settings<'_>, config: &AgentConfig, story: &Story) -
     }
 }
 
-/// What a call agent stands on, over what a story has of sockets and a clock.
-pub(crate) fn wire_of<'c>(
+// What a call agent stands on, over what a story has of sockets and a clock.
+fn wire_of<'c>(
     alloc: Global,
     settings: WireSettings,
     story: &mut Story,
@@ -184,24 +202,12 @@ impl Program for CallAgent {
         given: &mut Transcript,
     ) -> Result<bool, OutOfMemory> {
         let alloc = rt.alloc();
-        if asks_for_help(story.words.as_slice()) {
-            return put_help(alloc, story, given);
+        let line = Ok(line_in(alloc, story.words.as_slice())?);
+        let mut unread = unread_outlet(alloc)?;
+        match asked_by(alloc, &line, &mut unread) {
+            Ok(settings) => play_asked(alloc, &settings, story, given),
+            Err(said) => put_said(said, story, given),
         }
-        if let Some(line) = load_line(alloc, story.words.as_slice())? {
-            return play_load(alloc, line.as_slice(), story, given);
-        }
-        if asks_for_list(story.words.as_slice()) {
-            return put_list(alloc, story, given);
-        }
-        let line = line_of(alloc, "rgca", "agent.toml", story.words.as_slice())?;
-        let settings = match settings_by(alloc, line.as_slice()) {
-            Ok(settings) => settings,
-            Err(fault) => {
-                let said = word_ending(fault).said(alloc, Named::nothing());
-                return put_said(said, story, given);
-            }
-        };
-        play_asked(alloc, &settings, story, given)
     }
 }
 

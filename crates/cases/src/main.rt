@@ -3,20 +3,14 @@
 //! - `scripts`: scripts of the program, with what is printed beside what causes it.
 //! - `program`: a row a call of the program: its name, its values, and what it answers.
 //! - `live`, `desk`: what comes to `rgwd`, and to `rgca`, that runs in memory, and what it gives.
-//! - `phones`: scripts of telephones, what gateways' telephones say, and how the play ends.
 //! - `streams`: an input whose streams give and take little at a time, and fail.
 //!
 //! What is told otherwise than it happens is printed under its title. `docs/SCENARIOS.md` says how scenarios are written.
 #![tactic(auto)]
 
-mod asked;
 mod calls;
-mod checks;
 mod desk;
 mod live;
-mod loads;
-mod phone_words;
-mod phones;
 mod played;
 mod scripts;
 mod stories;
@@ -26,7 +20,6 @@ mod unlike;
 use crate::calls::Calls;
 use crate::desk::CallAgent;
 use crate::live::Live;
-use crate::phones::Phones;
 use crate::scripts::Scripts;
 use crate::streams::StreamScenario;
 use rows::Rows;
@@ -45,7 +38,6 @@ impl Kinds for All {
             "program" => told::<Calls>(rt.alloc(), text, report),
             "desk" => told_titled(rt, &mut CallAgent, text, report),
             "live" => told_titled(rt, &mut Live, text, report),
-            "phones" => told_titled(rt, &mut Phones, text, report),
             "streams" => told::<StreamScenario>(rt.alloc(), text, report),
             _ => return Rows::told(rt, kind, text, report) || Ends::told(rt, kind, text, report),
         }

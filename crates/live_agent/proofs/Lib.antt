@@ -6,6 +6,4 @@ pub mod SettlingLemmas
 pub mod TickingLemmas
 pub mod ServingLemmas
 pub mod DatagramLemmas
-pub mod TelephoneLemmas
 pub mod TypedCommandLemmas
-pub mod OpeningLemmas

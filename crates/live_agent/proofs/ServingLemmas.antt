@@ -1,8 +1,7 @@
 -- Turns, one behind another.
-use Rattle.std.proofs.Common.{◌≡◌, inl, ℕ, ◌+◌, suc, Bool, true, false, Result, Ok, Err, refl, sym, ap, subst, ◌∙◌, arith}
-use Rattle.std.specs.Prelude.{⊤, is_err, not, List, Option}
+use Rattle.std.proofs.Common.{◌≡◌, inl, ℕ, ◌+◌, suc, Bool, true, false, Result, Ok, refl, sym, ap, subst, ◌∙◌, arith}
+use Rattle.std.specs.Prelude.{⊤, not, List, Option}
 use Rattle.agent_texts.specs.declared.journal.Journal.{Journal}
-use Rattle.live_ends.specs.declared.ending.CommonEnding.TheVariants.{Served, Clock}
 use Rattle.surroundings.specs.Sending.{Traffic}
 use Rattle.surroundings.specs.declared.surroundings.Fault.{Fault}
 use Rattle.surroundings.specs.declared.surroundings.Told.{Told}
@@ -11,7 +10,7 @@ use Rattle.switchboard.specs.declared.switchboard.Switchboard.{Switchboard}
 use Rattle.turns.specs.Schedule.{opening}
 use Rattle.turns.specs.declared.schedule.Schedule.{Schedule}
 use Rattle.live_agent.specs.declared.wire.Wire.{Wire}
-use Rattle.live_agent.specs.Serving.{served_ending, Runs, RunsTurns, Serves, Writes}
+use Rattle.live_agent.specs.Serving.{Runs, RunsTurns, Serves, Writes}
 use Rattle.live_agent.specs.Turning.{Waits, WaitsUntil}
 use Rattle.live_agent.specs.Wiring.{due_of, longest_until, FallsDueFirst}
 
@@ -38,7 +37,7 @@ module _ {S W : Type 0} (writes : W → Journal → ℕ → W → Journal → Ty
 
 -- it waited so long that it is until a moment, and no longer than to what falls due
 pub waited_until : {S : Type 0} (traffic : S → Traffic) (sleeps : S → ℕ → Result ⊤ Fault → S → Type 0) (until moment longest : ℕ) (due : Option ℕ)
-    (gateways : List Gateway) (was is : Wire S) → FallsDueFirst moment gateways was.load (due_of was.network) due
+    (gateways : List Gateway) (was is : Wire S) → FallsDueFirst gateways (due_of was.network) due
     → longest ≡ longest_until until due moment → Waits traffic sleeps longest was is → WaitsUntil traffic sleeps until moment gateways was is
 waited_until traffic sleeps until moment longest due gateways was is falls long waits =
     (due, falls, subst (λ (n : ℕ). Waits traffic sleeps n was is) long waits)
@@ -64,13 +63,3 @@ pub serves_so : {S : Type 0} (passes : S → Result ℕ Fault → Type 0) (tells
     → Runs passes tells turns result board was opened now is → Serves passes tells turns result board was now is
 serves_so passes tells turns start result board now was is opened tells_start opened_is runs =
     inl (start, tells_start, subst (λ (schedule : Schedule). Runs passes tells turns result board was schedule now is) opened_is runs)
-
--- how an exchange ends whose clock failed, and one that served
-
-pub ended_failed : (served : Result ⊤ Fault) → is_err served ≡ true → Clock ≡ served_ending served
-ended_failed (Ok done) failed = absurd cc
-ended_failed (Err fault) failed = refl
-
-pub ended_well : (served : Result ⊤ Fault) → is_err served ≡ false → Served ≡ served_ending served
-ended_well (Ok done) well = refl
-ended_well (Err fault) well = absurd cc

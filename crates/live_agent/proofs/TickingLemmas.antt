@@ -12,7 +12,6 @@ use Rattle.live_agent.specs.declared.wire.Wire.{Wire}
 use Rattle.live_agent.specs.Clock.{is_behind}
 use Rattle.live_agent.specs.Sending.{SendsOver, SettlesLines}
 use Rattle.live_agent.specs.Ticking.{GivesUpAll, GivesUpEach, GivesUpLast, GivesUpMany, GivesUpNext, GivesUpOne, TicksAll, TicksEach, TicksOne, WakesAll, WakesEach, WakesMany, WakesNext}
-use Rattle.live_agent.specs.Telephones.{PassesLoad}
 use Rattle.live_agent.specs.Turning.{DoesTick, TickedOver}
 use Rattle.live_agent.proofs.SendingLemmas.{outputs_over, over_journal, over_none, passed_ends, passed_none, passed_rest, sent_more, ticked_over, ticks_over}
 use Rattle.live_agent.proofs.TypingLemmas.{by_gateways, gives_up, same_lines, settled_more}
@@ -176,20 +175,12 @@ module _ {S : Type 0} (sends : S → SocketAddrV4 → List ℕ → Result ⊤ Fa
       let said : SendsOver (record was { now = record was.now { clock = to } }) ticks.said
       = clocks_over to (length board.gateways.items) board ticks.ticked (record was { now = record was.now { clock = to } }) ticks.said ticks.ticks in
       let told : SendsOver (record ticks.said { is_behind = is_behind moment to }) is = tick_told moment to board now was is ticks in
-      (told.load ∙ said.load, ticked_over was ticks.said is to (is_behind moment to) said told)
+      ticked_over was ticks.said is to (is_behind moment to) said told
 
-  -- then what is due of a load was done
-  pub did_tick : (answers : S → SocketAddr → List ℕ → S → Type 0) (moment to : ℕ) (board now : Switchboard) (was ticked is : Wire S)
-      → TicksAll sends moment to board was now ticked → PassesLoad answers moment ticked.load ticked is
-      → is.journal.value ≡ record ticked.journal.value { log = is.journal.value.log } → DoesTick sends answers moment to board now was is
-  did_tick answers moment to board now was ticked is ticks passes logs = record {
-    ticked = ticked;
+  pub did_tick : (moment to : ℕ) (board now : Switchboard) (was is : Wire S) → TicksAll sends moment to board was now is
+      → DoesTick sends moment to board now was is
+  did_tick moment to board now was is ticks = record {
     ticks = ticks;
-    passes = passes;
-    logs = logs;
-    lines = tick_lines moment to board now was ticked ticks;
-    over = ticks_over was ticked is moment to (tick_over moment to board now was ticked ticks)
-        (passed_rest answers moment ticked.load ticked is passes)
-        (passed_none answers moment ticked.load ticked is passes)
-        (passed_ends answers moment ticked.load ticked is passes);
+    lines = tick_lines moment to board now was is ticks;
+    over = tick_over moment to board now was is ticks;
   }

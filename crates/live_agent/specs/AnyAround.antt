@@ -1,10 +1,8 @@
 -- Surroundings of which a worked example asks nothing: of each a number.
 use Rattle.std.specs.Prelude.{◌≡◌, ◌⊎◌, ◌+◌, ⊤, ℕ, codes, List, [], Option, Result, Ok}
 use Rattle.std.specs.declared.net.socket_addr.SocketAddr.{SocketAddr}
-use Rattle.std.specs.declared.net.socket_addr.SocketAddr.TheVariants.{V4}
 use Rattle.std.specs.declared.net.socket_addr.SocketAddrV4.{SocketAddrV4}
 use Rattle.agent_texts.specs.declared.journal.Journal.{Journal}
-use Rattle.load_bench.specs.declared.bench.Bench.{Bench}
 use Rattle.surroundings.specs.Sending.{untold, Traffic}
 use Rattle.surroundings.specs.declared.surroundings.Fault.{Fault}
 use Rattle.live_outlets.specs.declared.written.Written.{Written}
@@ -18,13 +16,6 @@ no_traffic around = untold
 
 abbrev pub no_sockets : ℕ → List SocketAddrV4
 no_sockets around = []
-
--- whose clock tells any moment; tells this one
-abbrev pub passes_any : ℕ → Result ℕ Fault → Type 0
-passes_any around outcome = ⊤
-
-abbrev pub passes_at : ℕ → ℕ → Result ℕ Fault → Type 0
-passes_at moment around outcome = outcome ≡ Ok moment
 
 abbrev pub sends_any : ℕ → SocketAddrV4 → List ℕ → Result ⊤ Fault → ℕ → Type 0
 sends_any around to bytes outcome after = ⊤
@@ -45,20 +36,6 @@ hears_any around found room after = ⊤
 abbrev pub answers_any : ℕ → SocketAddr → List ℕ → ℕ → Type 0
 answers_any around sender text after = ⊤
 
--- that are never answered; each of whose answers is counted; that are asked to watch, and then to show; that are asked to watch, here
-abbrev pub answers_never : ℕ → SocketAddr → List ℕ → ℕ → Type 0
-answers_never around sender text after = ⊥
-
-abbrev pub answers_more : ℕ → SocketAddr → List ℕ → ℕ → Type 0
-answers_more around sender text after = after ≡ around + 1
-
-abbrev pub asks_in_order : ℕ → SocketAddr → List ℕ → ℕ → Type 0
-asks_in_order around sender text after =
-    ((around ≡ 0) × (text ≡ codes "watch 60\n") × (after ≡ 1)) ⊎ ((around ≡ 1) × (text ≡ codes "show *\n") × (after ≡ 2))
-
-abbrev pub asks_at : SocketAddrV4 → ℕ → SocketAddr → List ℕ → ℕ → Type 0
-asks_at to around sender text after = (sender ≡ V4 to) × (text ≡ codes "watch 60\n")
-
 -- who writes what was recorded, and of whom nothing is asked; who leaves it as it was
 abbrev pub writes_any : ℕ → Journal → ℕ → ℕ → Journal → Type 0
 writes_any before journal time after left = ⊤
@@ -71,10 +48,6 @@ abbrev pub DoesNextAnywhere : Switchboard → Switchboard → Wire ℕ → Wire 
 DoesNextAnywhere board now was is schedule next =
     DoesNext no_traffic no_sockets sends_any (λ around clock. ⊤) (λ around time. time ≡ 7) (λ around told. ⊤) sleeps_long receives_any hears_any
     answers_any board now was is schedule next
-
--- a bench of which nothing is asked
-abbrev pub becomes_any : Bench → Bench → Type 0
-becomes_any was is = ⊤
 
 -- who serves, and who ends, of whom nothing is asked; who never serves
 abbrev pub serves_any : Result ⊤ Fault → Switchboard → Wire ℕ → Switchboard → Wire ℕ → Type 0

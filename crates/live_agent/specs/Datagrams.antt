@@ -15,8 +15,6 @@ use Rattle.surroundings.specs.declared.surroundings.Fault.{Fault}
 use Rattle.transmission.specs.declared.output.OutDatagram.{OutDatagram}
 use Rattle.transmission.specs.Texts.{texts_of}
 use Rattle.switchboard.specs.declared.switchboard.Switchboard.{Switchboard}
-use Rattle.load_bench.specs.Telephones.{CountsCame}
-use Rattle.live_agent.specs.Clock.{milliseconds}
 use Rattle.live_agent.specs.declared.session.TheConstants.{ROOM}
 use Rattle.live_agent.specs.declared.wire.Wire.{Wire}
 use Rattle.switchboard.specs.Boards.{is_at, taking_in}
@@ -27,7 +25,6 @@ use Rattle.live_agent.specs.Settling.{SettlesAll}
 use Rattle.switchboard.specs.Steps.{AtPlace, OthersStay, Refuses, WaitsIn}
 use Rattle.switchboard.specs.Taking.{taken_place, TakesOf}
 use Rattle.switchboard.specs.Tallying.{counted_if}
-use Rattle.live_agent.specs.Telephones.{CountsFor}
 use Rattle.live_agent.specs.Tallying.{looked_counted, OnlyCounts, OnlyNotes, OnlyRecords, OnlyTells}
 use Rattle.call_office.specs.Waiting.{Settles}
 use Rattle.live_agent.specs.Wiring.{heard_at, read_at}
@@ -153,9 +150,7 @@ pub record HearsDatagram {S : Type 0} (sends : S → SocketAddrV4 → List ℕ �
   pub came : Wire S
   pub counts : came.journal.value.tally ≡ with_received was.journal.value.tally
   pub records : OnlyRecords was.journal.value came.journal.value
-  pub leaves : came ≡ record was { journal = came.journal; load = came.load }
-  pub load : is_some came.load ≡ is_some was.load
-  pub counts_for : CountsFor (CountsCame source bytes (milliseconds was.now.time)) was.load came.load
+  pub leaves : came ≡ record was { journal = came.journal }
   pub hears : HearsBy sends (position (is_at source) board.gateways.items) source bytes board came now is
 
 -- Where it came from

@@ -1,6 +1,5 @@
 pub mod Clock
 pub mod Wiring
-pub mod Telephones
 pub mod Turning
 pub mod AnyAround
 pub mod Ending

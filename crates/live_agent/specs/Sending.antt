@@ -1,6 +1,6 @@
 -- What goes over a wire where lines are settled, and where an agent says something: datagrams that are sent one behind another, of which
 -- each counts once.
-use Rattle.std.specs.Prelude.{◌≡◌, ⊤, ℕ, Bool, true, false, is_some, List, [], ◌∷◌, Option, Some, None, Result, Ok, Err}
+use Rattle.std.specs.Prelude.{◌≡◌, ⊤, ℕ, Bool, true, false, List, [], ◌∷◌, Option, Some, None, Result, Ok, Err}
 use Rattle.std.specs.declared.net.socket_addr.SocketAddrV4.{SocketAddrV4}
 use Rattle.agent_texts.specs.Counts.{with_handed_out}
 use Rattle.bad_network.specs.declared.network.BadNetwork.{BadNetwork}
@@ -9,22 +9,18 @@ use Rattle.gateway_rules.specs.declared.refusal.Refusal.{Refusal}
 use Rattle.surroundings.specs.declared.surroundings.Fault.{Fault}
 use Rattle.transmission.specs.declared.output.OutDatagram.{OutDatagram}
 use Rattle.switchboard.specs.declared.switchboard.Switchboard.{Switchboard}
-use Rattle.load_bench.specs.Telephones.{CountsSent as CountsForLoad}
-use Rattle.live_agent.specs.Clock.{milliseconds}
 use Rattle.live_agent.specs.declared.wire.Wire.{Wire}
 use Rattle.live_agent.specs.Handing.{Leaves, OffersTo}
-use Rattle.live_agent.specs.Telephones.{CountsFor}
 use Rattle.live_agent.specs.Tallying.{with_command, with_refusal, CountsSent, OnlyCounts, OnlyNotes, OnlyRecords}
 
 -- Lines to which something has happened are settled: of a board that changes the gateways and the exchange alone. So does a tick.
 abbrev pub SettlesLines : Switchboard → Switchboard → Type 0
 SettlesLines was is = is ≡ record was { gateways = is.gateways; office = is.office }
 
--- What is around it may have changed, the network that spoils what goes over it, its journal, and what a load counts. Nothing else of it
--- has: neither what was typed, nor how many were read, nor its clock and its end, nor whether a load is made.
-pub record SendsOver {S : Type 0} (was is : Wire S) : Type 0 where
-  pub rest : is ≡ record was { around = is.around; network = is.network; journal = is.journal; load = is.load }
-  pub load : is_some is.load ≡ is_some was.load
+-- What is around it may have changed, the network that spoils what goes over it, and its journal. Nothing else of it has: neither what was
+-- typed, nor how many were read, nor its clock and its end.
+abbrev pub SendsOver : {S : Type 0} → Wire S → Wire S → Type 0
+SendsOver was is = is ≡ record was { around = is.around; network = is.network; journal = is.journal }
 
 -- where no network spoils it a datagram is put onto the machine's; else it is offered to that, and what becomes of it is noted in the log
 abbrev pub GoesOut : {S : Type 0} → (S → SocketAddrV4 → List ℕ → Result ⊤ Fault → S → Type 0) → SocketAddrV4 → List ℕ → Option BadNetwork
@@ -34,8 +30,7 @@ GoesOut sends to bytes (Some network) was is =
     OffersTo Out to bytes was.now.clock (Some network) is.network was.journal.value.tally is.journal.value.tally
     × OnlyNotes was.journal.value is.journal.value × (is ≡ record was { network = is.network; journal = is.journal })
 
--- a datagram is sent to there, again or for the first time: it counts once, at a load too, is recorded in the log and the capture, and goes
--- out
+-- a datagram is sent to there, again or for the first time: it counts once, is recorded in the log and the capture, and goes out
 pub record SendsOne {S : Type 0} (sends : S → SocketAddrV4 → List ℕ → Result ⊤ Fault → S → Type 0) (is_repeat : Bool) (to : SocketAddrV4)
     (bytes : List ℕ)
     (was is : Wire S)
@@ -45,8 +40,7 @@ pub record SendsOne {S : Type 0} (sends : S → SocketAddrV4 → List ℕ → Re
   pub noted : Wire S
   pub notes : noted.journal.value.tally ≡ with_handed_out is_repeat was.journal.value.tally
   pub records : OnlyRecords was.journal.value noted.journal.value
-  pub load : CountsFor (CountsForLoad to bytes is_repeat (milliseconds was.now.time)) was.load noted.load
-  pub rest : noted ≡ record was { journal = noted.journal; load = noted.load }
+  pub rest : noted ≡ record was { journal = noted.journal }
   pub goes : GoesOut sends to bytes was.network noted is
 
 -- so are these, one behind another

@@ -1,14 +1,12 @@
 -- How a call agent serves: one turn behind another, until the end comes.
-use Rattle.std.specs.Prelude.{◌≡◌, ◌⊎◌, ⊤, ℕ, zero, suc, ◌-◌, ◌^◌, Bool, true, false, is_err, is_some, List, Option, None, Some, Result, Ok, Err}
+use Rattle.std.specs.Prelude.{◌≡◌, ◌⊎◌, ⊤, ℕ, zero, suc, ◌-◌, ◌^◌, Bool, true, false, is_err, List, Option, Result, Ok, Err}
 use Rattle.std.specs.declared.net.socket_addr.SocketAddr.{SocketAddr}
 use Rattle.std.specs.declared.net.socket_addr.SocketAddrV4.{SocketAddrV4}
 use Rattle.agent_config.specs.declared.config.AgentConfig.{AgentConfig}
 use Rattle.agent_texts.specs.declared.journal.Journal.{Journal}
 use Rattle.live_ends.specs.declared.ending.CommonEnding.{CommonEnding}
-use Rattle.live_ends.specs.declared.ending.CommonEnding.TheVariants.{Served, Help, Version, Usage, Told as AlreadyTold, BadAddress, BadNetwork, Unreadable, Unwritable, Unbound, Clock, Write, OutOfMemory}
+use Rattle.live_ends.specs.declared.ending.CommonEnding.TheVariants.{OutOfMemory}
 use Rattle.live_outlets.specs.declared.written.Written.{Written}
-use Rattle.load_bench.specs.declared.settings.LoadFault.TheVariants as faults
-use Rattle.load_bench.specs.declared.settings.LoadSettings.{LoadSettings}
 use Rattle.surroundings.specs.Sending.{Traffic}
 use Rattle.surroundings.specs.declared.surroundings.Fault.{Fault}
 use Rattle.surroundings.specs.declared.surroundings.Told.{Told}
@@ -16,12 +14,9 @@ use Rattle.switchboard.specs.declared.switchboard.Switchboard.{Switchboard}
 use Rattle.switchboard.specs.Opening.{BoardOf}
 use Rattle.turns.specs.Schedule.{opening}
 use Rattle.turns.specs.declared.schedule.Schedule.{Schedule}
-use Rattle.live_agent.specs.declared.loading.LoadEnding.{LoadEnding}
-use Rattle.live_agent.specs.declared.loading.LoadEnding.TheVariants.{Common, Unmade}
 use Rattle.live_agent.specs.declared.wire.Wire.{Wire}
 use Rattle.live_agent.specs.Clock.{milliseconds}
 use Rattle.live_agent.specs.Ending.{WritesAndEnds}
-use Rattle.live_agent.specs.Telephones.{BeginsLoad, EndsLoad}
 use Rattle.live_agent.specs.Turning.{DoesNext}
 use Rattle.live_agent.specs.Wiring.{AsksNext}
 
@@ -109,68 +104,3 @@ ServesOver config is_routed serves writes ends was is recorder ending =
     ((ending ≡ OutOfMemory) × (is ≡ was))
     ⊎ ((board : Switchboard) × BoardOf config is_routed (milliseconds was.now.time) board
     × ServesToEnd serves writes ends board was is recorder ending)
-
--- how a load's exchange ends that served, or whose clock failed
-abbrev pub served_ending : Result ⊤ Fault → CommonEnding
-served_ending (Ok done) = Served
-served_ending (Err fault) = Clock
-
--- so it serves while a load is made, by such a desk
-abbrev pub ServesLoad :
-    {S : Type 0} → AgentConfig → Bool → (Result ⊤ Fault → Switchboard → Wire S → Switchboard → Wire S → Type 0)
-    → Wire S → Wire S → CommonEnding → Type 0
-ServesLoad config is_routed serves was is ending =
-    ((ending ≡ OutOfMemory) × (is ≡ was))
-    ⊎ ((board now : Switchboard) × (served : Result ⊤ Fault) × BoardOf config is_routed (milliseconds was.now.time) board
-    × serves served board was now is × (ending ≡ served_ending served))
-
--- it served to its end
-abbrev pub has_served : CommonEnding → Bool
-has_served Served = true
-has_served Help = false
-has_served Version = false
-has_served Usage = false
-has_served AlreadyTold = false
-has_served (BadAddress word) = false
-has_served (BadNetwork fault) = false
-has_served (Unreadable kind) = false
-has_served (Unwritable kind) = false
-has_served (Unbound word address kind) = false
-has_served Clock = false
-has_served Write = false
-has_served OutOfMemory = false
-
--- A load is over: its report is told, and it ends as its bench says. Where there is none, none was made. What was recorded is written once.
-pub record EndsReported {S W : Type 0} (answers : S → SocketAddr → List ℕ → S → Type 0) (writes : W → Journal → ℕ → W → Journal → Type 0)
-    (was : Wire S) (ending : LoadEnding) (is : Wire S)
-    : Type 0 where
-  pub reported : Wire S
-  pub ends : is_some was.load ≡ true → EndsLoad answers was ending reported
-  pub none : is_some was.load ≡ false → (ending ≡ Unmade faults.OutOfMemory) × (reported ≡ was)
-  pub written : Writes writes reported is
-
--- so it ends where the exchange served; else as that did
-abbrev pub EndsServed :
-    {S W : Type 0} → (S → SocketAddr → List ℕ → S → Type 0) → (W → Journal → ℕ → W → Journal → Type 0) → Bool → CommonEnding
-    → Wire S → LoadEnding → Wire S → Type 0
-EndsServed answers writes true came was ending is = EndsReported answers writes was ending is
-EndsServed answers writes false came was ending is = (ending ≡ Common came) × (is ≡ was)
-
--- a load that has begun is served, and ends
-abbrev pub ServesBegun :
-    {S W : Type 0} → (S → SocketAddr → List ℕ → S → Type 0) → (Result ⊤ Fault → Switchboard → Wire S → Switchboard → Wire S → Type 0)
-    → (W → Journal → ℕ → W → Journal → Type 0) → AgentConfig → Bool → Wire S → LoadEnding → Wire S → Type 0
-ServesBegun {S} answers serves writes config is_routed was ending is =
-    (served : Wire S) × (came : CommonEnding) × ServesLoad config is_routed serves was served came
-    × EndsServed answers writes (has_served came) came served ending is
-
--- A load is made: it begins, it is served, and it ends. Or it ends at once as it begins, or memory is refused before that.
-abbrev pub LoadsOver :
-    {S W : Type 0} → (S → SocketAddr → List ℕ → S → Type 0) → (S → Result ℕ Fault → Type 0)
-    → (Result ⊤ Fault → Switchboard → Wire S → Switchboard → Wire S → Type 0)
-    → (W → Journal → ℕ → W → Journal → Type 0) → AgentConfig → LoadSettings → Wire S → LoadEnding → Wire S → Type 0
-LoadsOver {S} answers passes serves writes config settings was ending is =
-    ((ending ≡ Common OutOfMemory) × (is ≡ was))
-    ⊎ (((early : CommonEnding) × BeginsLoad answers passes config settings (Some early) was is × (ending ≡ Common early))
-    ⊎ ((begun : Wire S) × BeginsLoad answers passes config settings None was begun
-    × ServesBegun answers serves writes config settings.is_routed begun ending is))

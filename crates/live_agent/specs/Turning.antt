@@ -1,6 +1,5 @@
 -- What a turn does at a board and over a wire: of what is typed, and of a datagram; of the other turns what stays as it was.
-use Rattle.std.specs.Prelude.{◌≡◌, ◌⊎◌, ◌↔◌, ⊤, ℕ, Bool, false, if◌then◌else◌, codes, List, [], ◌∷◌, Option, Some, None, is_some, Result, IsTrue, IsSomeAnd}
-use Rattle.std.specs.Global.{Box}
+use Rattle.std.specs.Prelude.{◌≡◌, ◌⊎◌, ◌↔◌, ⊤, ℕ, Bool, false, if◌then◌else◌, codes, List, [], ◌∷◌, Option, Some, Result, IsTrue, IsSomeAnd}
 use Rattle.std.specs.Net.Addr.{IsLoopbackV4, IsLoopbackV6, MatchIp}
 use Rattle.std.specs.Net.Socket.{socket_ip}
 use Rattle.std.specs.Str.{bytes_eq}
@@ -25,7 +24,6 @@ use Rattle.agent_texts.specs.Telling.{Tells}
 use Rattle.agent_texts.specs.declared.journal.Journal.{Journal}
 use Rattle.exchange_log.specs.Pausing.{pause_line}
 use Rattle.live_ends.specs.Waiting.{longest_wait}
-use Rattle.live_agent.specs.declared.loading.Load.{Load}
 use Rattle.live_agent.specs.declared.session.Request.{Request}
 use Rattle.live_agent.specs.declared.session.Request.TheVariants.{Nothing, Counts, Stop, StopFromAfar, Command}
 use Rattle.switchboard.specs.declared.gateway.Gateway.{Gateway}
@@ -37,7 +35,6 @@ use Rattle.live_agent.specs.Datagrams.{TakesDatagram}
 use Rattle.live_agent.specs.Sending.{SettlesLines}
 use Rattle.live_agent.specs.Settling.{SettlesAll}
 use Rattle.live_agent.specs.Tallying.{waited_counted}
-use Rattle.live_agent.specs.Telephones.{HearsTelephones, PassesLoad}
 use Rattle.live_agent.specs.Ticking.{TicksAll}
 use Rattle.live_agent.specs.TypedCommands.{DoesCommand}
 use Rattle.live_agent.specs.Wiring.{due_of, longest_until, with_read, FallsDueFirst, IsSituation}
@@ -106,13 +103,12 @@ HearsTyped sockets hears was is =
     (taken : Bool) × Hears sockets hears was.around was.lines taken is.around is.lines × (is.read ≡ with_read taken was.read)
     × (is ≡ record was { around = is.around; lines = is.lines; read = is.read })
 
--- where a load is made, its telephones are heard, and the board stays as it was; else the line that is answered next is answered
+-- then the line that is answered next is answered
 abbrev pub TakesTyped :
     {S : Type 0} → (S → List SocketAddrV4) → (S → SocketAddrV4 → List ℕ → Result ⊤ Fault → S → Type 0)
     → (S → Option (SocketAddr × ℕ) → List ℕ → S → Type 0)
-    → (S → SocketAddr → List ℕ → S → Type 0) → ℕ → Option (Box Load) → Switchboard → Switchboard → Wire S → Wire S → Type 0
-TakesTyped sockets sends hears answers moment (Some load) board now was is = (now ≡ board) × HearsTelephones hears answers moment was is
-TakesTyped {S} sockets sends hears answers moment None board now was is =
+    → (S → SocketAddr → List ℕ → S → Type 0) → Switchboard → Switchboard → Wire S → Wire S → Type 0
+TakesTyped {S} sockets sends hears answers board now was is =
     (heard : Wire S) × HearsTyped sockets hears was heard × AnswersFirst sends answers board now heard is
 
 -- It waits for so long at most, but no longer than until what waits to be taken is offered again. That changes what is around a wire, and
@@ -129,7 +125,7 @@ Waits traffic sleeps longest was is =
 abbrev pub WaitsUntil :
     {S : Type 0} → (S → Traffic) → (S → ℕ → Result ⊤ Fault → S → Type 0) → ℕ → ℕ → List Gateway → Wire S → Wire S → Type 0
 WaitsUntil traffic sleeps until moment gateways was is =
-    (due : Option ℕ) × FallsDueFirst moment gateways was.load (due_of was.network) due
+    (due : Option ℕ) × FallsDueFirst gateways (due_of was.network) due
     × Waits traffic sleeps (longest_until until due moment) was is
 
 -- a pause is noted in the log, and nowhere else: how much later the program woke, and how many datagrams were read meanwhile
@@ -139,47 +135,24 @@ Notes pause was is =
     × (is.journal.value ≡ record was.journal.value { log = is.journal.value.log }) × (is ≡ record was { journal = is.journal })
 
 -- Where it is this moment the clock goes on to one, and what falls due is sent; whether it is behind is known by that. What was typed
--- stays, and what was read, and whether a load is made.
+-- stays, and what was read.
 abbrev pub TickedOver : {S : Type 0} → ℕ → ℕ → Wire S → Wire S → Type 0
 TickedOver moment to was is =
-    (is_some is.load ≡ is_some was.load) × (is ≡ record was {
+    is ≡ record was {
       around = is.around;
       network = is.network;
       journal = is.journal;
-      load = is.load;
       now = record was.now { clock = to };
       is_behind = is_behind moment to;
-    })
+    }
 
--- where a load is made and is over the end has come
-abbrev pub EndsBy : Option (Box Load) → Option ℕ → Option ℕ → Type 0
-EndsBy None was is = is ≡ was
-EndsBy (Some load) was is = (is ≡ was) ⊎ (is ≡ Some 0)
-
--- behind a tick
-abbrev pub TicksOver : {S : Type 0} → ℕ → ℕ → Wire S → Wire S → Type 0
-TicksOver moment to was is =
-    EndsBy was.load was.end is.end × (is ≡ record was {
-      around = is.around;
-      network = is.network;
-      journal = is.journal;
-      load = is.load;
-      now = record was.now { clock = to };
-      is_behind = is_behind moment to;
-      end = is.end;
-    })
-
--- all that it does: what the agents' clocks do, what is given up and what was put off; then what is due of a load
-pub record DoesTick {S : Type 0} (sends : S → SocketAddrV4 → List ℕ → Result ⊤ Fault → S → Type 0)
-    (answers : S → SocketAddr → List ℕ → S → Type 0)
-    (moment to : ℕ) (board now : Switchboard) (was is : Wire S)
+-- all that it does: what the agents' clocks do, what is given up and what was put off
+pub record DoesTick {S : Type 0} (sends : S → SocketAddrV4 → List ℕ → Result ⊤ Fault → S → Type 0) (moment to : ℕ)
+    (board now : Switchboard) (was is : Wire S)
     : Type 0 where
-  pub ticked : Wire S
-  pub ticks : TicksAll sends moment to board was now ticked
-  pub passes : PassesLoad answers moment ticked.load ticked is
-  pub logs : is.journal.value ≡ record ticked.journal.value { log = is.journal.value.log }
+  pub ticks : TicksAll sends moment to board was now is
   pub lines : SettlesLines board now
-  pub over : TicksOver moment to was is
+  pub over : TickedOver moment to was is
 
 -- What a turn of a kind does, where it is this moment: a tick, a command that was typed and a datagram alone change the board.
 abbrev pub DoesTurn :
@@ -194,9 +167,9 @@ DoesTurn traffic sockets sleeps sends receives hears answers moment turns.Look b
 DoesTurn traffic sockets sleeps sends receives hears answers moment (turns.Wait until) board now was is =
     (now ≡ board) × WaitsUntil traffic sleeps until moment board.gateways.items was is
 DoesTurn traffic sockets sleeps sends receives hears answers moment (turns.Tick to) board now was is =
-    DoesTick sends answers moment to board now was is
+    DoesTick sends moment to board now was is
 DoesTurn traffic sockets sleeps sends receives hears answers moment turns.Command board now was is =
-    TakesTyped sockets sends hears answers moment was.load board now was is
+    TakesTyped sockets sends hears answers board now was is
 DoesTurn traffic sockets sleeps sends receives hears answers moment turns.Datagram board now was is =
     TakesDatagram sends receives board was now is
 DoesTurn traffic sockets sleeps sends receives hears answers moment turns.Visit board now was is = (now ≡ board) × (is ≡ was)

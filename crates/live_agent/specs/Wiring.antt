@@ -1,11 +1,9 @@
 -- What calls of a wire give and leave.
 use Rattle.std.specs.Prelude.{◌≡◌, ℕ, ◌+◌, ◌-◌, ◌^◌, Bool, true, false, ◌||◌, not, min, max, nat_lt, if◌then◌else◌, List, [], Option, Some, None, Result, Ok, Err}
-use Rattle.std.specs.Global.{Box}
 use Rattle.std.specs.declared.net.socket_addr.SocketAddrV4.{SocketAddrV4}
 use Rattle.bad_network.specs.declared.network.BadNetwork.{BadNetwork}
 use Rattle.bad_network.specs.declared.spoiling.Spoiling.{Spoiling}
 use Rattle.bad_network.specs.Waiting.{first_due}
-use Rattle.load_bench.specs.Due.{bench_due}
 use Rattle.mg_bytes.specs.Lists.{is_empty}
 use Rattle.surroundings.specs.Typing.{left_of}
 use Rattle.surroundings.specs.declared.surroundings.Fault.{Fault}
@@ -18,7 +16,6 @@ use Rattle.turns.specs.declared.schedule.Schedule.{Schedule}
 use Rattle.turns.specs.declared.situation.Situation.{Situation}
 use Rattle.turns.specs.declared.turn.Turn.{Turn}
 use Rattle.switchboard.specs.declared.gateway.Gateway.{Gateway}
-use Rattle.live_agent.specs.declared.loading.Load.{Load}
 use Rattle.switchboard.specs.declared.switchboard.Switchboard.{Switchboard}
 use Rattle.live_agent.specs.declared.wire.Wire.{Wire}
 use Rattle.switchboard.specs.Dues.{FallsDue}
@@ -72,20 +69,14 @@ SpoilsSo (Some spoiling) (Some network) = (network.spoiling ≡ spoiling) × (ne
 
 -- What falls due next
 
--- over a wire, where it is now this moment: when the network hands something out, or something is to be done of a load, where one is made
-abbrev pub FallsDueOver : ℕ → Option (Box Load) → Option ℕ → Option ℕ → Type 0
-FallsDueOver moment None network due = due ≡ network
-FallsDueOver moment (Some load) network due = due ≡ earlier network (Some (bench_due moment load.value.bench))
-
--- so, or at the gateways, whichever is earlier
-abbrev pub FallsDueFirst : ℕ → List Gateway → Option (Box Load) → Option ℕ → Option ℕ → Type 0
-FallsDueFirst moment gateways load network due =
-    (own other : Option ℕ) × FallsDue gateways own × FallsDueOver moment load network other × (due ≡ earlier own other)
+-- at the gateways, or over a wire, when the network hands something out, whichever is earlier
+abbrev pub FallsDueFirst : List Gateway → Option ℕ → Option ℕ → Type 0
+FallsDueFirst gateways network due = (own : Option ℕ) × FallsDue gateways own × (due ≡ earlier own network)
 
 -- where anything is there nothing is waited for, and so nobody is asked
-abbrev pub IsWaitedFor : Bool → ℕ → List Gateway → Option (Box Load) → Option ℕ → Option ℕ → Type 0
-IsWaitedFor true moment gateways load network due = due ≡ None
-IsWaitedFor false moment gateways load network due = FallsDueFirst moment gateways load network due
+abbrev pub IsWaitedFor : Bool → List Gateway → Option ℕ → Option ℕ → Type 0
+IsWaitedFor true gateways network due = due ≡ None
+IsWaitedFor false gateways network due = FallsDueFirst gateways network due
 
 -- so long it is waited at most until a moment, in ms, where it is now another: no longer than to what falls due
 abbrev pub ms_until : ℕ → ℕ → ℕ
@@ -103,7 +94,7 @@ pub record IsSituation {S : Type 0} (passes : S → Result ℕ Fault → Type 0)
   pub told_so : tells wire.around told
   pub read_so : passes wire.around (Ok at.moment)
   pub ticked : at.ticked ≡ wire.now.clock
-  pub due : IsWaitedFor (at.ready.commands || at.ready.datagrams) at.moment board.gateways.items wire.load (due_of wire.network) at.due
+  pub due : IsWaitedFor (at.ready.commands || at.ready.datagrams) board.gateways.items (due_of wire.network) at.due
   pub end : at.end ≡ wire.end
   pub read : at.read ≡ wire.read
   pub ready : at.ready ≡ ready_by told (not (is_empty (left_of wire.lines))) (due_of wire.network) wire.now.clock

@@ -1,9 +1,8 @@
 //! Worked examples of what a desk waits for, of what its turns leave, and of how it ends, as theorems.
 #![tactic(auto)]
 
-ghost use Rattle.std.specs.Prelude.{◌≡◌, ◌⊎◌, ⊤, [], ◌∷◌, ℕ, Bool, true, false, List, Option, Some, None, Ok, Err, codes, is_some, length, map, slice_get, vec_len};
+ghost use Rattle.std.specs.Prelude.{◌≡◌, ◌⊎◌, [], ◌∷◌, ℕ, true, false, List, Option, Some, None, Ok, Err, codes, is_some, length, map, slice_get};
 ghost use Rattle.std.specs.declared.net.socket_addr.SocketAddrV4.{SocketAddrV4};
-ghost use Rattle.std.specs.Global.{Box};
 ghost use Rattle.std.specs.Result.{result_err};
 ghost use Rattle.agent_config.specs.declared.config.AgentConfig.{AgentConfig};
 ghost use Rattle.agent_texts.specs.declared.journal.Journal.{Journal};
@@ -21,14 +20,6 @@ ghost use Rattle.call_agent.specs.Hearing.{AgentEvent};
 ghost use Rattle.call_agent.specs.declared.issuing.Issued.{Issued};
 ghost use Rattle.call_agent.specs.declared.issuing.IssueFault.{IssueFault};
 ghost use Rattle.gateway_rules.specs.declared.refusal.Refusal.{Refusal};
-ghost use Rattle.load_bench.specs.Due.{bench_due};
-ghost use Rattle.load_bench.specs.Over.{bench_over};
-ghost use Rattle.load_bench.specs.declared.bench.Bench.{Bench};
-ghost use Rattle.load_bench.specs.declared.bench.Course.{Course};
-ghost use Rattle.load_bench.specs.declared.said.Order.TheVariants as orders;
-ghost use Rattle.load_bench.specs.declared.said.Said.{Said};
-ghost use Rattle.load_bench.specs.declared.settings.LoadFault.TheVariants as faults;
-ghost use Rattle.load_bench.specs.declared.settings.LoadSettings.{LoadSettings};
 ghost use Rattle.surroundings.specs.Sending.{Traffic};
 ghost use Rattle.surroundings.specs.declared.surroundings.Fault.{Fault};
 ghost use Rattle.transmission.specs.declared.output.OutDatagram.{OutDatagram};
@@ -39,14 +30,12 @@ ghost use Rattle.turns.specs.declared.turn.Pause.{Pause};
 ghost use Rattle.mg_bytes.specs.Lines.{cut, line_of};
 ghost use Rattle.live_outlets.specs.declared.written.Written.{Written};
 ghost use Rattle.switchboard.specs.declared.gateway.Gateway.{Gateway};
-ghost use Rattle.live_agent.specs.declared.loading.Load.{Load};
-ghost use Rattle.live_agent.specs.declared.loading.LoadEnding.TheVariants as loads;
 ghost use Rattle.live_agent.specs.declared.session.Request.TheVariants as requests;
 ghost use Rattle.switchboard.specs.declared.switchboard.Switchboard.{Switchboard};
 ghost use Rattle.live_agent.specs.declared.wire.Wire.{Wire};
 ghost use Rattle.live_agent.specs.AnyAround.{DoesNextAnywhere};
 ghost use Rattle.live_agent.specs.Clock.{is_behind};
-ghost use Rattle.live_agent.specs.AnyAround.{no_sockets, no_traffic, sends_any, sleeps_long, sleeps_so, receives_any, hears_any, answers_any, answers_more, answers_never, asks_at, asks_in_order, becomes_any, ends_any, passes_any, serves_any, serves_never, writes_any, writes_nothing};
+ghost use Rattle.live_agent.specs.AnyAround.{no_sockets, no_traffic, sends_any, sleeps_long, sleeps_so, receives_any, hears_any, answers_any, ends_any, serves_any, serves_never, writes_any, writes_nothing};
 ghost use Rattle.live_agent.specs.Clock.{milliseconds};
 ghost use Rattle.live_agent.specs.Datagrams.{with_stranger, DealsIf, HearsBy, HearsDatagram, HearsOne, HearsPacket, HearsTexts, SettlesIf, StepsAt, TakesEach, TakesElse, TakesFound, TakesLooked, TakesNext, TakesReceived};
 ghost use Rattle.switchboard.specs.Hearing.{HearsText};
@@ -59,16 +48,15 @@ ghost use Rattle.live_agent.specs.declared.wire.TheConstants.{MOST_AT_ONCE};
 ghost use Rattle.live_agent.specs.Ending.{counted_in, EndsWith, WritesAndEnds};
 ghost use Rattle.live_agent.specs.Handing.{comes_in, HandsFirst, HandsLast, Leaves, Offers, OffersTo, SendsEachOn, SendsOn, TakesOffer};
 ghost use Rattle.live_agent.specs.Sending.{GoesOut, SendsAll, SendsCommand, SendsOne, SendsOutputs, SendsOver, SettlesLines};
-ghost use Rattle.live_agent.specs.Serving.{served_ending, RunsTurns, ServesLoad, ServesOver, ServesToEnd, StopsAt, Writes};
+ghost use Rattle.live_agent.specs.Serving.{RunsTurns, ServesOver, ServesToEnd, StopsAt, Writes};
 ghost use Rattle.live_agent.specs.Settling.{SendsEach, SendsIssued, SendsNext, SettlesBy, ShowsEach, ShowsOne};
 ghost use Rattle.live_agent.specs.Tallying.{leaving_counted, with_receive_fault, with_refusal, with_send_fault, OnlyCounts, OnlyNotes, OnlyRecords, OnlyTells, OnlyTellsAndNotes};
-ghost use Rattle.live_agent.specs.Telephones.{course_behind, end_of, ending_in, load_ending, load_over, BeginsLoad, CountsFor, HearsOnce, HearsTelephones, OfLoad, Passes, PassesLoad, Reports, SaysAll, SaysEach, SaysHeard, SaysOne, SaysTo};
 ghost use Rattle.live_agent.specs.Ticking.{GivesUpEach, GivesUpMany, GivesUpNext, TicksEach, TicksOne, WakesEach, WakesMany};
-ghost use Rattle.live_agent.specs.Turning.{line_request, first_request, DoesRequest, DoesTick, DoesTurn, EndsBy, Notes, TakesTyped, TellsCounts, TicksOver, Waits, WaitsUntil};
+ghost use Rattle.live_agent.specs.Turning.{line_request, first_request, DoesRequest, DoesTurn, Notes, TellsCounts, TickedOver, Waits, WaitsUntil};
 ghost use Rattle.switchboard.specs.Typed.{typed_text};
 ghost use Rattle.switchboard.specs.TypedCommands.{IssuesCommand, IssuesMeant, IssuesThere};
 ghost use Rattle.live_agent.specs.TypedCommands.{fault_text, issued_text, TellsIssued, AnswersAll, AnswersIssued, IsTypedNext};
-ghost use Rattle.live_agent.specs.Wiring.{longest_until, one_more, FallsDueFirst, FallsDueOver, IsWaitedFor, SpoilsSo};
+ghost use Rattle.live_agent.specs.Wiring.{longest_until, FallsDueFirst, IsWaitedFor, SpoilsSo};
 
 use live_ends::CommonEnding;
 use switchboard::TypedFault;
@@ -81,24 +69,20 @@ pub fn what_is_waited_for_has_examples()
     ensures spoils { (spoiling : Spoiling) (network : BadNetwork) → SpoilsSo (Some spoiling) (Some network) →
         (network.spoiling ≡ spoiling) × (network.waiting.items ≡ []) }
     ensures spoils_none { (spoiling : Spoiling) → SpoilsSo (Some spoiling) None → ⊥ }
-    // What the network hands out, what is to be done of a load, what falls due at a gateway: the earliest.
-    ensures network { FallsDueFirst 700 [] None (Some 300) (Some 300) }
-    ensures load { (load : Box Load) → bench_due 250 load.value.bench ≡ 280 → FallsDueFirst 250 [] (Some load) (Some 300) (Some 280) }
-    ensures network_first { (load : Box Load) → bench_due 250 load.value.bench ≡ 320 →
-        FallsDueFirst 250 [] (Some load) (Some 300) (Some 300) }
-    ensures load_alone { (load : Box Load) → bench_due 250 load.value.bench ≡ 320 → FallsDueOver 250 (Some load) None (Some 320) }
+    // What the network hands out, and what falls due at a gateway: the earlier.
+    ensures network { FallsDueFirst [] (Some 300) (Some 300) }
     ensures gateway { (gateway : Gateway) → FallsDueAt gateway (Some 100) →
-        FallsDueFirst 700 (gateway ∷ []) None (Some 300) (Some 100) }
-    ensures nothing { FallsDueFirst 700 [] None None None }
+        FallsDueFirst (gateway ∷ []) (Some 300) (Some 100) }
+    ensures nothing { FallsDueFirst [] None None }
     // Nothing where anything is there.
-    ensures there { (gateways : List Gateway) → IsWaitedFor true 700 gateways None (Some 300) None }
-    ensures not_there { IsWaitedFor false 700 [] None (Some 300) (Some 300) }
+    ensures there { (gateways : List Gateway) → IsWaitedFor true gateways (Some 300) None }
+    ensures not_there { IsWaitedFor false [] (Some 300) (Some 300) }
     // A wait is no longer than to what falls due, and a ms at least.
     ensures until { longest_until 1000 None 400 ≡ 600 }
     ensures sooner { longest_until 1000 (Some 500) 400 ≡ 100 }
     ensures later { longest_until 1000 (Some 2000) 400 ≡ 600 }
     ensures least { longest_until 1000 (Some 300) 400 ≡ 1 }
-    // A load counts by ms, of which each is a thousand microseconds.
+    // A desk begins at a time of day in ms, of which each is a thousand microseconds.
     ensures ms { milliseconds 2999 ≡ 2 }
 {}
 
@@ -153,13 +137,6 @@ pub fn what_turns_leave_has_examples()
     ensures ends { (board now : Switchboard) (was is : Wire ℕ) →
         DoesTurn no_traffic no_sockets sleeps_long sends_any receives_any hears_any answers_any 700 Turn.End board now was is
         → (now ≡ board) × (is ≡ was) }
-    ensures load { (load : Box Load) (board now : Switchboard) (was is : Wire ℕ) →
-        TakesTyped no_sockets sends_any hears_any answers_any 700 (Some load) board now was is →
-        (now ≡ board) × HearsTelephones hears_any answers_any 700 was is }
-    ensures telephones { (was is : Wire ℕ) → HearsTelephones hears_any answers_any 700 was is →
-        (is.lines ≡ was.lines) × (is.network ≡ was.network) × (is.journal ≡ was.journal) }
-    ensures over { end_of true None ≡ Some 0 }
-    ensures not_over { end_of false (Some 900) ≡ Some 900 }
     // A wait sends nothing, and one that fails counts once, where others count nothing; a pause is noted in the log alone.
     ensures quiet { (traffic : ℕ → Traffic) (was is : Wire ℕ) → Waits traffic sleeps_long 700 was is
         → traffic is.around ≡ traffic was.around }
@@ -177,10 +154,6 @@ pub fn what_turns_leave_has_examples()
     ensures pauses { (pause : Pause) (was is : Wire ℕ) → Notes pause was is → is.journal.value.tally ≡ was.journal.value.tally }
     ensures paused { (was is : Wire ℕ) → Notes (record { lateness = 31000; read = Some 12 }) was is →
         Tells (pause_line was.now.time 31000 (Some 12)) was.journal.value.log is.journal.value.log }
-    // Where no load is made, nothing comes to its end by a tick; where one is, its end is at once.
-    ensures none_is_over { (is : Option ℕ) → EndsBy None (Some 900) is → is ≡ Some 900 }
-    ensures passes_none { (was is : Wire ℕ) → PassesLoad answers_any 700 None was is → is ≡ was }
-    ensures passes { (load : Box Load) (was is : Wire ℕ) → PassesLoad answers_any 700 (Some load) was is → is.lines ≡ was.lines }
     ensures settles { (board now : Switchboard) → SettlesLines board now →
         (now.stations ≡ board.stations) × (now.notifying ≡ board.notifying) }
 {}
@@ -238,10 +211,10 @@ pub fn what_a_datagram_does_has_examples()
     // Nothing of what was typed is lost by what is sent, nor of what was read, and the end hasn't come by it.
     ensures sends { (was is : Wire ℕ) → SendsOver was is → (is.lines ≡ was.lines) × (is.read ≡ was.read) × (is.end ≡ was.end) }
     ensures sends_none { (was is : Wire ℕ) → SendsAll sends_any false [] was is → is ≡ was }
-    ensures ticks { (was is : Wire ℕ) → TicksOver 900 700 was is → (is.lines ≡ was.lines) × (is.read ≡ was.read) }
-    ensures clock { (was is : Wire ℕ) → TicksOver 900 700 was is → is.now.clock ≡ 700 }
-    ensures behind { (was is : Wire ℕ) → TicksOver 900 700 was is → is.is_behind ≡ true }
-    ensures not_behind { (was is : Wire ℕ) → TicksOver 800 700 was is → is.is_behind ≡ false }
+    ensures ticks { (was is : Wire ℕ) → TickedOver 900 700 was is → (is.lines ≡ was.lines) × (is.read ≡ was.read) }
+    ensures clock { (was is : Wire ℕ) → TickedOver 900 700 was is → is.now.clock ≡ 700 }
+    ensures behind { (was is : Wire ℕ) → TickedOver 900 700 was is → is.is_behind ≡ true }
+    ensures not_behind { (was is : Wire ℕ) → TickedOver 800 700 was is → is.is_behind ≡ false }
 {}
 
 /// What a network hands over, and what is offered to it.
@@ -295,60 +268,6 @@ pub fn what_is_recorded_has_examples()
         sends.counted.journal.value.log ≡ was.journal.value.log }
     ensures given_up { (board now : Switchboard) (was is : Wire ℕ) → GivesUpNext true 0 board was now is →
         is.journal.value.capture ≡ was.journal.value.capture }
-{}
-
-/// What a load makes of time, and of what its telephones say.
-pub fn what_telephones_are_told_has_examples()
-    // A line is said to the telephones for which it is; none where memory was refused for it.
-    ensures line { (to : SocketAddrV4) (was is : ℕ) → SaysOne (asks_at to) (record { to = to; order = orders.Watch }) true was is }
-    ensures not_said { (said : Said) (was is : ℕ) → SaysOne answers_any said false was is → is ≡ was }
-    // They are said in their order, each once. Where memory was refused for one the others are said.
-    ensures none { (was is : ℕ) (all : Bool) → SaysEach answers_any [] all was is → (all ≡ true) × (is ≡ was) }
-    ensures two { (to : SocketAddrV4) → SaysEach asks_in_order
-        (record { to = to; order = orders.Watch } ∷ record { to = to; order = orders.Show } ∷ []) true 0 2 }
-    ensures one_alone { (one two : Said) → SaysEach answers_more (one ∷ two ∷ []) false 0 1 }
-    ensures not_all { (said : Said) → SaysEach answers_never (said ∷ []) true 0 0 → ⊥ }
-    // What was said waits no longer, and nothing else changes by that; but where memory was refused the load is given up.
-    ensures waits_no_longer { (before after : ℕ) (was is : Bench) → SaysAll answers_any before was after is → is.said.items ≡ [] }
-    ensures tally { (before after : ℕ) (was is : Bench) → SaysAll answers_any before was after is → is.tally ≡ was.tally }
-    ensures given_up { (course : Course) → course.fault ≡ None → (course_behind false course).fault ≡ Some faults.OutOfMemory }
-    ensures goes_on { (course : Course) → course_behind true course ≡ course }
-    // It is over as its bench says, and then the end has come. Time and telephones unmake no load.
-    ensures over { (load : Box Load) → bench_over 700 load.value.bench ≡ true → end_of (load_over 700 (Some load)) (Some 900)
-        ≡ Some 0 }
-    ensures not_over { (load : Box Load) → bench_over 700 load.value.bench ≡ false → end_of (load_over 700 (Some load)) (Some 900)
-        ≡ Some 900 }
-    ensures none_made { load_over 700 None ≡ false }
-    ensures passes_on { (was is : Wire ℕ) → Passes answers_any 700 was is → is.end ≡ end_of (load_over 700 is.load) was.end }
-    ensures logs { (board now : Switchboard) (was is : Wire ℕ) (ticks : DoesTick sends_any answers_any 900 700 board now was is) →
-        (is.journal.value.tally ≡ ticks.ticked.journal.value.tally) × (is.journal.value.told ≡ ticks.ticked.journal.value.told) }
-    ensures unmade { (load : Box Load) → OfLoad becomes_any (Some load) None → ⊥ }
-    ensures not_there { (load : Box Load) → OfLoad becomes_any None (Some load) → ⊥ }
-    // What is sent and what comes counts for a load that is made, and unmakes none.
-    ensures counts_for_none { (is : Option (Box Load)) → CountsFor becomes_any None is → is ≡ None }
-    ensures counts_for_one { (load : Box Load) → CountsFor becomes_any (Some load) None → ⊥ }
-    // A load begins with its wire's end, and its report changes nothing that was counted.
-    ensures begins { (config : AgentConfig) (settings : LoadSettings) (was is : Wire ℕ) →
-        BeginsLoad answers_any passes_any config settings None was is → is.end ≡ None }
-    ensures begins_none { (config : AgentConfig) (settings : LoadSettings) (ending : CommonEnding) (was is : Wire ℕ) →
-        BeginsLoad answers_any passes_any config settings (Some ending) was is → is.load ≡ was.load }
-    ensures begins_unserved { (config : AgentConfig) (settings : LoadSettings) (was is : Wire ℕ) →
-        BeginsLoad answers_any passes_any config settings (Some CommonEnding.Served) was is → ⊥ }
-    ensures reports { (was is : Bench) → Reports was is → is.tally ≡ was.tally }
-    ensures unmade_for { (bench : Bench) → bench.course.value.fault ≡ Some faults.NoLines →
-        load_ending bench ≡ loads.Unmade faults.NoLines }
-    ensures unmade_at_all { ending_in None ≡ loads.Unmade faults.OutOfMemory }
-    ensures begins_with_room { (before after : ℕ) (asked : Bench) (load : Box Load) → SaysTo answers_any before asked after (Some load) →
-        vec_len load.value.room ≡ 65536 }
-    ensures hears_in_room { (before after : ℕ) (was is : Bench) (hears : HearsOnce hears_any answers_any 700 4001 true before after was is)
-        →
-        length hears.room ≡ 4001 }
-    // Where they said nothing, nothing is said to them; what they say counts as read.
-    ensures nothing { (before after : ℕ) (was is : Bench) → SaysHeard answers_any 700 None [] before after was is →
-        (after ≡ before) × (is ≡ was) }
-    ensures reads { (was is : Wire ℕ) (hears : HearsTelephones hears_any answers_any 700 was is) → hears.taken ≡ true →
-        is.read ≡ one_more was.read }
-    ensures ends { (was is : Wire ℕ) → HearsTelephones hears_any answers_any 700 was is → is.end ≡ end_of (load_over 700 is.load) was.end }
 {}
 
 /// What is sent, and how lines are settled.
@@ -421,9 +340,7 @@ pub fn how_a_desk_serves_has_examples()
     ensures writes { (was is : Wire ℕ) → Writes writes_any was is →
         (is.journal.value.tally ≡ was.journal.value.tally) × (is.lines ≡ was.lines) }
     ensures writes_it { (was is : Wire ℕ) → Writes writes_nothing was is → is.journal.value ≡ was.journal.value }
-    // It ends as it served; without a desk nothing is done.
-    ensures served { served_ending (Ok tt) ≡ CommonEnding.Served }
-    ensures failed { (fault : Fault) → served_ending (Err fault) ≡ CommonEnding.Clock }
+    // Without a desk nothing is done.
     ensures ends { (board : Switchboard) (was is : Wire ℕ) (ending : CommonEnding)
         (serves : ServesToEnd serves_any writes_any ends_any board was is 0 ending) →
         is.lines ≡ serves.done.lines }
@@ -440,9 +357,6 @@ pub fn how_a_desk_serves_has_examples()
     // It begins at the time of day that was told, in microseconds.
     ensures begins { (config : AgentConfig) (was is : Wire ℕ) (ending : CommonEnding) → was.now.time ≡ 525600000999 →
         ServesOver config true serves_any writes_any ends_any was is 0 ending →
-        (ending ≡ CommonEnding.OutOfMemory) ⊎ ((board : Switchboard) × BoardOf config true 525600000 board) }
-    ensures load_begins { (config : AgentConfig) (was is : Wire ℕ) (ending : CommonEnding) → was.now.time ≡ 525600000999 →
-        ServesLoad config true serves_any was is ending →
         (ending ≡ CommonEnding.OutOfMemory) ⊎ ((board : Switchboard) × BoardOf config true 525600000 board) }
     // It stops where the clock fails, and not where it tells a moment.
     ensures fails { (fault : Fault) (board : Switchboard) (wire : Wire ℕ) (schedule : Schedule) →

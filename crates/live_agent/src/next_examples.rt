@@ -1,12 +1,10 @@
 //! Worked examples of what a tick leaves, and of what becomes of a turn, as theorems.
 #![tactic(auto)]
 
-ghost use Rattle.std.specs.Prelude.{◌≡◌, ⊤, ℕ, true, false, Some, None, Ok};
-ghost use Rattle.std.specs.Global.{Box};
+ghost use Rattle.std.specs.Prelude.{◌≡◌, ⊤, ℕ, true, false, Ok};
 ghost use Rattle.switchboard.specs.declared.switchboard.Switchboard.{Switchboard};
 ghost use Rattle.turns.specs.Schedule.{next_of};
 ghost use Rattle.turns.specs.declared.schedule.Schedule.{Schedule};
-ghost use Rattle.live_agent.specs.declared.loading.Load.{Load};
 ghost use Rattle.live_agent.specs.declared.wire.Wire.{Wire};
 ghost use Rattle.live_agent.specs.AnyAround.{answers_any, hears_any, no_sockets, no_traffic, receives_any, sends_any, sleeps_long};
 ghost use Rattle.live_agent.specs.AnyAround.{DoesNextAnywhere};
@@ -20,9 +18,6 @@ pub fn what_a_tick_leaves_has_examples()
     ensures clock { (was is : Wire ℕ) → TickedOver 900 700 was is → is.now.clock ≡ 700 }
     ensures behind { (was is : Wire ℕ) → TickedOver 801 700 was is → is.is_behind ≡ true }
     ensures not_behind { (was is : Wire ℕ) → TickedOver 800 700 was is → is.is_behind ≡ false }
-    // A load that is made is still made, and none is made by it.
-    ensures unmade { (load : Box Load) (was is : Wire ℕ) → TickedOver 900 700 was is → was.load ≡ Some load → is.load ≡ None → ⊥ }
-    ensures not_made { (load : Box Load) (was is : Wire ℕ) → TickedOver 900 700 was is → was.load ≡ None → is.load ≡ Some load → ⊥ }
     // What was typed stays, and what was read, the time of day, and when it ends.
     ensures stays { (was is : Wire ℕ) → TickedOver 900 700 was is →
         (is.lines ≡ was.lines) × (is.read ≡ was.read) × (is.now.time ≡ was.now.time) × (is.end ≡ was.end)
@@ -43,8 +38,7 @@ pub fn what_is_done_next_has_examples()
     ensures begins { (board now : Switchboard) (was is : Wire ℕ) (schedule next : Schedule)
         (does : DoesNextAnywhere board now was is schedule next) →
         (does.begun.around ≡ was.around) × (does.begun.network ≡ was.network) × (does.begun.now.clock ≡ was.now.clock)
-        × (does.begun.read ≡ was.read) × (does.begun.end ≡ was.end) × (does.begun.is_offering ≡ was.is_offering)
-        × (does.begun.load ≡ was.load) }
+        × (does.begun.read ≡ was.read) × (does.begun.end ≡ was.end) × (does.begun.is_offering ≡ was.is_offering) }
     // Then lines are settled, and behind them the turn is had at that moment.
     ensures settles { (board now : Switchboard) (was is : Wire ℕ) (schedule next : Schedule)
         (does : DoesNextAnywhere board now was is schedule next) → SettlesAll sends_any board does.begun does.settled does.sent }

@@ -30,8 +30,8 @@ use std::time::Instant;
 use surroundings::Surroundings;
 use switchboard::Switchboard;
 
-/// Microseconds in a millisecond.
-pub(crate) const MICROSECONDS: u64 = 1000;
+// Microseconds in a millisecond.
+const MICROSECONDS: u64 = 1000;
 
 /// How a wire is opened.
 #[derive(Clone, Copy)]
@@ -70,7 +70,6 @@ pub fn wire_over<S: Surroundings + Drop>(
     ensures end { IfOk result (λ wire. wire.value.end ≡ settings.end) }
     ensures dated { IfOk result (λ wire. S.dates around.value wire.value.now.time) }
     ensures begins { IfOk result (λ wire. (left_of wire.value.lines ≡ []) × (wire.value.now.clock ≡ 0) × (wire.value.read ≡ 0)) }
-    ensures load { IfOk result (λ wire. wire.value.load ≡ None) }
     ensures counts { IfOk result (λ wire. wire.value.journal.value.tally ≡ nothing_counted) }
     ensures spoilt { IfOk result (λ wire. is_some wire.value.network ≡ is_some settings.network) }
     ensures spoils { IfOk result (λ wire. SpoilsSo settings.network wire.value.network) }
@@ -93,8 +92,8 @@ pub fn wire_over<S: Surroundings + Drop>(
     boxed(alloc, wire)
 }
 
-/// The wire over the machine's sockets and clock. An error says how the program ends then.
-pub(crate) fn open_wire<'a, R: Net + Clock>(
+// The wire over the machine's sockets and clock. An error says how the program ends then.
+fn open_wire<'a, R: Net + Clock>(
     rt: &'a R,
     alloc: Global,
     settings: WireSettings,
@@ -119,9 +118,9 @@ pub(crate) fn open_wire<'a, R: Net + Clock>(
     }
 }
 
-/// The desk of a configuration's gateways, as they begin at the time of day that was told, which routes calls between their lines where
-/// that is asked for; or how the program ends where there is none.
-pub(crate) fn board_of<S: Surroundings + Drop>(
+// The desk of a configuration's gateways, as they begin at the time of day that was told, which routes calls between their lines where
+// that is asked for; or how the program ends where there is none.
+fn board_of<S: Surroundings + Drop>(
     alloc: Global,
     config: &AgentConfig,
     is_routed: bool,

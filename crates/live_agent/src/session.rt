@@ -14,7 +14,6 @@ ghost use Rattle.live_agent.specs.TypedCommands.{fault_text, issued_text, DoesCo
 ghost use Rattle.surroundings.specs.Typing.{left_of};
 ghost use Rattle.live_agent.specs.Wiring.{due_of, ms_until, longest_until, IsSituation, IsWaitedFor};
 
-use crate::loading::count_came;
 use crate::recorder::Recorder;
 use crate::wire::{MOST_AT_ONCE, Wire, log_pause};
 use agent_texts::count;
@@ -166,7 +165,6 @@ fn hear<S: Surroundings + Drop>(
     ensures { HearsDatagram (HandsTo S.sends S.traffic) source bytes.now board.old wire.old board.new wire.new }
 {
     wire.journal.came(wire.now.time, source, bytes);
-    count_came(&mut wire.load, wire.now.time, source, bytes);
     let Some(place) = board.place_of(source) else {
         count(&mut wire.journal.tally.strange);
         return;
@@ -320,19 +318,10 @@ fn answer_command<S: Surroundings + Drop>(
     }
 }
 
-// Hears telephones, where a load is made; else does what is typed next, if anything is, and answers that, where it is now this moment.
-fn take_line<S: Surroundings + Drop>(
-    alloc: Global,
-    board: &mut Switchboard,
-    wire: &mut Wire<S>,
-    moment: u64,
-)
-    ensures { TakesTyped S.sockets (HandsTo S.sends S.traffic) S.hears S.answers moment wire.old.load board.old board.new wire.old
-        wire.new }
+// Does what is typed next, if anything is, and answers that.
+fn take_line<S: Surroundings + Drop>(alloc: Global, board: &mut Switchboard, wire: &mut Wire<S>)
+    ensures { TakesTyped S.sockets (HandsTo S.sends S.traffic) S.hears S.answers board.old board.new wire.old wire.new }
 {
-    if wire.hear_telephones(alloc, moment) {
-        return;
-    }
     wire.hear_lines();
     let request = request_in(&wire.lines);
     match request {
@@ -418,21 +407,19 @@ fn is_there(ready: Ready) -> bool
     ready.commands || ready.datagrams
 }
 
-// The moment that is waited for, in ms, where it is now this one: that at which something falls due next, at a gateway or over a wire;
-// nothing where anything is there, and so the agents of all gateways aren't asked.
+// The moment that is waited for, in ms: that at which something falls due next, at a gateway or over a wire; nothing where anything is
+// there, and so the agents of all gateways aren't asked.
 fn waited_for<S: Surroundings + Drop>(
     board: &Switchboard,
     wire: &Wire<S>,
     ready: Ready,
-    moment: u64,
 ) -> Option<u64>
-    ensures { IsWaitedFor (ready.commands || ready.datagrams) moment board.now.gateways.items wire.entry.now.load
-        (due_of wire.entry.now.network) result }
+    ensures { IsWaitedFor (ready.commands || ready.datagrams) board.now.gateways.items (due_of wire.entry.now.network) result }
 {
     if is_there(ready) {
         return None;
     }
-    earlier(board.next_due(), wire.due(moment))
+    earlier(board.next_due(), wire.network_due())
 }
 
 // How things stand. An error is of the clock.
@@ -448,7 +435,7 @@ fn situation<S: Surroundings + Drop>(
         Err(fault) => return Err(fault),
     };
     let ready = wire.ready();
-    let due = waited_for(board, wire, ready, moment);
+    let due = waited_for(board, wire, ready);
     Ok(Situation {
         moment,
         ticked: wire.now.clock,
@@ -499,14 +486,13 @@ fn do_turn<S: Surroundings + Drop>(
             let waking = board.gateways();
             wake_each(board, waking);
             settle(board, wire);
-            wire.pass_load(alloc, moment);
         }
-        Turn::Command => take_line(alloc, board, wire, moment),
+        Turn::Command => take_line(alloc, board, wire),
         Turn::Datagram => take_datagram(board, wire),
         Turn::Look => wire.wait(0),
         Turn::Wait { until } => {
             // No longer than to what falls due of what was issued since it was asked what comes next.
-            let due = earlier(board.next_due(), wire.due(moment));
+            let due = earlier(board.next_due(), wire.network_due());
             wire.wait(longest_until(until, due, moment));
         }
         Turn::Note { pause } => log_pause(alloc, &mut wire.journal.log, wire.now.time, pause),

@@ -4,9 +4,6 @@
 ghost use Rattle.std.specs.Prelude.{◌≡◌, ⊤, [], ◌∷◌, ◌++◌, ℕ, Bool, true, false, List, Option, Some, None, Result, Ok};
 ghost use Rattle.std.specs.Prelude.{codes, is_some, length, not, slice_get, vec_len};
 ghost use Rattle.std.specs.declared.net.socket_addr.SocketAddrV4.{SocketAddrV4};
-ghost use Rattle.std.specs.Global.{Box};
-ghost use Rattle.agent_config.specs.declared.config.AgentConfig.{AgentConfig};
-ghost use Rattle.agent_config.specs.declared.config.GatewayConfig.{GatewayConfig};
 ghost use Rattle.call_office.specs.Waiting.{Settles};
 ghost use Rattle.surroundings.specs.declared.surroundings.Fault.{Fault};
 ghost use Rattle.surroundings.specs.declared.surroundings.Told.{Told};
@@ -17,24 +14,13 @@ ghost use Rattle.turns.specs.Runs.{is_end};
 ghost use Rattle.turns.specs.Schedule.{next_of};
 ghost use Rattle.turns.specs.declared.schedule.Schedule.{Schedule};
 ghost use Rattle.turns.specs.declared.situation.Situation.{Situation};
-ghost use Rattle.live_agent.specs.declared.loading.Load.{Load};
-ghost use Rattle.live_agent.specs.declared.loading.LoadEnding.{LoadEnding};
-ghost use Rattle.live_agent.specs.declared.loading.LoadEnding.TheVariants as loads;
 ghost use Rattle.live_agent.specs.declared.wire.Wire.{Wire};
-ghost use Rattle.live_agent.specs.AnyAround.{sends_any, receives_any, hears_any, answers_any, becomes_any, passes_any, passes_at};
-ghost use Rattle.live_agent.specs.AnyAround.{serves_never, writes_any};
+ghost use Rattle.live_agent.specs.AnyAround.{sends_any, receives_any};
 ghost use Rattle.live_agent.specs.Datagrams.{DealsIf, HearsAt, StepsAt, TakesAll, TakesDatagram, TakesEach, TakesElse, TakesOver};
 ghost use Rattle.live_agent.specs.Sending.{SendsOutputs};
-ghost use Rattle.live_agent.specs.Serving.{has_served, LoadsOver};
 ghost use Rattle.live_agent.specs.Settling.{SendsEach, SettlesAll, SettlesNow, ShowsEach};
-ghost use Rattle.live_agent.specs.Telephones.{ending_in, lines_at, lines_of, BeginsLoad, CountsFor, EndsLoad, HearsIn, OfLoad};
-ghost use Rattle.load_bench.specs.Opening.{fresh_line, BeginsWith};
-ghost use Rattle.load_bench.specs.declared.bench.Bench.{Bench};
-ghost use Rattle.load_bench.specs.declared.settings.LoadSettings.{LoadSettings};
 ghost use Rattle.live_agent.specs.Ticking.{GivesUpAll, GivesUpMany, TicksAll, TicksEach, WakesAll, WakesEach, WakesMany, WakesNext};
 ghost use Rattle.live_agent.specs.Wiring.{AsksNext, IsSituation};
-
-use live_ends::CommonEnding;
 
 /// How lines are settled, and what a tick does.
 pub fn what_settles_has_examples()
@@ -82,34 +68,4 @@ pub fn what_a_datagram_is_has_examples()
     ensures stands { (board : Switchboard) (wire : Wire ℕ) (at : Situation) →
         IsSituation (λ around outcome. ⊤) (λ around told. ⊤) board wire at →
         (at.ticked ≡ wire.now.clock) × (at.end ≡ wire.end) × (at.read ≡ wire.read) }
-{}
-
-/// How a load is made, and what becomes of it.
-pub fn what_a_load_does_has_examples()
-    // It keeps its room, whatever is done of it, said to it, or counted for it.
-    ensures passes { (was is : Box Load) → OfLoad becomes_any (Some was) (Some is) → vec_len is.value.room ≡ vec_len was.value.room }
-    ensures counts { (was is : Box Load) → CountsFor becomes_any (Some was) (Some is) → vec_len is.value.room ≡ vec_len was.value.room }
-    ensures hears { (was is : Box Load) → HearsIn hears_any answers_any 700 true 0 0 (Some was) (Some is) →
-        vec_len is.value.room ≡ vec_len was.value.room }
-    // It ends as its bench says.
-    ensures ends { (was is : Wire ℕ) (ending : LoadEnding) → EndsLoad answers_any was ending is →
-        (ending ≡ ending_in is.load) × (is.lines ≡ was.lines) }
-    // An exchange served that came to its end; none did for want of memory, or of its clock.
-    ensures served { has_served CommonEnding.Served ≡ true }
-    ensures clock { has_served CommonEnding.Clock ≡ false }
-    ensures memory { has_served CommonEnding.OutOfMemory ≡ false }
-    // A load is made only where its exchange served.
-    ensures never_made { (config : AgentConfig) (settings : LoadSettings) (is_enough : Bool) (was is : Wire ℕ) →
-        LoadsOver answers_any passes_any serves_never writes_any config settings was (loads.Made is_enough) is → ⊥ }
-    // Each line of a gateway calls whose telephones it is known where they are, and none of another gateway.
-    ensures unknown { lines_at None (codes "21" ∷ []) ≡ [] }
-    ensures known { (at : SocketAddrV4) → lines_at (Some at) (codes "21" ∷ codes "22" ∷ [])
-        ≡ fresh_line at 1 (codes "21") ∷ fresh_line at 2 (codes "22") ∷ [] }
-    ensures no_gateway { lines_of [] ≡ [] }
-    ensures gateways { (first next : GatewayConfig) → lines_of (first ∷ next ∷ [])
-        ≡ lines_at first.phones first.numbers.items ++ lines_at next.phones next.numbers.items ++ [] }
-    // It begins at the moment that the clock tells, with these lines, and by the settings that ask for it.
-    ensures opened { (config : AgentConfig) (settings : LoadSettings) (was is : Wire ℕ) →
-        BeginsLoad answers_any (passes_at 700) config settings None was is →
-        (now : ℕ) × (bench : Bench) × passes_at 700 was.around (Ok now) × BeginsWith settings now (lines_of config.gateways.items) bench }
 {}

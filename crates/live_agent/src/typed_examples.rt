@@ -57,7 +57,7 @@ pub fn what_is_heard_of_who_types_has_examples()
     // Nothing else of the wire changes by it.
     ensures stays { (was is : Wire ℕ) → HearsTyped no_sockets hears_any was is →
         (is.network ≡ was.network) × (is.journal ≡ was.journal) × (is.now ≡ was.now) × (is.is_behind ≡ was.is_behind)
-        × (is.end ≡ was.end) × (is.is_offering ≡ was.is_offering) × (is.load ≡ was.load) }
+        × (is.end ≡ was.end) × (is.is_offering ≡ was.is_offering) }
 {}
 
 /// How a line is answered.
@@ -74,5 +74,5 @@ pub fn what_who_types_is_answered_has_examples()
     // Nothing else of the wire changes by it.
     ensures stays { (was is : Wire ℕ) → AnswersWith answers_any (codes "done\n") was is →
         (is.network ≡ was.network) × (is.journal ≡ was.journal) × (is.now ≡ was.now) × (is.is_behind ≡ was.is_behind)
-        × (is.read ≡ was.read) × (is.end ≡ was.end) × (is.is_offering ≡ was.is_offering) × (is.load ≡ was.load) }
+        × (is.read ≡ was.read) × (is.end ≡ was.end) × (is.is_offering ≡ was.is_offering) }
 {}

@@ -18,7 +18,6 @@ ghost use Rattle.surroundings.specs.Typing.{left_of, behind};
 ghost use Rattle.surroundings.specs.declared.surroundings.Fault.{Fault};
 ghost use Rattle.surroundings.specs.declared.surroundings.Told.{Told};
 
-use crate::loading::{Load, count_sent};
 use agent_texts::{Journal, Tally, count};
 use bad_network::{BadNetwork, Fate, Packet, Way};
 use exchange_log::{Note, Stamp, put_pause};
@@ -52,8 +51,6 @@ pub struct Wire<S> {
     pub(crate) end: Option<u64>,
     // Whether something that was recorded waits to be taken.
     pub(crate) is_offering: bool,
-    // Calls at a rate, where they are made over it.
-    pub(crate) load: Option<Box<Load>>,
 }
 
 // Written out: a derived drop, and those of all its parts, are proved anew by each crate that lets one go.
@@ -69,13 +66,11 @@ impl<S: Drop> Drop for Wire<S> {
             read: _,
             end: _,
             is_offering: _,
-            load,
         } = self;
         drop(around);
         drop(lines);
         drop(network);
         drop(journal);
-        drop(load);
     }
 }
 
@@ -163,7 +158,6 @@ impl<S: Surroundings + Drop> Wire<S> {
         ensures moments { IfOk result (λ wire. (wire.now.clock ≡ 0) × (wire.read ≡ 0) × (wire.end ≡ end)) }
         ensures dated { IfOk result (λ wire. S.dates around wire.now.time) }
         ensures quiet { IfOk result (λ wire. (wire.is_behind ≡ false) × (wire.is_offering ≡ false)) }
-        ensures load { IfOk result (λ wire. wire.load ≡ None) }
     {
         // By hand: a question mark is some twenty steps more, at each of which a check pays for all that stands there.
         let Ok(lines) = Lines::new(alloc) else {
@@ -183,7 +177,6 @@ impl<S: Surroundings + Drop> Wire<S> {
             read: 0,
             end,
             is_offering: false,
-            load: None,
         })
     }
 
@@ -347,7 +340,6 @@ impl<S: Surroundings + Drop> Wire<S> {
         ensures one { SendsOne (HandsTo S.sends S.traffic) is_repeat to bytes.now self.old self.new }
     {
         self.journal.sent(self.now.time, to, bytes, is_repeat);
-        count_sent(&mut self.load, self.now.time, to, bytes, is_repeat);
         if self.offer(Way::Out, to, bytes) {
             return;
         }

@@ -1,13 +1,12 @@
-//! The program: reads its configuration, and serves or makes a load, where its words ask that.
-ghost use Rattle.std.specs.Prelude.{◌≡◌, [], None, is_some, IfOk, IfSome};
+//! The program: reads its configuration, and serves as its words ask.
+ghost use Rattle.std.specs.Prelude.{◌≡◌, None, is_some, IfOk, IfSome};
 ghost use Rattle.rgca_words.specs.Names.{name_of, Says};
 
-use crate::loads::make_load;
 use agent_config::AgentConfig;
 use live_agent::{WireSettings, serve_agent};
 use live_ends::{AddressWord, CommonEnding, SocketWanted, begin};
 use live_outlets::Outlets;
-use rgca_words::{Asked, Ending, Said, Settings, asked_by, config_at};
+use rgca_words::{Ending, Said, Settings, asked_by, config_at};
 use std::alloc::Global;
 use std::net::Net;
 use std::os::fd::AsRawFd;
@@ -52,7 +51,7 @@ fn serve<R: Files + Net + Clock>(
     settings: &Settings<'_>,
     outlets: &mut Outlets<R::File>,
 ) -> Said
-    ensures { IfOk result.text (λ text. Says settings.now.config.now (name_of settings.now.capture) [] result.ending text.items) }
+    ensures { IfOk result.text (λ text. Says settings.now.config.now (name_of settings.now.capture) result.ending text.items) }
 {
     let ending = match config_at(rt, alloc, settings.config, settings.route) {
         Ok(config) => {
@@ -63,7 +62,7 @@ fn serve<R: Files + Net + Clock>(
         }
         Err(ending) => ending,
     };
-    ending.said(alloc, settings.named())
+    ending.said(alloc, settings.files())
 }
 
 /// Runs the program, and gives its exit status.
@@ -75,10 +74,9 @@ where
         return CommonEnding::OutOfMemory.status();
     };
     let alloc = rt.alloc();
-    let said = match asked_by(rt, &begun.words, &mut begun.outlets) {
-        Asked::Service(settings) => serve(rt, alloc, &settings, &mut begun.outlets),
-        Asked::Load { file, settings } => make_load(rt, alloc, file, settings, &mut begun.outlets),
-        Asked::Nothing(said) => said,
+    let said = match asked_by(alloc, &begun.words, &mut begun.outlets.error) {
+        Ok(settings) => serve(rt, alloc, &settings, &mut begun.outlets),
+        Err(said) => said,
     };
     said.end(rt, &mut begun.outlets)
 }

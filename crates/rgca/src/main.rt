@@ -1,9 +1,7 @@
-//! The program `rgca`: what it opens, serves and loads.
+//! The program `rgca`: what it opens and serves.
 #![tactic(auto)]
 
 mod app;
-mod examples;
-mod loads;
 
 use std::process::ExitCode;
 

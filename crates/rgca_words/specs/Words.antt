@@ -1,5 +1,5 @@
 -- What stands behind words of the command line.
-use Rattle.std.specs.Prelude.{◌≡◌, ◌<◌, ◌^◌, ℕ, Bool, true, false, ◌||◌, bytes_eq, codes, string_bytes, String, List, [], ◌∷◌}
+use Rattle.std.specs.Prelude.{◌≡◌, ◌<◌, ◌^◌, ℕ, Bool, true, false, bytes_eq, codes, if◌then◌else◌, List}
 use Rattle.std.specs.Prelude.{Option, None, Some, IsSome, IfSome}
 use Rattle.std.specs.Result.{result_ok}
 use Rattle.std.specs.Str.Parse.{IsNumeral, digits_value, without_leading_plus}
@@ -7,13 +7,14 @@ use Rattle.std.specs.declared.net.socket_addr.SocketAddrV4.{SocketAddrV4}
 use Rattle.bad_network.specs.Parts.{spoiling_of}
 use Rattle.bad_network.specs.declared.spoiling.Spoiling.{Spoiling}
 use Rattle.live_ends.specs.Addresses.{IsAddress}
-use Rattle.live_checks.specs.declared.telephone.Telephone.{Telephone}
+use Rattle.rgca_words.specs.declared.ending.Moved.{Moved}
+use Rattle.rgca_words.specs.declared.ending.Moved.TheVariants.{Check, Phones, Load}
 
--- the word behind the first asks how the program is used
-abbrev pub asks_for_help : {A : Type 0} → List (String A) → Bool
-asks_for_help [] = false
-asks_for_help (first ∷ []) = false
-asks_for_help (first ∷ word ∷ more) = bytes_eq (string_bytes word) (codes "--help") || bytes_eq (string_bytes word) (codes "-h")
+-- a word asks for what another program does now
+abbrev pub moved_by : List ℕ → Option Moved
+moved_by word =
+    if bytes_eq word (codes "check") then Some Check
+    else (if bytes_eq word (codes "phones") then Some Phones else (if bytes_eq word (codes "load") then Some Load else None))
 
 -- the address that a text behind a word says; none where nothing stands there
 abbrev pub IsBehind : Option (List ℕ) → Option SocketAddrV4 → Type 0
@@ -40,14 +41,3 @@ IsMoment (Some text) moment =
 abbrev pub SaysFlag : Option (List ℕ) → Bool → Type 0
 SaysFlag said flag =
     (said ≡ None → flag ≡ false) × (said ≡ Some (codes "true") → flag ≡ true) × (said ≡ Some (codes "false") → flag ≡ false)
-
--- the telephone is worked at the address behind one of the two words, and nothing stands behind the other one
-abbrev pub WorksBy : Bool → Option (List ℕ) → Option (List ℕ) → SocketAddrV4 → Type 0
-WorksBy false phones hook address = IsBehind phones (Some address) × (hook ≡ None)
-WorksBy true phones hook address = (phones ≡ None) × IsBehind hook (Some address)
-
--- who works a line's telephone: an rgwd, or any program; nobody where neither word stands there
-abbrev pub IsWorked : List ℕ → Option (List ℕ) → Option (List ℕ) → Option Telephone → Type 0
-IsWorked line phones hook None = (phones ≡ None) × (hook ≡ None)
-IsWorked line phones hook (Some telephone) =
-    (telephone.line.now ≡ line) × WorksBy telephone.is_hook phones hook telephone.address

@@ -1,14 +1,14 @@
-//! Reads a configuration, and what is missing there for what is asked.
+//! Reads a configuration.
 ghost use Rattle.std.specs.Prelude.{◌≡◌};
 ghost use Rattle.rgca_words.specs.Endings.{config_by};
 
 use crate::ending::Ending;
-use agent_config::{AgentConfig, ConfigRefusal, Place, missing, read_config, too_long};
+use agent_config::{AgentConfig, ConfigRefusal, read_config, too_long};
 use live_ends::{CommonEnding, read_file};
 use rgw_scripts::LIMIT;
-use std::alloc::{AllocError, Global};
+use std::alloc::Global;
 use std::rt::Files;
-use toml_places::{Told, named};
+use toml_places::named;
 
 // The configuration that a text writes; where calls are to be routed it has a digit map.
 fn config_of(alloc: Global, is_routed: bool, text: &[u8]) -> Result<AgentConfig, ConfigRefusal> {
@@ -16,34 +16,6 @@ fn config_of(alloc: Global, is_routed: bool, text: &[u8]) -> Result<AgentConfig,
         return Err(too_long(alloc, LIMIT));
     }
     read_config(alloc, text, is_routed)
-}
-
-// Why a configuration has no load, if it hasn't: gateways don't say where their telephones are.
-fn bench_refusal(alloc: Global, config: &AgentConfig) -> Option<ConfigRefusal> {
-    let mut faults = Told::new(alloc);
-    for gateway in config.gateways.iter() {
-        if gateway.phones.is_none() {
-            let domain = str::from_utf8(gateway.domain.as_bytes()).unwrap_or("");
-            let place = Place {
-                gateway: Some(domain),
-                key: "phones",
-            };
-            let told = match missing(alloc, place) {
-                ConfigRefusal::OutOfMemory => Err(AllocError),
-                ConfigRefusal::Told { line } => faults.tell(None, line.as_slice()),
-            };
-            if told.is_err() {
-                return Some(ConfigRefusal::OutOfMemory);
-            }
-        }
-    }
-    if faults.is_empty() {
-        return None;
-    }
-    match faults.end() {
-        Ok(line) => Some(ConfigRefusal::Told { line }),
-        Err(_) => Some(ConfigRefusal::OutOfMemory),
-    }
 }
 
 // Why the configuration in this file is refused, where each line names the file but the first, before which that stands already.
@@ -83,21 +55,4 @@ pub fn config_at<R: Files>(
         Ok(config) => Ok(config),
         Err(refusal) => Err(config_ending(named_refusal(alloc, file, refusal))),
     }
-}
-
-/// The configuration of a load in this file, likewise: each gateway says where its telephones are.
-pub fn load_config_at<R: Files>(
-    rt: &R,
-    alloc: Global,
-    file: &str,
-    is_routed: bool,
-) -> Result<AgentConfig, Ending> {
-    let config = match config_at(rt, alloc, file, is_routed) {
-        Ok(config) => config,
-        Err(ending) => return Err(ending),
-    };
-    if let Some(refusal) = bench_refusal(alloc, &config) {
-        return Err(config_ending(named_refusal(alloc, file, refusal)));
-    }
-    Ok(config)
 }

@@ -1,18 +1,17 @@
 //! Reads the words of the command line.
-ghost use Rattle.std.specs.Prelude.{◌≡◌, [], true, Some, None, Ok, IfOk, IfErr, IfSome, codes, option_map};
+ghost use Rattle.std.specs.Prelude.{◌≡◌, true, Some, None, Ok, IfOk, IfErr, IfSome, codes, option_map};
 ghost use Rattle.clap.specs.Matches.{found_of, first_value, one_text};
 ghost use Rattle.live_ends.specs.Addresses.{IsAddress};
-ghost use Rattle.rgca_words.specs.Endings.{word_ending};
+ghost use Rattle.rgca_words.specs.declared.ending.Ending.TheVariants.{Common};
 ghost use Rattle.rgca_words.specs.Names.{name_of, HasNames};
 ghost use Rattle.rgca_words.specs.Statuses.{fails};
-ghost use Rattle.rgca_words.specs.Words.{asks_for_help, spoiling_read, IsBehind, IsMoment, IsRead, SaysFlag};
+ghost use Rattle.rgca_words.specs.Words.{spoiling_read, IsBehind, IsMoment, IsRead, SaysFlag};
 
-use crate::ending::Named;
 use crate::help::{CONTROL, USAGE};
 use bad_network::Spoiling;
 use clap::{ArgMatches, Command};
 use command_words::{Kind, matches_in};
-use live_ends::{AddressWord, CommonEnding, VERSION, address_in, network_in};
+use live_ends::{AddressWord, CommonEnding, FileNames, VERSION, address_in, network_in};
 use live_outlets::{Outlet, boxed};
 use std::alloc::Global;
 use std::io::Write;
@@ -40,26 +39,15 @@ pub struct Settings<'a> {
 }
 
 impl<'a> Settings<'a> {
-    /// What an ending names: the program reads its configuration, and writes a capture.
-    pub fn named(&self) -> Named<'a>
-        ensures { HasNames self.now.config.now (name_of self.now.capture) [] result }
+    /// The names of the program's files: what it reads is its configuration, and what it writes a capture.
+    pub fn files(&self) -> FileNames<'a>
+        ensures { HasNames self.now.config.now (name_of self.now.capture) result }
     {
-        Named::of_files(self.config, self.capture.unwrap_or(""))
+        FileNames {
+            read_from: self.config,
+            written_to: self.capture.unwrap_or(""),
+        }
     }
-}
-
-/// Why the program doesn't do what the words say. It holds no text: a check pays for each text that a fault may hold wherever that is
-/// handed on.
-#[derive(Clone, Copy)]
-pub enum WordFault {
-    /// As the words of any program may be refused, or ask for something else.
-    Common(CommonEnding),
-    /// What stands behind `--line`, or `--more-lines`, isn't the name of one line.
-    BadLine { is_other: bool },
-    /// The other line to be checked is the line itself.
-    SameLine,
-    /// There is no check of a name that stands behind `--only`.
-    NoCheck,
 }
 
 const WORDS: [(&str, Kind); 8] = [
@@ -73,52 +61,36 @@ const WORDS: [(&str, Kind); 8] = [
     ("stop-after", Kind::Number),
 ];
 
-/// Whether the word behind the first asks how the program is used.
-pub fn asks_for_help(words: &[String]) -> bool
-    ensures { result ≡ asks_for_help words.now }
-{
-    match words {
-        [_, word, ..] => {
-            let word = word.as_str();
-            word == "--help" || word == "-h"
-        }
-        _ => false,
-    }
-}
-
-/// The address behind a word, if that stands there.
-pub fn address_behind(
+// The address behind a word, if that stands there.
+fn address_behind(
     matches: &ArgMatches<'_>,
     name: &str,
     word: AddressWord,
-) -> Result<Option<SocketAddrV4>, WordFault>
+) -> Result<Option<SocketAddrV4>, CommonEnding>
     ensures stands { IfOk result (λ found. IfSome found (λ address.
         IfSome (first_value (found_of matches.now) name.now) (λ text. IsAddress text address))) }
     ensures stands_not { IfOk result (λ found. found ≡ None → first_value (found_of matches.now) name.now ≡ None) }
     ensures behind { IfOk result (λ found. IsBehind (first_value (found_of matches.now) name.now) found) }
     ensures none { first_value (found_of matches.now) name.now ≡ None → result ≡ Ok None }
-    ensures other { IfErr result (λ fault. fault ≡ WordFault.Common (CommonEnding.BadAddress word)) }
+    ensures other { IfErr result (λ ending. ending ≡ CommonEnding.BadAddress word) }
     ensures no_address { IfErr result (λ _. IfSome (first_value (found_of matches.now) name.now) (λ text.
         (address : SocketAddrV4) → ¬ (IsAddress text address))) }
 {
     match matches.get_str(name) {
         Some(text) => match address_in(word, text) {
             Ok(address) => Ok(Some(address)),
-            Err(ending) => Err(WordFault::Common(ending)),
+            Err(ending) => Err(ending),
         },
         None => Ok(None),
     }
 }
 
 // How a network spoils datagrams, if that stands there and says that.
-fn spoiling_in(matches: &ArgMatches<'_>) -> Result<Option<Spoiling>, WordFault>
+fn spoiling_in(matches: &ArgMatches<'_>) -> Result<Option<Spoiling>, CommonEnding>
     ensures read { IfOk result (λ network. IsRead spoiling_read (first_value (found_of matches.now) (codes "network")) network) }
-    ensures refused { IfErr result (λ fault. fails (word_ending fault) ≡ true) }
+    ensures refused { IfErr result (λ ending. fails (Common ending) ≡ true) }
 {
-    match network_in(matches.get_str("network")) {
-        Ok(network) => Ok(network),
-        Err(ending) => Err(WordFault::Common(ending)),
-    }
+    network_in(matches.get_str("network"))
 }
 
 // The moment at which it ends, in ms, if that stands there.
@@ -129,8 +101,11 @@ fn end_in(matches: &ArgMatches<'_>) -> Option<u64>
 }
 
 // What the program is asked to do by what stands behind its words. Its configuration is the word that stands by itself. It stands in a
-// box: whoever holds it, or may have a fault in its place, holds little.
-fn settings_in<'a>(alloc: Global, matches: &ArgMatches<'a>) -> Result<Box<Settings<'a>>, WordFault>
+// box: whoever holds it, or may have an ending in its place, holds little.
+fn settings_in<'a>(
+    alloc: Global,
+    matches: &ArgMatches<'a>,
+) -> Result<Box<Settings<'a>>, CommonEnding>
     ensures config { IfOk result (λ settings.
         first_value (found_of matches.now) (codes "config") ≡ Some settings.value.config.now) }
     ensures capture { IfOk result (λ settings.
@@ -144,23 +119,23 @@ fn settings_in<'a>(alloc: Global, matches: &ArgMatches<'a>) -> Result<Box<Settin
     ensures spoilt { IfOk result (λ settings.
         IsRead spoiling_read (first_value (found_of matches.now) (codes "network")) settings.value.network) }
     ensures ends { IfOk result (λ settings. IsMoment (one_text (found_of matches.now) (codes "stop-after")) settings.value.stop_after) }
-    ensures refused { IfErr result (λ fault. fails (word_ending fault) ≡ true) }
+    ensures refused { IfErr result (λ ending. fails (Common ending) ≡ true) }
 {
     let Some(config) = matches.get_str("config") else {
-        return Err(WordFault::Common(CommonEnding::Usage));
+        return Err(CommonEnding::Usage);
     };
     let control = match address_behind(matches, "control", AddressWord::Control) {
         Ok(Some(control)) => control,
-        Ok(None) => return Err(WordFault::Common(CommonEnding::Usage)),
-        Err(fault) => return Err(fault),
+        Ok(None) => return Err(CommonEnding::Usage),
+        Err(ending) => return Err(ending),
     };
     let listen = match address_behind(matches, "listen", AddressWord::Listen) {
         Ok(listen) => listen,
-        Err(fault) => return Err(fault),
+        Err(ending) => return Err(ending),
     };
     let network = match spoiling_in(matches) {
         Ok(network) => network,
-        Err(fault) => return Err(fault),
+        Err(ending) => return Err(ending),
     };
     let settings = Settings {
         config,
@@ -174,22 +149,22 @@ fn settings_in<'a>(alloc: Global, matches: &ArgMatches<'a>) -> Result<Box<Settin
     };
     match boxed(alloc, settings) {
         Ok(settings) => Ok(settings),
-        Err(_) => Err(WordFault::Common(CommonEnding::OutOfMemory)),
+        Err(_) => Err(CommonEnding::OutOfMemory),
     }
 }
 
 /// Reads the words of a command line, of which the first is the program's name; this outlet says which are wrong.
-pub fn read_words<'a, F: Write + Drop>(
+pub(crate) fn read_words<'a, F: Write + Drop>(
     alloc: Global,
     words: &'a [String],
     said: &mut Outlet<F>,
-) -> Result<Box<Settings<'a>>, WordFault> {
+) -> Result<Box<Settings<'a>>, CommonEnding> {
     let command = Command::new(alloc, "rgca")
         .version(VERSION)
         .override_usage(USAGE);
     let matches = match matches_in(alloc, command, &WORDS, words, said) {
         Ok(matches) => matches,
-        Err(ending) => return Err(WordFault::Common(ending)),
+        Err(ending) => return Err(ending),
     };
     settings_in(alloc, &matches)
 }

@@ -5,7 +5,6 @@
 
 mod bytes;
 mod capturing;
-mod checks;
 mod commands;
 mod descriptions;
 mod logged;
@@ -44,7 +43,6 @@ fn put_answer(given: &mut Outcome, call: &str, value: &[u8]) -> bool {
         || names::put_answer(given, call, value)
         || packing::put_answer(given, call, value)
         || capturing::put_answer(given, call, value)
-        || checks::put_answer(given, call, value)
         || logged::put_answer(given, call, value)
         || shown::put_answer(given, call, value)
         || messages::put_answer(given, call, value)

@@ -7,7 +7,7 @@ use Rattle.switchboard.specs.Opening.{BoardOf}
 use Rattle.switchboard.specs.declared.switchboard.Switchboard.{Switchboard}
 use Rattle.live_agent.specs.AnyAround.{ends_any, serves_any, serves_never, writes_any}
 use Rattle.live_agent.specs.Clock.{milliseconds}
-use Rattle.live_agent.specs.Serving.{ServesLoad, ServesOver}
+use Rattle.live_agent.specs.Serving.{ServesOver}
 use Rattle.live_agent.specs.declared.wire.Wire.{Wire}
 use Rattle.live_agent.proofs.desk_examples.how_a_desk_serves_has_examples.Goals as goal
 
@@ -41,16 +41,6 @@ begins config was is ending told (inr some) =
 
 pub returns-clause-begins : goal.returns-clause-begins
 returns-clause-begins c = begins
-
-load_begins : (config : AgentConfig) (was is : Wire ℕ) (ending : CommonEnding) → was.now.time ≡ 525600000999
-    → ServesLoad config true serves_any was is ending
-    → (ending ≡ OutOfMemory) ⊎ ((board : Switchboard) × BoardOf config true 525600000 board)
-load_begins config was is ending told (inl none) = inl none.0
-load_begins config was is ending told (inr some) =
-    inr (some.0, subst (λ (time : ℕ). BoardOf config true (milliseconds time) some.0) told some.3)
-
-pub returns-clause-load_begins : goal.returns-clause-load_begins
-returns-clause-load_begins c = load_begins
 
 pub returns-clause-its_gateways : goal.returns-clause-its_gateways
 returns-clause-its_gateways c = λ config board of. of.0

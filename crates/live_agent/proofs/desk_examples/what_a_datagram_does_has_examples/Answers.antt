@@ -37,19 +37,19 @@ returns-clause-handed c = λ board now was is takes. takes.1
 
 pub returns-clause-sends : goal.returns-clause-sends
 returns-clause-sends c = λ was is over.
-    (ap (λ (wire : Wire ℕ). wire.lines) over.rest, ap (λ (wire : Wire ℕ). wire.read) over.rest, ap (λ (wire : Wire ℕ). wire.end) over.rest)
+    (ap (λ (wire : Wire ℕ). wire.lines) over, ap (λ (wire : Wire ℕ). wire.read) over, ap (λ (wire : Wire ℕ). wire.end) over)
 
 pub returns-clause-ticks : goal.returns-clause-ticks
-returns-clause-ticks c = λ was is over. (ap (λ (wire : Wire ℕ). wire.lines) over.1, ap (λ (wire : Wire ℕ). wire.read) over.1)
+returns-clause-ticks c = λ was is over. (ap (λ (wire : Wire ℕ). wire.lines) over, ap (λ (wire : Wire ℕ). wire.read) over)
 
 pub returns-clause-clock : goal.returns-clause-clock
-returns-clause-clock c = λ was is over. ap (λ (wire : Wire ℕ). wire.now.clock) over.1
+returns-clause-clock c = λ was is over. ap (λ (wire : Wire ℕ). wire.now.clock) over
 
 pub returns-clause-behind : goal.returns-clause-behind
-returns-clause-behind c = λ was is over. ap (λ (wire : Wire ℕ). wire.is_behind) over.1
+returns-clause-behind c = λ was is over. ap (λ (wire : Wire ℕ). wire.is_behind) over
 
 pub returns-clause-not_behind : goal.returns-clause-not_behind
-returns-clause-not_behind c = λ was is over. ap (λ (wire : Wire ℕ). wire.is_behind) over.1
+returns-clause-not_behind c = λ was is over. ap (λ (wire : Wire ℕ). wire.is_behind) over
 
 pub returns-clause-steps : goal.returns-clause-steps
 returns-clause-steps c = λ source outputs board now steps. ap (λ (one : Switchboard). one.office) steps.rest

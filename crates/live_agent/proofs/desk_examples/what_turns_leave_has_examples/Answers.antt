@@ -25,10 +25,6 @@ pub returns-clause-settles : goal.returns-clause-settles
 returns-clause-settles c = λ board now so.
     (ap (λ (one : Switchboard). one.stations) so, ap (λ (one : Switchboard). one.notifying) so)
 
-pub returns-clause-telephones : goal.returns-clause-telephones
-returns-clause-telephones c = λ was is hears.
-    (ap (λ (wire : Wire ℕ). wire.lines) hears.rest, ap (λ (wire : Wire ℕ). wire.network) hears.rest, ap (λ (wire : Wire ℕ). wire.journal) hears.rest)
-
 pub returns-clause-fails : goal.returns-clause-fails
 returns-clause-fails c = λ was is waits. ap (λ (journal : Journal). journal.told) waits.2
 
@@ -54,9 +50,6 @@ returns-clause-pauses c = λ pause was is notes. ap (λ (journal : Journal). jou
 
 pub returns-clause-paused : goal.returns-clause-paused
 returns-clause-paused c = λ was is notes. notes.0
-
-pub returns-clause-passes : goal.returns-clause-passes
-returns-clause-passes c = λ load was is passes. ap (λ (wire : Wire ℕ). wire.lines) passes.rest
 
 pub returns-clause-quiet : goal.returns-clause-quiet
 returns-clause-quiet c = λ traffic was is waits. waits.0

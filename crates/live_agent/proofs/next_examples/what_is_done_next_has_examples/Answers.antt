@@ -22,7 +22,6 @@ returns-clause-begins c = λ board now was is schedule next does.
       ap (λ (wire : Wire ℕ). wire.read) begins,
       ap (λ (wire : Wire ℕ). wire.end) begins,
       ap (λ (wire : Wire ℕ). wire.is_offering) begins,
-      ap (λ (wire : Wire ℕ). wire.load) begins,
     )
 
 pub returns-clause-settles : goal.returns-clause-settles

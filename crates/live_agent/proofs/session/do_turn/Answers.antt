@@ -1,5 +1,6 @@
-use Rattle.std.proofs.Common.{ℕ, Bool, length, refl, ap, subst}
+use Rattle.std.proofs.Common.{ℕ, Bool, Option, length, refl, ap, subst, ◌∙◌}
 use Rattle.agent_texts.specs.declared.journal.Journal.{Journal}
+use Rattle.turns.specs.Clock.{earlier}
 use Rattle.live_agent.specs.Handing.{HandsTo}
 use Rattle.live_agent.specs.Ticking.{GivesUpEach, TicksEach, WakesEach}
 use Rattle.live_agent.proofs.ServingLemmas.{waited_until}
@@ -12,8 +13,8 @@ returns-in-Command g c = rw (c.in-Command.is) c.take_line.ensures
 pub returns-in-Tick : goal.returns-in-Tick
 returns-in-Tick g c =
     rw (c.in-Tick.is)
-    (did_tick (HandsTo g.S.Surroundings.sends g.S.Surroundings.traffic) g.S.Surroundings.answers c.args.moment c.in-Tick.to c.args.board.now c.settle.new.board
-    c.args.wire.now c.settle.new.wire c.pass_load.new.self (record {
+    (did_tick (HandsTo g.S.Surroundings.sends g.S.Surroundings.traffic) c.args.moment c.in-Tick.to c.args.board.now c.settle.new.board
+    c.args.wire.now c.settle.new.wire (record {
       ticked = c.tick_each.new.board;
       said = c.tick_each.new.wire;
       given = c.give_up_each.new.board;
@@ -33,7 +34,7 @@ returns-in-Tick g c =
           c.gateways-giving_up.ensures c.give_up_each.ensures);
       wakes = subst (λ (gateways : ℕ). WakesEach gateways c.give_up_each.new.board c.wake_each.new.board) c.gateways-waking.ensures c.wake_each.ensures;
       settles = c.settle.ensures;
-    }) c.pass_load.ensures.passes c.pass_load.ensures.journal)
+    }))
 
 pub returns-in-Datagram : goal.returns-in-Datagram
 returns-in-Datagram g c = rw (c.in-Datagram.is) c.take_datagram.ensures
@@ -46,7 +47,11 @@ returns-in-Wait g c =
     rw (c.in-Wait.is) (
       refl,
       waited_until g.S.Surroundings.traffic g.S.Surroundings.sleeps c.in-Wait.until c.args.moment _ c.earlier-due.result c.args.board.now.gateways.items c.args.wire.now
-          c.wait-in-Wait.new.self (c.next_due.result, c.due.result, c.next_due.ensures, c.due.ensures, c.earlier-due.ensures) c.longest_until.ensures
+          c.wait-in-Wait.new.self (
+            c.next_due.result,
+            c.next_due.ensures,
+            c.earlier-due.ensures ∙ ap (λ (due : Option ℕ). earlier c.next_due.result due) c.network_due.ensures,
+          ) c.longest_until.ensures
           (c.wait-in-Wait.ensures.traffic, c.wait-in-Wait.ensures.waited, c.wait-in-Wait.ensures.journal, c.wait-in-Wait.ensures.rest),
     )
 

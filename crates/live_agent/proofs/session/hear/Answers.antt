@@ -7,12 +7,10 @@ use Rattle.live_agent.proofs.session.hear.Goals as goal
 
 pub returns-in_default : goal.returns-in_default
 returns-in_default g c = record {
-  came = record c.args.wire.now { journal = with_value c.args.wire.now.journal c.came.new.self; load = c.count_came.new.load };
+  came = record c.args.wire.now { journal = with_value c.args.wire.now.journal c.came.new.self };
   counts = rw (c.deref_mut.ensures.value) at c.came.ensures.tally;
   records = rw (c.deref_mut.ensures.value) at c.came.ensures.rest;
   leaves = refl;
-  load = c.count_came.ensures.made;
-  counts_for = c.count_came.ensures.counts;
   hears = heard_by (HandsTo g.S.Surroundings.sends g.S.Surroundings.traffic) None _ c.args.source c.args.bytes.now c.args.board.now c.args.board.now _ _ c.in_default.ensures (
     refl,
     refl,
@@ -26,14 +24,12 @@ returns-in_default g c = record {
 pub returns-then-not-send_outputs : goal.returns-then-not-send_outputs
 returns-then-not-send_outputs g c =
     let refused : c.send_outputs.result ≡ false = search rules in
-    let came = record c.args.wire.now { journal = with_value c.args.wire.now.journal c.came.new.self; load = c.count_came.new.load } in
+    let came = record c.args.wire.now { journal = with_value c.args.wire.now.journal c.came.new.self } in
     record {
       came = came;
       counts = rw (c.deref_mut.ensures.value) at c.came.ensures.tally;
       records = rw (c.deref_mut.ensures.value) at c.came.ensures.rest;
       leaves = refl;
-      load = c.count_came.ensures.made;
-      counts_for = c.count_came.ensures.counts;
       hears = heard_by (HandsTo g.S.Surroundings.sends g.S.Surroundings.traffic) (Some c.in-Some.place) _ c.args.source c.args.bytes.now c.args.board.now c.step-outputs.new.self came c.send_outputs.new.wire c.in-Some.ensures (record {
         outputs = c.step-outputs.result;
         went_on = c.send_outputs.result;
@@ -56,14 +52,12 @@ returns-then-not-send_outputs g c =
 pub returns : goal.returns
 returns g c =
     let went : c.send_outputs.result ≡ true = search rules in
-    let came = record c.args.wire.now { journal = with_value c.args.wire.now.journal c.came.new.self; load = c.count_came.new.load } in
+    let came = record c.args.wire.now { journal = with_value c.args.wire.now.journal c.came.new.self } in
     record {
       came = came;
       counts = rw (c.deref_mut.ensures.value) at c.came.ensures.tally;
       records = rw (c.deref_mut.ensures.value) at c.came.ensures.rest;
       leaves = refl;
-      load = c.count_came.ensures.made;
-      counts_for = c.count_came.ensures.counts;
       hears = heard_by (HandsTo g.S.Surroundings.sends g.S.Surroundings.traffic) (Some c.in-Some.place) _ c.args.source c.args.bytes.now c.args.board.now c.take_each.new.board came c.take_each.new.wire c.in-Some.ensures (record {
         outputs = c.step-outputs.result;
         went_on = c.send_outputs.result;

@@ -1,90 +1,77 @@
-use Rattle.std.proofs.Common.{Some, inl, inr, refl, ap, ◌∙◌}
+use Rattle.std.proofs.Common.{inl, inr, refl, ap, ◌∙◌}
 use Rattle.agent_texts.specs.declared.journal.Journal.{Journal}
 use Rattle.live_agent.specs.Ending.{counted_in}
-use Rattle.live_agent.specs.Handing.{HandsTo}
-use Rattle.live_agent.proofs.TypingLemmas.{line_answered, telephones_heard}
 use Rattle.live_agent.proofs.session.take_line.Goals as goal
 
-pub returns-then-hear_telephones : goal.returns-then-hear_telephones
-returns-then-hear_telephones g c =
-    telephones_heard g.S.Surroundings.sockets (HandsTo g.S.Surroundings.sends g.S.Surroundings.traffic) g.S.Surroundings.hears g.S.Surroundings.answers c.args.moment _ _ _ _ _ _
-    c.hear_telephones.ensures.made c.if-hear_telephones.true refl (c.hear_telephones.ensures.heard c.if-hear_telephones.true)
-
 pub returns-in-Nothing : goal.returns-in-Nothing
-returns-in-Nothing g c =
-    line_answered g.S.Surroundings.sockets (HandsTo g.S.Surroundings.sends g.S.Surroundings.traffic) g.S.Surroundings.hears g.S.Surroundings.answers c.args.moment
-    c.args.wire.now.load c.hear_telephones.result c.args.board.now c.args.board.now c.args.wire.now c.hear_telephones.new.self c.hear_lines.new.self
-    c.hear_lines.new.self c.hear_telephones.ensures.made c.if-hear_telephones.false (c.hear_telephones.ensures.none c.if-hear_telephones.false)
-    (c.hear_lines.ensures.heard.0, c.hear_lines.ensures.heard.1, c.hear_lines.ensures.heard.2, c.hear_lines.ensures.rest)
-    (record {
-      request = c.request_in-request.result;
-      asks = c.request_in-request.ensures;
-      does = rw (c.in-Nothing.is) (refl, refl);
-    })
+returns-in-Nothing g c = (
+  c.hear_lines.new.self,
+  (c.hear_lines.ensures.heard.0, c.hear_lines.ensures.heard.1, c.hear_lines.ensures.heard.2, c.hear_lines.ensures.rest),
+  record {
+    request = c.request_in-request.result;
+    asks = c.request_in-request.ensures;
+    does = rw (c.in-Nothing.is) (refl, refl);
+  },
+)
 
 pub returns-in-Ok : goal.returns-in-Ok
-returns-in-Ok g c =
-    line_answered g.S.Surroundings.sockets (HandsTo g.S.Surroundings.sends g.S.Surroundings.traffic) g.S.Surroundings.hears g.S.Surroundings.answers c.args.moment
-    c.args.wire.now.load c.hear_telephones.result c.args.board.now c.args.board.now c.args.wire.now c.hear_telephones.new.self c.hear_lines.new.self
-    c.answer.new.self c.hear_telephones.ensures.made c.if-hear_telephones.false (c.hear_telephones.ensures.none c.if-hear_telephones.false)
-    (c.hear_lines.ensures.heard.0, c.hear_lines.ensures.heard.1, c.hear_lines.ensures.heard.2, c.hear_lines.ensures.rest)
-    (record {
-      request = c.request_in-request.result;
-      asks = c.request_in-request.ensures;
-      does = rw (c.in-Counts.is) (
-        refl,
-        (
-          c.as_slice.result.now,
-          inl (c.as_slice.ensures.value ∙ c.in-Ok.ensures ∙ ap (λ (journal : Journal). counted_in journal) c.deref.ensures),
-          (c.answer.ensures.answered, c.answer.ensures.left, c.answer.ensures.rest),
-        ),
-      );
-    })
+returns-in-Ok g c = (
+  c.hear_lines.new.self,
+  (c.hear_lines.ensures.heard.0, c.hear_lines.ensures.heard.1, c.hear_lines.ensures.heard.2, c.hear_lines.ensures.rest),
+  record {
+    request = c.request_in-request.result;
+    asks = c.request_in-request.ensures;
+    does = rw (c.in-Counts.is) (
+      refl,
+      (
+        c.as_slice.result.now,
+        inl (c.as_slice.ensures.value ∙ c.in-Ok.ensures ∙ ap (λ (journal : Journal). counted_in journal) c.deref.ensures),
+        (c.answer.ensures.answered, c.answer.ensures.left, c.answer.ensures.rest),
+      ),
+    );
+  },
+)
 
 pub returns-in-Err : goal.returns-in-Err
-returns-in-Err g c =
-    line_answered g.S.Surroundings.sockets (HandsTo g.S.Surroundings.sends g.S.Surroundings.traffic) g.S.Surroundings.hears g.S.Surroundings.answers c.args.moment
-    c.args.wire.now.load c.hear_telephones.result c.args.board.now c.args.board.now c.args.wire.now c.hear_telephones.new.self c.hear_lines.new.self
-    c.answer-in-Err.new.self c.hear_telephones.ensures.made c.if-hear_telephones.false (c.hear_telephones.ensures.none c.if-hear_telephones.false)
-    (c.hear_lines.ensures.heard.0, c.hear_lines.ensures.heard.1, c.hear_lines.ensures.heard.2, c.hear_lines.ensures.rest)
-    (record {
-      request = c.request_in-request.result;
-      asks = c.request_in-request.ensures;
-      does = rw (c.in-Counts.is) (refl, (_, inr refl, (c.answer-in-Err.ensures.answered, c.answer-in-Err.ensures.left, c.answer-in-Err.ensures.rest)));
-    })
+returns-in-Err g c = (
+  c.hear_lines.new.self,
+  (c.hear_lines.ensures.heard.0, c.hear_lines.ensures.heard.1, c.hear_lines.ensures.heard.2, c.hear_lines.ensures.rest),
+  record {
+    request = c.request_in-request.result;
+    asks = c.request_in-request.ensures;
+    does = rw (c.in-Counts.is) (refl, (_, inr refl, (c.answer-in-Err.ensures.answered, c.answer-in-Err.ensures.left, c.answer-in-Err.ensures.rest)));
+  },
+)
 
 pub returns-in-Stop : goal.returns-in-Stop
-returns-in-Stop g c =
-    line_answered g.S.Surroundings.sockets (HandsTo g.S.Surroundings.sends g.S.Surroundings.traffic) g.S.Surroundings.hears g.S.Surroundings.answers c.args.moment
-    c.args.wire.now.load c.hear_telephones.result c.args.board.now c.args.board.now c.args.wire.now c.hear_telephones.new.self c.hear_lines.new.self
-    (record c.answer-in-Stop.new.self { end = Some 0 }) c.hear_telephones.ensures.made c.if-hear_telephones.false (c.hear_telephones.ensures.none c.if-hear_telephones.false)
-    (c.hear_lines.ensures.heard.0, c.hear_lines.ensures.heard.1, c.hear_lines.ensures.heard.2, c.hear_lines.ensures.rest)
-    (record {
-      request = c.request_in-request.result;
-      asks = c.request_in-request.ensures;
-      does = rw (c.in-Stop.is) (refl, (c.answer-in-Stop.new.self, (c.answer-in-Stop.ensures.answered, c.answer-in-Stop.ensures.left, c.answer-in-Stop.ensures.rest), refl));
-    })
+returns-in-Stop g c = (
+  c.hear_lines.new.self,
+  (c.hear_lines.ensures.heard.0, c.hear_lines.ensures.heard.1, c.hear_lines.ensures.heard.2, c.hear_lines.ensures.rest),
+  record {
+    request = c.request_in-request.result;
+    asks = c.request_in-request.ensures;
+    does = rw (c.in-Stop.is) (refl, (c.answer-in-Stop.new.self, (c.answer-in-Stop.ensures.answered, c.answer-in-Stop.ensures.left, c.answer-in-Stop.ensures.rest), refl));
+  },
+)
 
 pub returns-in-StopFromAfar : goal.returns-in-StopFromAfar
-returns-in-StopFromAfar g c =
-    line_answered g.S.Surroundings.sockets (HandsTo g.S.Surroundings.sends g.S.Surroundings.traffic) g.S.Surroundings.hears g.S.Surroundings.answers c.args.moment
-    c.args.wire.now.load c.hear_telephones.result c.args.board.now c.args.board.now c.args.wire.now c.hear_telephones.new.self c.hear_lines.new.self
-    c.answer-in-StopFromAfar.new.self c.hear_telephones.ensures.made c.if-hear_telephones.false (c.hear_telephones.ensures.none c.if-hear_telephones.false)
-    (c.hear_lines.ensures.heard.0, c.hear_lines.ensures.heard.1, c.hear_lines.ensures.heard.2, c.hear_lines.ensures.rest)
-    (record {
-      request = c.request_in-request.result;
-      asks = c.request_in-request.ensures;
-      does = rw (c.in-StopFromAfar.is) (refl, (c.answer-in-StopFromAfar.ensures.answered, c.answer-in-StopFromAfar.ensures.left, c.answer-in-StopFromAfar.ensures.rest));
-    })
+returns-in-StopFromAfar g c = (
+  c.hear_lines.new.self,
+  (c.hear_lines.ensures.heard.0, c.hear_lines.ensures.heard.1, c.hear_lines.ensures.heard.2, c.hear_lines.ensures.rest),
+  record {
+    request = c.request_in-request.result;
+    asks = c.request_in-request.ensures;
+    does = rw (c.in-StopFromAfar.is) (refl, (c.answer-in-StopFromAfar.ensures.answered, c.answer-in-StopFromAfar.ensures.left, c.answer-in-StopFromAfar.ensures.rest));
+  },
+)
 
 pub returns-in-Command : goal.returns-in-Command
-returns-in-Command g c =
-    line_answered g.S.Surroundings.sockets (HandsTo g.S.Surroundings.sends g.S.Surroundings.traffic) g.S.Surroundings.hears g.S.Surroundings.answers c.args.moment
-    c.args.wire.now.load c.hear_telephones.result c.args.board.now c.answer_command.new.board c.args.wire.now c.hear_telephones.new.self c.hear_lines.new.self
-    c.answer_command.new.wire c.hear_telephones.ensures.made c.if-hear_telephones.false (c.hear_telephones.ensures.none c.if-hear_telephones.false)
-    (c.hear_lines.ensures.heard.0, c.hear_lines.ensures.heard.1, c.hear_lines.ensures.heard.2, c.hear_lines.ensures.rest)
-    (record {
-      request = c.request_in-request.result;
-      asks = c.request_in-request.ensures;
-      does = rw (c.in-Command.is) c.answer_command.ensures;
-    })
+returns-in-Command g c = (
+  c.hear_lines.new.self,
+  (c.hear_lines.ensures.heard.0, c.hear_lines.ensures.heard.1, c.hear_lines.ensures.heard.2, c.hear_lines.ensures.rest),
+  record {
+    request = c.request_in-request.result;
+    asks = c.request_in-request.ensures;
+    does = rw (c.in-Command.is) c.answer_command.ensures;
+  },
+)

@@ -32,5 +32,4 @@ returns-clause-stays c = λ was is hears.
       ap (λ (wire : Wire ℕ). wire.is_behind) rest,
       ap (λ (wire : Wire ℕ). wire.end) rest,
       ap (λ (wire : Wire ℕ). wire.is_offering) rest,
-      ap (λ (wire : Wire ℕ). wire.load) rest,
     )

@@ -36,5 +36,4 @@ returns-clause-stays c = λ was is with.
       ap (λ (wire : Wire ℕ). wire.read) rest,
       ap (λ (wire : Wire ℕ). wire.end) rest,
       ap (λ (wire : Wire ℕ). wire.is_offering) rest,
-      ap (λ (wire : Wire ℕ). wire.load) rest,
     )

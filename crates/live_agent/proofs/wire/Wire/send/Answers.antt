@@ -2,7 +2,7 @@ use Rattle.std.proofs.Common.{◌≡◌, true, false, refl, rules}
 use Rattle.std.specs.Prelude.{is_some}
 use Rattle.std.specs.Box.{with_value}
 use Rattle.live_agent.specs.Handing.{HandsTo}
-use Rattle.live_agent.proofs.SendingLemmas.{goes_leaving, goes_offered, over_leaving, over_network, over_noted, sent_more}
+use Rattle.live_agent.proofs.SendingLemmas.{goes_leaving, goes_offered, over_journal, over_leaving, over_network, sent_more}
 use Rattle.live_agent.proofs.TallyingLemmas.{left_so, offered_so}
 use Rattle.live_agent.proofs.wire.Wire.send.Goals as goal
 
@@ -21,31 +21,30 @@ returns-clause-tally g c =
 
 pub returns-then-offer-clause-over : goal.returns-then-offer-clause-over
 returns-then-offer-clause-over g c =
-    let noted = record c.args.self.now { journal = with_value c.args.self.now.journal c.sent.new.self; load = c.count_sent.new.load } in
-    sent_more c.args.self.now noted c.offer.new.self (over_noted c.args.self.now noted refl c.count_sent.ensures.made)
+    let noted = record c.args.self.now { journal = with_value c.args.self.now.journal c.sent.new.self } in
+    sent_more c.args.self.now noted c.offer.new.self (over_journal c.args.self.now noted refl)
     (over_network noted c.offer.new.self c.offer.ensures.rest)
 
 pub returns-clause-over : goal.returns-clause-over
 returns-clause-over g c =
-    let noted = record c.args.self.now { journal = with_value c.args.self.now.journal c.sent.new.self; load = c.count_sent.new.load } in
+    let noted = record c.args.self.now { journal = with_value c.args.self.now.journal c.sent.new.self } in
     sent_more c.args.self.now c.offer.new.self c.transmit.new.self
-    (sent_more c.args.self.now noted c.offer.new.self (over_noted c.args.self.now noted refl c.count_sent.ensures.made)
+    (sent_more c.args.self.now noted c.offer.new.self (over_journal c.args.self.now noted refl)
     (over_network noted c.offer.new.self c.offer.ensures.rest))
     (over_leaving c.offer.new.self c.transmit.new.self c.transmit.ensures.rest)
 
 pub returns-then-offer-clause-one : goal.returns-then-offer-clause-one
 returns-then-offer-clause-one g c =
     let some : is_some c.args.self.now.network ≡ true = search rules in
-    let noted = record c.args.self.now { journal = with_value c.args.self.now.journal c.sent.new.self; load = c.count_sent.new.load } in
+    let noted = record c.args.self.now { journal = with_value c.args.self.now.journal c.sent.new.self } in
     record {
-      over = sent_more c.args.self.now noted c.offer.new.self (over_noted c.args.self.now noted refl c.count_sent.ensures.made)
+      over = sent_more c.args.self.now noted c.offer.new.self (over_journal c.args.self.now noted refl)
           (over_network noted c.offer.new.self c.offer.ensures.rest);
       counts = offered_so c.args.is_repeat c.args.self.now.network c.args.self.now.journal.value.tally _ c.offer.new.self.journal.value.tally
           (rw (c.deref_mut.ensures.value) at c.sent.ensures.tally) some c.offer.ensures.tally;
       noted = noted;
       notes = rw (c.deref_mut.ensures.value) at c.sent.ensures.tally;
       records = rw (c.deref_mut.ensures.value) at c.sent.ensures.rest;
-      load = c.count_sent.ensures.counts;
       rest = refl;
       goes = goes_offered (HandsTo g.S.Surroundings.sends g.S.Surroundings.traffic) c.args.to c.args.bytes.now c.args.self.now.network noted c.offer.new.self some c.offer.ensures.offers c.offer.ensures.notes c.offer.ensures.rest;
     }
@@ -53,10 +52,10 @@ returns-then-offer-clause-one g c =
 pub returns-clause-one : goal.returns-clause-one
 returns-clause-one g c =
     let none : is_some c.args.self.now.network ≡ false = search rules in
-    let noted = record c.args.self.now { journal = with_value c.args.self.now.journal c.sent.new.self; load = c.count_sent.new.load } in
+    let noted = record c.args.self.now { journal = with_value c.args.self.now.journal c.sent.new.self } in
     record {
       over = sent_more c.args.self.now c.offer.new.self c.transmit.new.self
-          (sent_more c.args.self.now noted c.offer.new.self (over_noted c.args.self.now noted refl c.count_sent.ensures.made)
+          (sent_more c.args.self.now noted c.offer.new.self (over_journal c.args.self.now noted refl)
           (over_network noted c.offer.new.self c.offer.ensures.rest))
           (over_leaving c.offer.new.self c.transmit.new.self c.transmit.ensures.rest);
       counts = left_so c.args.is_repeat c.args.self.now.network c.args.self.now.journal.value.tally _ c.offer.new.self.journal.value.tally
@@ -65,7 +64,6 @@ returns-clause-one g c =
       noted = noted;
       notes = rw (c.deref_mut.ensures.value) at c.sent.ensures.tally;
       records = rw (c.deref_mut.ensures.value) at c.sent.ensures.rest;
-      load = c.count_sent.ensures.counts;
       rest = refl;
       goes = goes_leaving (HandsTo g.S.Surroundings.sends g.S.Surroundings.traffic) c.args.to c.args.bytes.now c.args.self.now.network noted c.offer.new.self c.transmit.new.self none
           (c.offer.ensures.none c.if-offer.false) c.transmit.ensures.leaves;

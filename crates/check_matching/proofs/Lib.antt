@@ -1,4 +1,0 @@
-pub mod Computing
-pub mod BarLemmas
-pub mod MailLemmas
-pub mod PartLemmas

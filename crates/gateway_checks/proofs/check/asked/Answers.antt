@@ -1,5 +1,0 @@
-use Rattle.std.proofs.Common.{refl}
-use Rattle.gateway_checks.proofs.check.asked.Goals as goal
-
-pub returns : goal.returns
-returns c = refl

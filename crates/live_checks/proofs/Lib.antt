@@ -1,3 +1,0 @@
-pub mod CountLemmas
-pub mod PlayLemmas
-pub mod ReportLemmas

@@ -1,5 +1,0 @@
-use Rattle.live_checks.proofs.CountLemmas.{told_faultless}
-use Rattle.live_checks.proofs.checking.Checking.tell_played.Goals as goal
-
-pub returns-clause-told : goal.returns-clause-told
-returns-clause-told g c = told_faultless c.report_played-text.result _ _ c.put_out.ensures.made c.report_played-text.ensures.told

@@ -1,3 +1,0 @@
-pub mod Report
-pub mod Playing
-pub mod Checking
