@@ -46,6 +46,7 @@ impl Recorder for Records {
         if self.keep_agent_late(journal, time) {
             return;
         }
+        self.keep_day(&journal.log);
         self.keep(b"print ", &mut journal.told);
         self.keep(b"log ", &mut journal.log);
         self.keep_capture(&mut journal.capture);

@@ -3,8 +3,10 @@ ghost use Rattle.std.specs.Prelude.{◌≡◌, ◌&&◌, not};
 ghost use Rattle.mg_bytes.specs.Lists.{is_empty};
 
 use agent_texts::Journal;
-use live_outlets::Outlets;
-use std::io::Write;
+use live_ends::DayWatch;
+use live_outlets::{Finisher, Outlets, Written};
+use std::alloc::Global;
+use std::rt::{Clock, Files};
 
 /// Where what was recorded is written. What it makes of that is its own; that it was told to is said.
 pub trait Recorder {
@@ -24,14 +26,36 @@ pub trait Recorder {
     fn is_offering(&self) -> bool;
 }
 
-impl<F: Write + Drop> Recorder for Outlets<F> {
+/// The outlets of a program, and where its log notes that the time of day was set.
+pub(crate) struct Recording<'a, R: Files> {
+    pub rt: &'a R,
+    pub alloc: Global,
+    pub outlets: &'a mut Outlets<R::File>,
+    pub days: DayWatch,
+}
+
+impl<'a, R: Files + Clock> Recorder for Recording<'a, R> {
     fn write(&mut self, journal: &mut Journal, time: u64) {
-        journal.write(self, time);
+        if let Some(line) = self.days.line(self.rt, self.alloc, &journal.log) {
+            self.outlets.error.say(line.as_slice());
+        }
+        journal.write(self.outlets, time);
     }
 
     fn is_offering(&self) -> bool
-        ensures { result ≡ not (is_empty self.now.output.value.backlog.waiting && is_empty self.now.error.value.backlog.waiting) }
+        ensures { result ≡ not (is_empty self.now.outlets.now.output.value.backlog.waiting
+            && is_empty self.now.outlets.now.error.value.backlog.waiting) }
     {
-        !self.are_taken()
+        !self.outlets.are_taken()
+    }
+}
+
+impl<'a, R: Files> Finisher for Recording<'a, R> {
+    ghost use Rattle.std.specs.Prelude.{⊤};
+
+    ghost ends = { λ last was written is. ⊤ };
+
+    fn end_with<C: Clock>(&mut self, rt: &C, last: &[u8], moment: u64) -> Written {
+        self.outlets.end_with(rt, last, moment)
     }
 }

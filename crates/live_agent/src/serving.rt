@@ -12,14 +12,14 @@ ghost use Rattle.live_outlets.specs.declared.record.RecordState.TheVariants as s
 ghost use Rattle.surroundings.specs.Typing.{left_of};
 ghost use Rattle.switchboard.specs.Opening.{BoardOf};
 
-use crate::recorder::Recorder;
+use crate::recorder::{Recorder, Recording};
 use crate::session::serve;
 use crate::wire::Wire;
 use agent_config::AgentConfig;
 use agent_texts::Journal;
 use bad_network::{BadNetwork, Spoiling};
 use exchange_log::put_peer;
-use live_ends::{CommonEnding, Live, SocketWanted, open_capture};
+use live_ends::{CommonEnding, DayWatch, Live, SocketWanted, open_capture};
 use live_outlets::{Finisher, Outlets, Written, boxed};
 use mg_bytes::{Draft, OutOfMemory};
 use std::alloc::{AllocError, Global};
@@ -264,5 +264,11 @@ pub fn serve_agent<R: Files + Net + Clock>(
         return ending;
     }
     tell_addresses(alloc, &wire.around, outlets);
-    serve_to_end(rt, alloc, board, wire, outlets)
+    let mut recording = Recording {
+        rt,
+        alloc,
+        outlets,
+        days: DayWatch::new(),
+    };
+    serve_to_end(rt, alloc, board, wire, &mut recording)
 }
