@@ -1,7 +1,6 @@
 -- What a tick leaves of a board and of a wire, gateway by gateway.
-use Rattle.std.proofs.Common.{◌≡◌, ◌⊎◌, inl, inr, ℕ, ◌+◌, zero, suc, Bool, true, false, List, length, Result, sym, subst, ◌∙◌, arith}
+use Rattle.std.proofs.Common.{◌≡◌, ◌⊎◌, inl, inr, ℕ, ◌+◌, zero, suc, Bool, true, false, List, length, Result, sym, subst, arith}
 use Rattle.std.specs.Prelude.{⊤}
-use Rattle.std.specs.declared.net.socket_addr.SocketAddr.{SocketAddr}
 use Rattle.std.specs.declared.net.socket_addr.SocketAddrV4.{SocketAddrV4}
 use Rattle.agent_texts.specs.declared.tally.Tally.{Tally}
 use Rattle.agent_texts.specs.Counts.{with_given_up}
@@ -13,7 +12,7 @@ use Rattle.live_agent.specs.Clock.{is_behind}
 use Rattle.live_agent.specs.Sending.{SendsOver, SettlesLines}
 use Rattle.live_agent.specs.Ticking.{GivesUpAll, GivesUpEach, GivesUpLast, GivesUpMany, GivesUpNext, GivesUpOne, TicksAll, TicksEach, TicksOne, WakesAll, WakesEach, WakesMany, WakesNext}
 use Rattle.live_agent.specs.Turning.{DoesTick, TickedOver}
-use Rattle.live_agent.proofs.SendingLemmas.{outputs_over, over_journal, over_none, passed_ends, passed_none, passed_rest, sent_more, ticked_over, ticks_over}
+use Rattle.live_agent.proofs.SendingLemmas.{outputs_over, over_journal, over_none, sent_more, ticked_over}
 use Rattle.live_agent.proofs.TypingLemmas.{by_gateways, gives_up, same_lines, settled_more}
 
 -- whether a command was given up

@@ -1,12 +1,9 @@
 //! Worked examples of what the parts of a turn do, as theorems: of each relation what it says of its parts.
 #![tactic(auto)]
 
-ghost use Rattle.std.specs.Prelude.{◌≡◌, ⊤, [], ◌∷◌, ◌++◌, ℕ, Bool, true, false, List, Option, Some, None, Result, Ok};
-ghost use Rattle.std.specs.Prelude.{codes, is_some, length, not, slice_get, vec_len};
+ghost use Rattle.std.specs.Prelude.{◌≡◌, ⊤, [], ℕ, true, false, length, not, slice_get};
 ghost use Rattle.std.specs.declared.net.socket_addr.SocketAddrV4.{SocketAddrV4};
 ghost use Rattle.call_office.specs.Waiting.{Settles};
-ghost use Rattle.surroundings.specs.declared.surroundings.Fault.{Fault};
-ghost use Rattle.surroundings.specs.declared.surroundings.Told.{Told};
 ghost use Rattle.switchboard.specs.Boards.{settling_in, taking_in, woken_at, SettlesIn, WakesIn};
 ghost use Rattle.switchboard.specs.Steps.{InOffice, LinesWaitOn, OthersStay};
 ghost use Rattle.switchboard.specs.declared.switchboard.Switchboard.{Switchboard};
