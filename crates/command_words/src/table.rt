@@ -7,12 +7,8 @@ use std::alloc::{AllocError, Global};
 pub enum Kind {
     /// By itself, and it has to.
     Bare,
-    /// With something behind it, and it has to.
-    Needed,
     /// With something behind it.
     Valued,
-    /// With something behind it, once or more.
-    Several,
     /// With a number behind it.
     Number,
     /// With something behind it; else this is meant.
@@ -32,9 +28,7 @@ fn hyphened<'a>(alloc: Global, name: &'static str) -> Arg<'a> {
 fn arg_of<'a>(alloc: Global, name: &'static str, kind: Kind) -> Arg<'a> {
     match kind {
         Kind::Bare => Arg::new(alloc, name).required(true),
-        Kind::Needed => hyphened(alloc, name).required(true),
         Kind::Valued => hyphened(alloc, name),
-        Kind::Several => hyphened(alloc, name).num_args(1usize..),
         Kind::Number => hyphened(alloc, name).value_parser(clap::value_parser!(u64)),
         Kind::Or(other) => hyphened(alloc, name).default_value(other),
         Kind::Flag => hyphened(alloc, name).action(ArgAction::SetTrue),

@@ -1,7 +1,7 @@
 -- Behind what an address stands, as it is told.
 use Rattle.std.specs.Prelude.{ℕ, codes, List}
 use Rattle.live_ends.specs.declared.address_words.AddressWord.{AddressWord}
-use Rattle.live_ends.specs.declared.address_words.AddressWord.TheVariants.{Listen, Phones, Http, Tell, Control, Own, Hook, Gateway, OwnKey}
+use Rattle.live_ends.specs.declared.address_words.AddressWord.TheVariants.{Listen, Phones, Http, Tell, Control, OwnKey}
 
 -- a word of a command line, or the key `own` of a configuration
 unfoldable pub word_text : AddressWord → List ℕ
@@ -10,7 +10,4 @@ word_text Phones = codes "--phones"
 word_text Http = codes "--http"
 word_text Tell = codes "--tell"
 word_text Control = codes "--control"
-word_text Own = codes "--own"
-word_text Hook = codes "--hook"
-word_text Gateway = codes "ADDRESS"
 word_text OwnKey = codes "own"

@@ -10,10 +10,6 @@ pub enum AddressWord {
     Http,
     Tell,
     Control,
-    Own,
-    Hook,
-    /// The word that stands by itself where a gateway is checked.
-    Gateway,
     /// The key of a call agent's configuration.
     OwnKey,
 }
@@ -30,9 +26,6 @@ impl AddressWord {
             AddressWord::Http => "--http",
             AddressWord::Tell => "--tell",
             AddressWord::Control => "--control",
-            AddressWord::Own => "--own",
-            AddressWord::Hook => "--hook",
-            AddressWord::Gateway => "ADDRESS",
             AddressWord::OwnKey => "own",
         }
     }

@@ -81,8 +81,7 @@ pub fn further_sentences_have_examples()
     // Words that have an address behind them are told as they are written, and so is a configuration's key.
     ensures gateway_words { map word_text (words.Listen ∷ words.Phones ∷ words.Http ∷ words.Tell ∷ [])
         ≡ codes "--listen" ∷ codes "--phones" ∷ codes "--http" ∷ codes "--tell" ∷ [] }
-    ensures agent_words { map word_text (words.Control ∷ words.Own ∷ words.Hook ∷ words.Gateway ∷ words.OwnKey ∷ [])
-        ≡ codes "--control" ∷ codes "--own" ∷ codes "--hook" ∷ codes "ADDRESS" ∷ codes "own" ∷ [] }
+    ensures agent_words { map word_text (words.Control ∷ words.OwnKey ∷ []) ≡ codes "--control" ∷ codes "own" ∷ [] }
     // Where a text says nothing of a network, what would stands there.
     ensures wanted { map wanted_by (faults.Lose ∷ faults.Copy ∷ faults.Seed ∷ [])
         ≡ codes "lose: 0% to 100%, once" ∷ codes "copy: 0% to 100%, once" ∷ codes "seed: a number, once" ∷ [] }

@@ -31,7 +31,7 @@ pub use crate::clock::{LiveClock, time_of_day};
 pub use crate::day::DayWatch;
 pub use crate::ending::{About, CommonEnding, FileNames, VERSION, network_in};
 pub use crate::files::read_file;
-pub use crate::live::{Live, SocketWanted, bind};
+pub use crate::live::{Live, SocketWanted};
 pub use crate::parting::{CaptureFiles, Parting};
 pub use crate::printing::put_printed;
 pub use crate::program::{Begun, OUT_OF_MEMORY, begin, end, open_capture, say_last};

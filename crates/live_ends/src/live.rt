@@ -64,8 +64,8 @@ impl SocketWanted {
     }
 }
 
-/// A socket at this address, that is waited for.
-pub fn bind<R: Net>(rt: &R, address: SocketAddrV4) -> io::Result<UdpSocket> {
+// A socket at this address, that is waited for.
+fn bind<R: Net>(rt: &R, address: SocketAddrV4) -> io::Result<UdpSocket> {
     UdpSocket::bind(rt, SocketAddr::V4(address))
 }
 
