@@ -1,6 +1,6 @@
 -- Endpoints that are saved and put back, and the marks that say which are saved.
 use Rattle.std.proofs.Common.{◌≡◌, ℕ, zero, suc, ◌+◌, ◌-◌, ◌<◌, ◌≤◌, ◌≢◌, ◌==◌, ◌||◌, Bool, true, false, List, [], ◌∷◌, ◌++◌, length, get_or, set, take, replicate, Option, Some, None, option_to_list, refl, sym, ap, ◌∙◌, append-nil, arith, get_or-set_other}
-use Rattle.std.specs.Prelude.{MatchOption, Result, Ok, Err, OnErr}
+use Rattle.std.specs.Prelude.{MatchOption, Result, Ok, Err, OnErr, slice_get}
 use Rattle.std.proofs.lemmas.Grind.{common_steps}
 use Rattle.std.proofs.lemmas.List.{set-set, set-get_or, set_comm, set_past, length-set, length_push, take_all, take_more, take_more_set, take-set}
 use Rattle.std.proofs.lemmas.Bool.Decides.{nat_tests}
@@ -85,6 +85,22 @@ restored_elsewhere (t ∷ log) es k d none =
     get_or-set_other (restored log es) t.place k t.endpoint d (λ same. other_of t.place k apart.0 (sym same))
     ∙ restored_elsewhere log es k d apart.1
 
+apart_from : (es : List Endpoint) (k j : ℕ) (x : Endpoint) → j ≢ k → slice_get (set es k x) j ≡ slice_get es j
+apart_from [] k j x other = refl
+apart_from (e ∷ es) zero zero x other = absurd (other refl)
+apart_from (e ∷ es) zero (suc j) x other = refl
+apart_from (e ∷ es) (suc k) zero x other = refl
+apart_from (e ∷ es) (suc k) (suc j) x other = apart_from es k j x (λ same. other (ap (λ (n : ℕ). suc n) same))
+
+-- so it is of what is at a place, if anything is
+pub restored_there : (log : List Saved) (es : List Endpoint) (k : ℕ) → is_saved k log ≡ false → slice_get (restored log es) k ≡ slice_get es k
+unfolding restored is_saved
+restored_there [] es k none = refl
+restored_there (t ∷ log) es k none =
+    let apart = or_none (t.place == k) (is_saved k log) none in
+    apart_from (restored log es) t.place k t.endpoint (λ same. other_of t.place k apart.0 (sym same))
+    ∙ restored_there log es k apart.1
+
 pub restored_length : (log : List Saved) (es : List Endpoint) → length (restored log es) ≡ length es
 unfolding restored
 restored_length [] es = refl
@@ -147,6 +163,44 @@ marked_none n touched log is k on = absurd (by n k (ap (λ t. get_or t k false) 
   by zero k e = absurd cc
   by (suc n) zero e = absurd cc
   by (suc n) (suc k) e = by n k e
+
+-- What is marked elsewhere
+
+-- what isn't marked isn't saved
+abbrev pub AllMarked : List Bool → List Saved → Type 0
+AllMarked marks log = (k : ℕ) → get_or marks k true ≡ false → is_saved k log ≡ false
+
+pub all_marked_none : (marks : List Bool) (slots : List Saved) → AllMarked marks (take 0 slots)
+unfolding is_saved
+all_marked_none marks slots k off = refl
+
+set_is_on : (marks : List Bool) (k : ℕ) → get_or (set marks k true) k true ≡ true
+set_is_on [] k = refl
+set_is_on (b ∷ marks) zero = refl
+set_is_on (b ∷ marks) (suc k) = set_is_on marks k
+
+pub all_marked_next : (marks marks' : List Bool) (slots : List Saved) (index place : ℕ) (saved : Saved) → index < length slots
+    → saved ≡ get_or slots index saved → place ≡ saved.place → marks' ≡ set marks place true → AllMarked marks (take index slots)
+    → AllMarked marks' (take (index + 1) slots)
+all_marked_next marks marks' slots index place saved inside there at is marked k off =
+    ap (is_saved k) (take_more slots index saved inside ∙ ap (λ (s : Saved). take index slots ++ s ∷ []) (sym there))
+    ∙ saved_snoc (take index slots) saved k ∙ by (saved.place == k) refl where
+      off_here : get_or (set marks saved.place true) k true ≡ false
+      off_here = ap (λ (n : ℕ). get_or (set marks n true) k true) (sym at) ∙ ap (λ (m : List Bool). get_or m k true) (sym is) ∙ off
+
+      never : (b : Bool) → b ≡ true → b ≡ false → ⊥
+      never b p q = absurd cc
+
+      neither : (a b : Bool) → a ≡ false → b ≡ false → (a || b) ≡ false
+      neither a b p q = rw (p, q) refl
+
+      by : (b : Bool) → (saved.place == k) ≡ b → (is_saved k (take index slots) || (saved.place == k)) ≡ false
+      by true same = absurd (never (get_or (set marks saved.place true) k true)
+          (ap (λ (n : ℕ). get_or (set marks n true) k true) (same_of saved.place k same) ∙ set_is_on marks k) off_here)
+      by false other =
+          let ne : k ≢ saved.place = λ e. other_of saved.place k other (sym e) in
+          neither (is_saved k (take index slots)) (saved.place == k)
+          (marked k (sym (get_or-set_other marks saved.place k true true ne) ∙ off_here)) other
 
 -- What is taken back
 

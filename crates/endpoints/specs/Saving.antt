@@ -27,6 +27,10 @@ is_saved place (saved ∷ more) = (saved.place == place) || is_saved place more
 abbrev pub IsMarked : List Bool → List Saved → Type 0
 IsMarked touched saved = (place : ℕ) → slice_index_or touched place false ≡ true → is_saved place saved ≡ true
 
+-- a place is marked, if there is a mark for it
+abbrev pub with_mark : ℕ → List Bool → List Bool
+with_mark place marks = slice_set marks place true
+
 -- the endpoint at this place, which is like this, is saved as well
 pub record IsSavedToo (place : ℕ) (endpoint : Endpoint) (touched touched' : List Bool) (saved saved' : List Saved) : Type 0 where
   pub flags : length touched' ≡ length touched

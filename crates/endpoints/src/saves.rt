@@ -1,6 +1,6 @@
 //! The endpoints that an event changes, as it found them.
-ghost use Rattle.std.specs.Prelude.{◌≡◌, ◌<◌, ◌≤◌, ◌+◌, [], length, vec_capacity, IfOk, OnOk, OnErr};
-ghost use Rattle.endpoints.specs.Saving.{with_saved, Popped, Forgotten, Fills, LeavesFilled};
+ghost use Rattle.std.specs.Prelude.{ℕ, ◌≡◌, ◌<◌, ◌≤◌, ◌+◌, [], false, true, length, slice_index_or, vec_capacity, IfOk, OnOk, OnErr};
+ghost use Rattle.endpoints.specs.Saving.{with_saved, is_saved, with_mark, Popped, Forgotten, Fills, LeavesFilled};
 
 use crate::rules::{copy_endpoint, same_endpoint};
 use mg_bytes::OutOfMemory;
@@ -69,6 +69,15 @@ fn fill(
     Ok(())
 }
 
+/// A place is marked, if there is a mark for it.
+pub(crate) fn mark(marks: &mut Vec<bool>, place: usize)
+    ensures { marks.new.items ≡ with_mark place marks.old.items }
+{
+    if place < marks.len() {
+        marks[place] = true;
+    }
+}
+
 impl Saves {
     /// Nothing is saved, and there is room for so many. An error is for want of memory only.
     pub(crate) fn new(alloc: Global, room: usize) -> Result<Saves, OutOfMemory>
@@ -88,6 +97,16 @@ impl Saves {
         fill(&mut self.slots, self.count, place, endpoint)?;
         self.count += 1;
         Ok(())
+    }
+
+    /// The places at which an endpoint is saved are marked, as far as there are marks.
+    pub(crate) fn mark_all(&self, marks: &mut Vec<bool>)
+        ensures marks { length marks.new.items ≡ length marks.old.items }
+        ensures unmarked { (place : ℕ) → slice_index_or marks.new.items place true ≡ false → is_saved place self.now.list ≡ false }
+    {
+        for index in 0..self.count {
+            mark(marks, self.slots[index].place);
+        }
     }
 
     /// The place of what was saved last, which is so no more; `None` where nothing is. Its room stays.

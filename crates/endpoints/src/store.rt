@@ -111,7 +111,7 @@ fn unmark(touched: &mut Vec<bool>, place: usize)
 }
 
 impl Store {
-    ghost use Rattle.std.specs.Prelude.{[], true, OnSome, option_copied};
+    ghost use Rattle.std.specs.Prelude.{[], true, OnSome, option_copied, slice_get, slice_index_or};
     ghost use Rattle.plain_machine.specs.Machine.{serves, endpoint_at};
     ghost use Rattle.plain_machine.specs.Acting.{acted};
     ghost use Rattle.plain_machine.specs.Refusing.{is_unheeded};
@@ -226,6 +226,16 @@ impl Store {
             self.own_saved = Some(same_post(self.endpoints.own())?);
         }
         Ok(self.endpoints.change_own(with, change))
+    }
+
+    /// The lines are marked whose endpoints the event changed so far, as far as there are marks, the first for line 1: where a mark
+    /// isn't set the endpoint is as the event found it.
+    pub fn mark_changed(&self, marks: &mut Vec<bool>)
+        ensures marks { length marks.new.items ≡ length marks.old.items }
+        ensures found { (place : ℕ) → slice_index_or marks.new.items place true ≡ false
+            → slice_get self.now.found.list place ≡ slice_get self.now.endpoints.list place }
+    {
+        self.saved.mark_all(marks);
     }
 
     /// What is there is what the next event finds: nothing is saved any more. The room stays.

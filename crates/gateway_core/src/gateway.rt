@@ -1,5 +1,5 @@
 //! The gateway.
-ghost use Rattle.std.specs.Prelude.{◌≡◌, ◌∷◌, [], List, map, option_map, ◌<◌, ◌≤◌, ◌^◌, Some, IfOk, IfErr, OnOk, OnErr};
+ghost use Rattle.std.specs.Prelude.{◌≡◌, is_ok, ◌∷◌, [], List, map, option_map, ◌<◌, ◌≤◌, ◌^◌, Some, IfOk, IfErr, OnOk, OnErr};
 ghost use Rattle.history.specs.Memory.{most_firsts};
 ghost use Rattle.plain_machine.specs.Setup.{setup_from, setup_of};
 ghost use Rattle.small_rules.specs.Numbering.{firsts};
@@ -8,6 +8,7 @@ ghost use Rattle.plain_machine.specs.Event.{GatewayEvent, event_of};
 ghost use Rattle.gateway_texts.specs.State.{machine_in};
 
 use crate::account::{Account, give_way};
+use crate::changing::{is_marked, no_marks};
 use crate::stopped::Stopped;
 use crate::working::step_state;
 use arrayvec::ArrayVec;
@@ -25,7 +26,7 @@ use std::marker::Model;
 use std::mem::swap;
 
 /// A residential gateway. A contract sees its setup, what it keeps of the plain machine, and what is told of the last event: what
-/// its texts were, what was sent, and what was given up; `Stands` says which lists of events it stands for.
+/// its texts were, what was sent, what was given up, and at which lines it may have changed something; `Stands` says which lists of events it stands for.
 pub struct Gateway {
     alloc: Global,
     setup: Setup,
@@ -37,6 +38,8 @@ pub struct Gateway {
     // What the last event that it took sent, and what was given up at it; and the same of the event under way.
     account: Account,
     account_under_way: Account,
+    // A mark for each line at which it may have changed something. Its room is there from the beginning too.
+    changed: Vec<bool>,
 }
 
 // Written out: a derived drop, and those of all its parts, are proved anew by each crate that lets one go.
@@ -50,6 +53,7 @@ impl Drop for Gateway {
             under_way,
             account,
             account_under_way,
+            changed,
         } = self;
         drop(setup);
         drop(state);
@@ -57,6 +61,7 @@ impl Drop for Gateway {
         drop(under_way);
         drop(account);
         drop(account_under_way);
+        drop(changed);
     }
 }
 
@@ -73,6 +78,7 @@ impl Model for Gateway {
       machine = machine_in g.state.value;
       outcomes = g.outcomes;
       account = account_in g.account;
+      changed = g.changed.items;
     } };
 
     ghost invariant = { λ g. IsSound g.setup (machine_in g.state.value) };
@@ -85,6 +91,7 @@ impl Gateway {
     ghost use Rattle.plain_machine.specs.Lists.{plain, hook_of, signals_of, connections_of, lost_of};
     ghost use Rattle.gateway_texts.specs.Outcomes.{last_outcomes};
     ghost use Rattle.gateway_core.specs.Accounts.{last_account};
+    ghost use Rattle.gateway_core.specs.Changing.{is_marked, Changes};
     ghost use Rattle.gateway_core.specs.Remembering.{remembered};
     ghost use Rattle.gateway_core.specs.Stands.{Stands, Opens, Took, StoppedAt};
 
@@ -111,6 +118,7 @@ impl Gateway {
         let under_way = Outcomes::new(alloc)?;
         let account = Account::new(alloc);
         let account_under_way = Account::new(alloc);
+        let changed = no_marks(alloc, setup.names.lines)?;
         Ok(Gateway {
             alloc,
             setup,
@@ -119,6 +127,7 @@ impl Gateway {
             under_way,
             account,
             account_under_way,
+            changed,
         })
     }
 
@@ -251,11 +260,20 @@ impl Gateway {
         self.account.given_up.as_slice()
     }
 
+    /// Whether the last event that was taken may have changed something at a line. Where it says no, hook state, signals and connections
+    /// are there as before that event. A refused event leaves what was told of the one before it.
+    pub fn is_changed(&self, line: u16) -> bool
+        ensures { result ≡ is_marked self.now.changed line }
+    {
+        is_marked(&self.changed, line)
+    }
+
     // One event, whose outputs go after those that there are.
     fn step_onto(&mut self, event: Event<'_>, outputs: &mut Outputs) -> Result<(), Refusal>
         ensures ok { OnOk result (Took self.old (event_of event.entry ∷ []) self.new outputs.old outputs.new) }
         ensures err { OnErr result (Took self.old [] self.new outputs.old outputs.new) }
         ensures ends { Ends self.old.machine (event_of event.entry) (result_err result) }
+        ensures changes { Changes (is_ok result) self.new.changed self.old.machine.endpoints self.new.machine.endpoints }
     {
         let context = Context {
             alloc: self.alloc,
@@ -267,6 +285,7 @@ impl Gateway {
             event,
             &mut self.under_way,
             &mut self.account_under_way,
+            &mut self.changed,
             outputs,
         ) {
             Ok(()) => {
@@ -287,6 +306,8 @@ impl Gateway {
         // It is refused exactly as the plain machine says, or for want of memory, and never so where it takes none.
         ensures ends { (before : List GatewayEvent) → Stands self.old before →
             Ends (plain self.old.setup before) (event_of event.entry) (result_err result) }
+        // Where it took the event, each line at which nothing is marked to have changed is as before; else each is.
+        ensures changes { Changes (is_ok result) self.new.changed self.old.machine.endpoints self.new.machine.endpoints }
     {
         let mut outputs = Outputs::new(self.alloc);
         match self.step_onto(event, &mut outputs) {

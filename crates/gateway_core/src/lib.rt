@@ -6,6 +6,7 @@
 
 mod account;
 mod acting;
+mod changing;
 pub mod examples;
 mod gateway;
 pub mod laws;

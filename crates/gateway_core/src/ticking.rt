@@ -7,7 +7,7 @@ ghost use Rattle.std.specs.Result.{result_err};
 ghost use Rattle.plain_machine.specs.Refusing.{ends};
 ghost use Rattle.gateway_rules.specs.Refusing.{tick_refusal};
 ghost use Rattle.endpoints.specs.Telling.{MayTell};
-ghost use Rattle.gateway_texts.specs.State.{machine_in, Happens};
+ghost use Rattle.gateway_texts.specs.State.{machine_in, found_in, Happens};
 
 use endpoints::{Context, is_due, pass};
 use gateway_rules::tick_refusal;
@@ -27,6 +27,7 @@ pub(crate) fn tick(
         (pass context.entry.setup.now state.old.store.endpoints moment)) state.old state.new }
     ensures given_up { OnOk result (given_up.new.items
         ≡ given_up.old.items ++ given_up_until context.entry.setup.now state.old.store.endpoints moment) }
+    ensures found { OnOk result (found_in state.new ≡ found_in state.old) }
     ensures ends { ends (tick_refusal state.old.clock moment)
         (not (is_due state.old.store.endpoints moment)) (result_err result) }
 {

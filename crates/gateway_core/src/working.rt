@@ -1,5 +1,5 @@
 //! What an event does, with all that it sends: all of it, or nothing.
-ghost use Rattle.std.specs.Prelude.{◌≡◌, OnOk, OnErr};
+ghost use Rattle.std.specs.Prelude.{◌≡◌, is_ok, OnOk, OnErr};
 ghost use Rattle.plain_machine.specs.Event.{event_of};
 ghost use Rattle.plain_machine.specs.Happening.{effect};
 ghost use Rattle.plain_machine.specs.Labelling.{labels_of};
@@ -12,9 +12,11 @@ ghost use Rattle.gateway_texts.specs.State.{machine_in, found_in, purged_in, Hap
 ghost use Rattle.gateway_texts.specs.Outcomes.{outcomes_of};
 ghost use Rattle.gateway_core.specs.Accounts.{account_of};
 ghost use Rattle.gateway_core.specs.AccountState.{account_in};
+ghost use Rattle.gateway_core.specs.Changing.{Changes, StaysFound};
 
 use crate::account::Account;
 use crate::acting::act_on;
+use crate::changing::mark;
 use crate::parting::part;
 use crate::ticking::tick;
 use endpoints::Context;
@@ -38,6 +40,7 @@ fn happen(
         ≡ outcomes_of context.entry.setup.now (machine_in state.old) (event_of event.entry)) }
     ensures given_up { OnOk result (given_up.new.items
         ≡ given_up_with context.entry.setup.now (machine_in state.old) (event_of event.entry)) }
+    ensures stays { OnOk result (StaysFound (event_of event.entry) state.old state.new) }
     ensures ends { Ends (machine_in state.old) (event_of event.entry) (result_err result) }
 {
     told.clear();
@@ -70,6 +73,7 @@ fn carry_out(
         ≡ given_up_with context.entry.setup.now (machine_in state.old) (event_of event.entry)) }
     ensures err { OnErr result (outputs.new ≡ outputs.old) }
     ensures found { OnErr result (found_in state.new ≡ found_in state.old) }
+    ensures stays { OnOk result (StaysFound (event_of event.entry) state.old state.new) }
     ensures ends { Ends (machine_in state.old) (event_of event.entry) (result_err result) }
 {
     let sent = happen(context, state, event, told, &mut account.given_up)?;
@@ -82,13 +86,15 @@ fn carry_out(
     Ok(())
 }
 
-// The same after a purge; after a refusal the machine is as it was too, but for the purge.
+// The same after a purge; after a refusal the machine is as it was too, but for the purge. The lines at which it may have changed
+// something are marked, unless it is refused.
 fn attempt(
     context: Context<'_>,
     state: &mut State,
     event: Event<'_>,
     told: &mut Outcomes,
     account: &mut Account,
+    changed: &mut Vec<bool>,
     outputs: &mut Outputs,
 ) -> Result<(), Refusal>
     requires { IsSound context.setup.now (machine_in state.old) }
@@ -101,6 +107,8 @@ fn attempt(
         ≡ labels_of (effect context.entry.setup.now (purged_in (machine_in state.old)) (event_of event.entry)).sent) }
     ensures given_up { OnOk result (account.new.given_up.items
         ≡ given_up_with context.entry.setup.now (purged_in (machine_in state.old)) (event_of event.entry)) }
+    ensures changes { Changes (is_ok result) changed.new.items state.old.store.endpoints state.new.store.endpoints }
+    ensures unmarked { OnErr result (changed.new ≡ changed.old) }
     ensures ends { Ends (machine_in state.old) (event_of event.entry) (result_err result) }
 {
     let clock = state.clock;
@@ -108,6 +116,7 @@ fn attempt(
     state.history.purge(clock);
     match carry_out(context, state, event, told, account, outputs) {
         Ok(()) => {
+            mark(&state.store, event, changed);
             state.store.commit();
             Ok(())
         }
@@ -120,14 +129,15 @@ fn attempt(
     }
 }
 
-/// One event, whose outputs go after those that there are. What its texts were is told, what it sent, and what was given up,
-/// unless it is refused; after a refusal all that the gateway stands for stays.
+/// One event, whose outputs go after those that there are. What its texts were is told, what it sent, what was given up, and
+/// at which lines it may have changed something, unless it is refused; after a refusal all that the gateway stands for stays.
 pub(crate) fn step_state(
     context: Context<'_>,
     state: &mut State,
     event: Event<'_>,
     told: &mut Outcomes,
     account: &mut Account,
+    changed: &mut Vec<bool>,
     outputs: &mut Outputs,
 ) -> Result<(), Refusal>
     requires { IsSound context.setup.now (machine_in state.old) }
@@ -140,7 +150,9 @@ pub(crate) fn step_state(
         (account_in account.new ≡ account_of context.entry.setup.now m (event_of event.entry)) }
     ensures err { (m : _) → Alike (machine_in state.old) m → OnErr result (Alike (machine_in state.new) m) }
     ensures no_outputs { OnErr result (outputs.new ≡ outputs.old) }
+    ensures changes { Changes (is_ok result) changed.new.items state.old.store.endpoints state.new.store.endpoints }
+    ensures unmarked { OnErr result (changed.new ≡ changed.old) }
     ensures ends { Ends (machine_in state.old) (event_of event.entry) (result_err result) }
 {
-    attempt(context, state, event, told, account, outputs)
+    attempt(context, state, event, told, account, changed, outputs)
 }

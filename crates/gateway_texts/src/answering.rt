@@ -14,7 +14,7 @@ ghost use Rattle.endpoints.specs.Telling.{MayTell};
 ghost use Rattle.transmission.specs.Confirming.{spans_of};
 ghost use Rattle.plain_machine.specs.Answering.{transaction, executed, handled, took_all};
 ghost use Rattle.gateway_texts.specs.declared.outcome.Reply.TheVariants.{First};
-ghost use Rattle.gateway_texts.specs.State.{machine_in, Does, Happens};
+ghost use Rattle.gateway_texts.specs.State.{machine_in, found_in, Does, Happens};
 ghost use Rattle.gateway_texts.specs.Hearing.{left_done, left_outcome};
 ghost use Rattle.gateway_texts.specs.Outcomes.{text_outcome, text_outcomes};
 
@@ -249,6 +249,7 @@ pub fn take_datagram(
         state.old state.new }
     ensures told { OnOk result (told.new
         ≡ text_outcomes context.entry.setup.now (machine_in state.old) source (texts_of bytes.now)) }
+    ensures found { OnOk result (found_in state.new ≡ found_in state.old) }
     ensures ends { ends None (nat_lt largest_datagram (length bytes.now)) (result_err result) }
 {
     let mut out = Vec::new(context.alloc);

@@ -4,6 +4,7 @@ use Rattle.std.specs.Global.{Box}
 use Rattle.std.specs.declared.net.socket_addr.SocketAddr.{SocketAddr}
 use Rattle.std.specs.declared.net.socket_addr.SocketAddrV4.{SocketAddrV4}
 use Rattle.mg_bytes.specs.Lists.{is_empty}
+use Rattle.gateway_core.specs.Changing.{Changes}
 use Rattle.gateway_core.specs.Stands.{Stands}
 use Rattle.gateway_core.specs.Wire.{counted}
 use Rattle.gateway_rules.specs.declared.refusal.Refusal.{Refusal}
@@ -148,7 +149,8 @@ pub record IsSituation {S T V : Type 0}
   pub ready : at.ready ≡ ready_at told (not (is_empty (left_of was.lines))) (next_due was.exchange.network) at.ticked is_visited
 
 -- It does what comes next by its schedule, as things stand, and goes on with the schedule behind that; what it records has the time of day
--- that was told as the turn began. Who watches is told then what changed. Visitors have a turn where that is what comes next, and no other one.
+-- that was told as the turn began. The gateway took an event at it, or none, and then no line of it changed; who watches is told then what
+-- changed, where it took one. Visitors have a turn where that is what comes next, and no other one.
 pub record DoesNext {S T V : Type 0}
     (told : T → Option (List ℕ)) (traffic : S → Traffic) (sockets : S → List SocketAddrV4)
     (passes : S → Result ℕ Fault → Type 0) (dates : S → ℕ → Type 0) (tells : S → Told → Type 0)
@@ -173,11 +175,14 @@ pub record DoesNext {S T V : Type 0}
   pub faults : begun.exchange.faults ≡ faults_by situation.clock was.exchange.faults
   pub does : Does told traffic sockets tells receives sends hears answers turn begun done
   pub leaves : Leaves traffic dates tells sleeps serves at.moment turn visitors left begun done
+  pub taken : Bool
+  pub changes : Changes taken done.play.gateway.value.changed begun.play.gateway.value.machine.endpoints
+      done.play.gateway.value.machine.endpoints
   pub behind : is ≡ record done { exchange = record done.exchange { around = is.exchange.around }; watch = is.watch }
   pub kept : traffic is.exchange.around ≡ traffic done.exchange.around
   pub still : WatchesStill answers done.watch.watchers.places is.exchange.around is.watch.watchers.places
   pub watch : (events : List GatewayEvent) → Stands done.play.gateway.value events
-      → WatchesOn answers done.play.gateway.value.setup (plain done.play.gateway.value.setup events)
+      → WatchesOn taken answers done.play.gateway.value.changed done.play.gateway.value.setup (plain done.play.gateway.value.setup events)
       done.exchange.around done.watch is.exchange.around is.watch
 
 -- A turn was done, and then what was recorded at it was written, at its time: of the desk, that changes only what is recorded and told, as

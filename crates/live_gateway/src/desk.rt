@@ -6,6 +6,7 @@ ghost use Rattle.turns.specs.Runs.{is_end};
 ghost use Rattle.turns.specs.Schedule.{opening};
 ghost use Rattle.plain_machine.specs.Event.{GatewayEvent};
 ghost use Rattle.plain_machine.specs.Lists.{plain};
+ghost use Rattle.gateway_core.specs.Changing.{Changes};
 ghost use Rattle.gateway_core.specs.Stands.{Stands};
 ghost use Rattle.live_journal.specs.Recording.{trace_head, Begins};
 ghost use Rattle.live_telephones.specs.Losses.{counts_text};
@@ -146,16 +147,18 @@ pub fn open_desk<S: Surroundings + Drop>(
 }
 
 impl<S: Surroundings + Drop, T: Teller + Drop> Desk<S, T> {
-    // A datagram is taken, if one is there, and who sent it is heard.
-    fn datagram(&mut self)
+    // A datagram is taken, if one is there, and who sent it is heard: whether the gateway took it.
+    fn datagram(&mut self) -> bool
         ensures play { GoesOn T.told S.traffic self.old self.new }
         ensures looked { LooksForOne T.told S.traffic S.receives S.sends self.old self.new }
         ensures rest { OnlyPlays self.old self.new }
+        ensures changes { Changes result self.new.play.gateway.value.changed self.old.play.gateway.value.machine.endpoints
+            self.new.play.gateway.value.machine.endpoints }
     {
         let mut room = [0u8; DATAGRAM_ROOM];
         let admission = &self.admission;
         let Some((source, len)) = self.exchange.receive(admission, &mut room) else {
-            return;
+            return false;
         };
         let bytes = &room[..len];
         read_address(source);
@@ -176,6 +179,7 @@ impl<S: Surroundings + Drop, T: Teller + Drop> Desk<S, T> {
             self.play.gateway.sent(),
             speakers,
         );
+        is_taken
     }
 
     /// What was counted so far, as text. Its only error is want of memory.
@@ -230,27 +234,30 @@ impl<S: Surroundings + Drop, T: Teller + Drop> Desk<S, T> {
         }
     }
 
-    // What the line asks for that is to be answered next is done.
+    // What the line asks for that is to be answered next is done: whether the gateway took it.
     #[tactic(auto, using(crate::proofs::DeskLemmas::stays_so, crate::proofs::DeskLemmas::stays))]
-    fn take_line(&mut self)
+    fn take_line(&mut self) -> bool
         ensures play { GoesOn T.told S.traffic self.old self.new }
         ensures line { DoesLine T.told S.traffic S.sends S.answers self.old self.new }
+        ensures changes { Changes result self.new.play.gateway.value.changed self.old.play.gateway.value.machine.endpoints
+            self.new.play.gateway.value.machine.endpoints }
         ensures schedule { self.new.schedule ≡ self.old.schedule }
     {
         let is_here = self.lines.is_from_loopback();
         let is_afar = self.lines.is_from_afar();
         let who = typist_of(is_here, is_afar, self.admission.are_phones_open);
         let Some(text) = self.lines.line() else {
-            return;
+            return false;
         };
         match request_in(self.alloc, text, who) {
             TelephoneRequest::Act { line, act } => {
                 let now = self.exchange.now;
                 self.exchange.journal.act(now, text);
                 let done = self.play.act(&mut self.exchange, text, line, act);
+                let is_taken = done.is_ok();
                 note_taken(
                     &mut self.exchange,
-                    done.is_ok(),
+                    is_taken,
                     self.play.gateway.sent(),
                     &self.admission.speakers,
                 );
@@ -259,13 +266,18 @@ impl<S: Surroundings + Drop, T: Teller + Drop> Desk<S, T> {
                 let clock = self.exchange.now.clock;
                 self.exchange.journal.answered(clock, answer);
                 self.lines.answer(&mut self.exchange.around, answer);
+                is_taken
             }
             TelephoneRequest::Show { line } => {
                 let asked = self.play.ask(text, line);
                 let answer = question_answer(asked, self.play.printed());
                 self.lines.answer(&mut self.exchange.around, answer);
+                false
             }
-            other => self.answer_request(other),
+            other => {
+                self.answer_request(other);
+                false
+            }
         }
     }
 
@@ -292,8 +304,13 @@ impl<S: Surroundings + Drop, T: Teller + Drop> Desk<S, T> {
         );
     }
 
-    // A turn of somebody's, or a wait, where it is now this moment.
-    fn do_turn<V: Visitors<S>>(&mut self, turn: Turn, visitors: &mut Option<Box<V>>, moment: u64)
+    // A turn of somebody's, or a wait, where it is now this moment: whether the gateway took an event at it.
+    fn do_turn<V: Visitors<S>>(
+        &mut self,
+        turn: Turn,
+        visitors: &mut Option<Box<V>>,
+        moment: u64,
+    ) -> bool
         requires { (to : ℕ) → turn ≡ Turn.Tick to
             → (to < first_unread) × ((events : List GatewayEvent) → Stands self.old.play.gateway.value events
             → (plain self.old.play.gateway.value.setup events).now < to) }
@@ -301,23 +318,27 @@ impl<S: Surroundings + Drop, T: Teller + Drop> Desk<S, T> {
         ensures does { Does T.told S.traffic S.sockets S.tells S.receives S.sends S.hears S.answers turn self.old self.new }
         ensures leaves { Leaves S.traffic S.dates S.tells S.sleeps V.serves moment turn visitors.old visitors.new self.old self.new }
         ensures over { is_end turn ≡ true → (self.new.play ≡ self.old.play) × (self.new.end ≡ self.old.end) }
+        ensures changes { Changes result self.new.play.gateway.value.changed self.old.play.gateway.value.machine.endpoints
+            self.new.play.gateway.value.machine.endpoints }
     {
         match turn {
             Turn::Tick { moment } => {
                 self.exchange.begin(moment);
                 let done = self.play.tick(&mut self.exchange, moment);
+                let is_taken = done.is_ok();
                 note_taken(
                     &mut self.exchange,
-                    done.is_ok(),
+                    is_taken,
                     self.play.gateway.sent(),
                     &self.admission.speakers,
                 );
+                is_taken
             }
             // A line is taken, if one is there. Who types and the page take turns: behind what was typed comes one act of the page's.
             Turn::Command => {
                 let was_page = self.is_of_page;
                 self.exchange.hear(&mut self.lines);
-                self.take_line();
+                let is_taken = self.take_line();
                 self.is_of_page = take_from_page(
                     self.alloc,
                     &mut self.exchange,
@@ -325,21 +346,32 @@ impl<S: Surroundings + Drop, T: Teller + Drop> Desk<S, T> {
                     !was_page,
                     false,
                 );
+                is_taken
             }
             Turn::Datagram => self.datagram(),
-            Turn::Visit => self.visit(visitors, moment),
-            Turn::Look => self.exchange.wait(0),
-            Turn::Wait { until } => self.exchange.wait(until.saturating_sub(moment)),
+            Turn::Visit => {
+                self.visit(visitors, moment);
+                false
+            }
+            Turn::Look => {
+                self.exchange.wait(0);
+                false
+            }
+            Turn::Wait { until } => {
+                self.exchange.wait(until.saturating_sub(moment));
+                false
+            }
             Turn::Note { pause } => {
                 let now = self.exchange.now;
                 let log = &mut self.exchange.journal.log;
                 log.pause(now, pause.lateness, pause.read);
+                false
             }
-            Turn::End => {}
+            Turn::End => false,
         }
     }
 
-    /// Asks what comes next and does that, and who watches is told what changed: whether the end hasn't come. Once ticks have come to the
+    /// Asks what comes next and does that, and who watches is told what changed, where an event was taken: whether the end hasn't come. Once ticks have come to the
     /// end nothing more is done.
     pub fn turn<V: Visitors<S>>(&mut self, visitors: &mut Option<Box<V>>) -> bool
         ensures play { GoesOn T.told S.traffic self.old self.new }
@@ -361,9 +393,13 @@ impl<S: Surroundings + Drop, T: Teller + Drop> Desk<S, T> {
         );
         let turn = self.schedule.next(at);
         self.exchange.begin(at.ticked);
-        self.do_turn(turn, visitors, at.moment);
-        self.watch
-            .tell(self.alloc, &mut self.exchange.around, &self.play.gateway);
+        let is_taken = self.do_turn(turn, visitors, at.moment);
+        self.watch.tell(
+            self.alloc,
+            &mut self.exchange.around,
+            &self.play.gateway,
+            is_taken,
+        );
         !is_end(turn)
     }
 

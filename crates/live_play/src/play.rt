@@ -1,11 +1,12 @@
 //! The play.
-ghost use Rattle.std.specs.Prelude.{◌≡◌, ◌∷◌, [], List, Option, Some, None, IfOk, IfErr, IfSome, OnOk, OnErr};
+ghost use Rattle.std.specs.Prelude.{◌≡◌, is_ok, ◌∷◌, [], List, Option, Some, None, IfOk, IfErr, IfSome, OnOk, OnErr};
 ghost use Rattle.std.specs.Result.{result_err};
 ghost use Rattle.surroundings.specs.Sending.{Sent, Grows};
 ghost use Rattle.mg_bytes.specs.Words.{words};
 ghost use Rattle.plain_machine.specs.Event.{GatewayEvent, event_of, datagram, phone, tick};
 ghost use Rattle.plain_machine.specs.Lists.{plain};
 ghost use Rattle.plain_machine.specs.Refusing.{Ends, refusal_of};
+ghost use Rattle.gateway_core.specs.Changing.{Changes};
 ghost use Rattle.gateway_core.specs.Stands.{Stands, Took};
 ghost use Rattle.rgw_scripts.specs.declared.step.ScriptStep.TheVariants.{Phone, Show};
 ghost use Rattle.rgw_scripts.specs.declared.step.ScriptLine.TheVariants.{Whole};
@@ -60,6 +61,7 @@ fn take(gateway: &mut Box<Gateway>, event: Event<'_>) -> Result<Outputs, Refusal
     ensures err { OnErr result (Took gateway.old.value [] gateway.new.value [] []) }
     ensures ends { (before : List GatewayEvent) → Stands gateway.old.value before →
         Ends (plain gateway.old.value.setup before) (event_of event.entry) (result_err result) }
+    ensures changes { Changes (is_ok result) gateway.new.value.changed gateway.old.value.machine.endpoints gateway.new.value.machine.endpoints }
 {
     gateway.step(event)
 }
@@ -111,6 +113,7 @@ impl<T: Teller + Drop> LivePlay<T> {
             (live self.new.gateway.value self.new.script (T.told self.new.teller) (O.handed out.new)) out.new }
         ensures came { O.came out.new ≡ O.came out.old }
         ensures printed { self.new.printed ≡ self.old.printed }
+        ensures gateway { self.new.gateway ≡ self.old.gateway }
     {
         out.turned(&self.gateway);
         let messages = self.gateway.sent();
@@ -137,6 +140,8 @@ impl<T: Teller + Drop> LivePlay<T> {
         ensures untouched { OnErr result (out.new ≡ out.old) }
         ensures ends { (before : List GatewayEvent) → Stands self.old.gateway.value before →
             Ends (plain self.old.gateway.value.setup before) (tick moment) (result_err result) }
+        ensures changes { Changes (is_ok result) self.new.gateway.value.changed self.old.gateway.value.machine.endpoints
+            self.new.gateway.value.machine.endpoints }
         ensures printed { self.new.printed ≡ self.old.printed }
         ensures unheard { OnErr result (self.new ≡ record self.old { gateway = self.new.gateway }) }
     {
@@ -178,6 +183,8 @@ impl<T: Teller + Drop> LivePlay<T> {
         ensures untouched { OnErr result (out.new ≡ out.old) }
         ensures ends { (before : List GatewayEvent) → Stands self.old.gateway.value before →
             Ends (plain self.old.gateway.value.setup before) (datagram source bytes.now) (result_err result) }
+        ensures changes { Changes (is_ok result) self.new.gateway.value.changed self.old.gateway.value.machine.endpoints
+            self.new.gateway.value.machine.endpoints }
         ensures printed { self.new.printed ≡ self.old.printed }
         ensures unheard { OnErr result (self.new ≡ record self.old { gateway = self.new.gateway }) }
     {
@@ -229,6 +236,8 @@ impl<T: Teller + Drop> LivePlay<T> {
         ensures ends { (before : List GatewayEvent) → Stands self.old.gateway.value before
             → refusal_of (plain self.old.gateway.value.setup before) (phone line act) ≡ None
             → Ends (plain self.old.gateway.value.setup before) (phone line act) (result_err result) }
+        ensures changes { Changes (is_ok result) self.new.gateway.value.changed self.old.gateway.value.machine.endpoints
+            self.new.gateway.value.machine.endpoints }
         ensures printed { OnOk result (self.new.printed ≡ self.old.printed) }
         ensures unheard { IfErr result (λ refusal. refusal ≡ Refusal.OutOfMemory
             → (T.told self.new.teller ≡ T.told self.old.teller) × (self.new.script ≡ self.old.script)) }

@@ -1,5 +1,5 @@
 -- How those who watch are told something one behind the other.
-use Rattle.std.proofs.Common.{◌≡◌, ℕ, true, zero, suc, ◌+◌, ◌-◌, ◌<◌, length, take, get_or, List, [], ◌∷◌, ◌++◌, Option, Some, inl, inr, refl, ap, ◌∙◌, subst, Result, Ok, Err, IfErr, OnErr, arith}
+use Rattle.std.proofs.Common.{◌≡◌, ℕ, Bool, true, false, zero, suc, ◌+◌, ◌-◌, ◌<◌, length, take, get_or, List, [], ◌∷◌, ◌++◌, Option, Some, inl, inr, refl, ap, ◌∙◌, subst, Result, Ok, Err, IfErr, OnErr, arith}
 use Rattle.std.proofs.lemmas.List.{take_more}
 use Rattle.std.specs.Prelude.{slice_get}
 use Rattle.std.specs.declared.net.socket_addr.SocketAddr.{SocketAddr}
@@ -8,6 +8,7 @@ use Rattle.line_changes.specs.declared.watchers.Watcher.{Watcher}
 use Rattle.line_changes.specs.declared.watchers.Watchers.{Watchers}
 use Rattle.line_changes.specs.Watching.{is_watched}
 use Rattle.surroundings.specs.Hearing.{AnswersTo}
+use Rattle.gateway_core.specs.Changing.{is_marked}
 use Rattle.gateway_core.specs.GatewayState.{GatewayState}
 use Rattle.gateway_core.specs.Stands.{Stands}
 use Rattle.plain_machine.specs.declared.setup.Setup.{Setup}
@@ -18,7 +19,7 @@ use Rattle.live_telephones.specs.declared.watch.Watch.{Watch}
 use Rattle.line_changes.specs.Seen.{SeenLine}
 use Rattle.line_changes.specs.Telling.{Told, with_changes}
 use Rattle.live_telephones.specs.Seeing.{seen_of}
-use Rattle.live_telephones.specs.Watching.{changes_behind, sender_at, RefusesLine, TellsEach, TellsLine, TellsLines, TellsSome, IsUnasked}
+use Rattle.live_telephones.specs.Watching.{changes_behind, sender_at, RefusesLine, TellsEach, TellsIf, TellsLine, TellsLines, TellsSome, IsUnasked}
 
 tells_behind : {S : Type 0} (answers : S → SocketAddr → List ℕ → S → Type 0) (now : ℕ) (places : List (Option Watcher)) (held : Option Watcher)
     (text : List ℕ) (was mid is : S) → TellsEach answers now places was text mid → AnswersTo answers (sender_at now held) mid text is
@@ -41,32 +42,40 @@ refused_so (Ok a) P so = tt
 refused_so (Err e) P so = so
 
 -- of no line anything is told yet
-pub tells_none_yet : {S : Type 0} (answers : S → SocketAddr → List ℕ → S → Type 0) (setup : Setup) (m : Machine) (around : S) (watch : Watch)
-    → TellsLines answers setup m 0 around watch around watch
+pub tells_none_yet : {S : Type 0} (answers : S → SocketAddr → List ℕ → S → Type 0) (marks : List Bool) (setup : Setup) (m : Machine) (around : S)
+    (watch : Watch) → TellsLines answers marks setup m 0 around watch around watch
 unfolding TellsLines
-tells_none_yet answers setup m around watch = (refl, refl)
+tells_none_yet answers marks setup m around watch = (refl, refl)
 
-tells_suc : {S : Type 0} (answers : S → SocketAddr → List ℕ → S → Type 0) (setup : Setup) (m : Machine) (line : ℕ) (before : S) (was : Watch)
-    (between : S) (mid : Watch) (after : S) (is : Watch) → TellsLines answers setup m line before was between mid
-    → TellsLine answers setup m (suc line) between mid after is → TellsLines answers setup m (suc line) before was after is
+tells_suc : {S : Type 0} (answers : S → SocketAddr → List ℕ → S → Type 0) (marks : List Bool) (setup : Setup) (m : Machine) (line : ℕ)
+    (before : S) (was : Watch) (between : S) (mid : Watch) (after : S) (is : Watch) → TellsLines answers marks setup m line before was between mid
+    → TellsIf (is_marked marks (suc line)) answers setup m (suc line) between mid after is
+    → TellsLines answers marks setup m (suc line) before was after is
 unfolding TellsLines
-tells_suc answers setup m line before was between mid after is some one = (between, mid, some, one)
+tells_suc answers marks setup m line before was between mid after is some one = (between, mid, some, one)
 
 -- what changed at the next line is told behind that
-pub tells_next_line : {S : Type 0} (answers : S → SocketAddr → List ℕ → S → Type 0) (setup : Setup) (m : Machine) (line : ℕ) (before : S)
-    (was : Watch) (between : S) (mid : Watch) (after : S) (is : Watch) → TellsLines answers setup m line before was between mid
-    → TellsLine answers setup m (line + 1) between mid after is → TellsLines answers setup m (line + 1) before was after is
-tells_next_line answers setup m line before was between mid after is some one =
+pub tells_next_line : {S : Type 0} (answers : S → SocketAddr → List ℕ → S → Type 0) (marks : List Bool) (setup : Setup) (m : Machine) (line : ℕ)
+    (before : S) (was : Watch) (between : S) (mid : Watch) (after : S) (is : Watch) → TellsLines answers marks setup m line before was between mid
+    → TellsIf (is_marked marks (line + 1)) answers setup m (line + 1) between mid after is
+    → TellsLines answers marks setup m (line + 1) before was after is
+tells_next_line answers marks setup m line before was between mid after is some one =
     let same : line + 1 ≡ suc line = omega arith in
-    rw same (tells_suc answers setup m line before was between mid after is some (rw same at one))
+    rw same (tells_suc answers marks setup m line before was between mid after is some (rw same at one))
 
 -- who watches does so still
-pub still_watch : {S : Type 0} (answers : S → SocketAddr → List ℕ → S → Type 0) (setup : Setup) (m : Machine) (line : ℕ) (before : S)
-    (was : Watch) (after : S) (is : Watch) → TellsLines answers setup m line before was after is → is.watchers ≡ was.watchers
+watches_if : {S : Type 0} (marked : Bool) (answers : S → SocketAddr → List ℕ → S → Type 0) (setup : Setup) (m : Machine) (line : ℕ) (before : S)
+    (was : Watch) (after : S) (is : Watch) → TellsIf marked answers setup m line before was after is → is.watchers ≡ was.watchers
+watches_if true answers setup m line before was after is one = one.watchers
+watches_if false answers setup m line before was after is (around, same) = ap (λ (w : Watch). w.watchers) same
+
+pub still_watch : {S : Type 0} (answers : S → SocketAddr → List ℕ → S → Type 0) (marks : List Bool) (setup : Setup) (m : Machine) (line : ℕ)
+    (before : S) (was : Watch) (after : S) (is : Watch) → TellsLines answers marks setup m line before was after is → is.watchers ≡ was.watchers
 unfolding TellsLines
-still_watch answers setup m zero before was after is (around, same) = ap (λ (w : Watch). w.watchers) same
-still_watch answers setup m (suc line) before was after is (between, mid, some, one) =
-    one.watchers ∙ still_watch answers setup m line before was between mid some
+still_watch answers marks setup m zero before was after is (around, same) = ap (λ (w : Watch). w.watchers) same
+still_watch answers marks setup m (suc line) before was after is (between, mid, some, one) =
+    watches_if (is_marked marks (suc line)) answers setup m (suc line) between mid after is one
+    ∙ still_watch answers marks setup m line before was between mid some
 
 -- where memory is refused some of these changes were told, by names for what was told and for what changed
 pub some_put : {A E : Type 0} (done : Result A E) (moment line : ℕ) (told were is : Told) (list changes : List Change) → told ≡ were → list ≡ changes
@@ -98,6 +107,11 @@ refuses_some setup m line moment count was is seen now so kept told = record {
 }
 
 -- the line behind so many
+pub marked_next : (marks : List Bool) (line : ℕ) → is_marked marks (line + 1) ≡ true → is_marked marks (suc line) ≡ true
+marked_next marks line marked =
+    let same : line + 1 ≡ suc line = omega arith in
+    subst (λ (n : ℕ). is_marked marks n ≡ true) same marked
+
 pub refuses_next : (setup : Setup) (m : Machine) (line : ℕ) (was is : Watch) → RefusesLine setup m (line + 1) was is
     → RefusesLine setup m (suc line) was is
 refuses_next setup m line was is refuses =
@@ -105,11 +119,11 @@ refuses_next setup m line was is refuses =
     subst (λ (n : ℕ). RefusesLine setup m n was is) same refuses
 
 -- who watched does so no more
-pub refused_and_over : {S : Type 0} (answers : S → SocketAddr → List ℕ → S → Type 0) (setup : Setup) (m : Machine) (before : S) (was : Watch) (after : S)
-    (left : Watch) (watchers : Watchers) → TellsSome answers setup m before was after left
-    → TellsSome answers setup m before was after (record left { watchers = watchers })
-refused_and_over answers setup m before was after left watchers (line, mid, few, lines, refuses) =
-    (line, mid, few, lines, record { kept = refuses.kept; number = refuses.number })
+pub refused_and_over : {S : Type 0} (answers : S → SocketAddr → List ℕ → S → Type 0) (marks : List Bool) (setup : Setup) (m : Machine) (before : S)
+    (was : Watch) (after : S) (left : Watch) (watchers : Watchers) → TellsSome answers marks setup m before was after left
+    → TellsSome answers marks setup m before was after (record left { watchers = watchers })
+refused_and_over answers marks setup m before was after left watchers (line, mid, few, marked, lines, refuses) =
+    (line, mid, few, marked, lines, record { kept = refuses.kept; number = refuses.number })
 
 -- ---- memory is refused for a watch
 

@@ -1,5 +1,5 @@
 -- What who watches is told of a line, and who that is.
-use Rattle.std.specs.Prelude.{◌≡◌, ◌⊎◌, ◌<◌, ℕ, zero, suc, ◌-◌, true, false, slice_get, slice_set, codes, decimal, List, [], ◌∷◌, ◌++◌, map, take, Option, Some, None, option_map}
+use Rattle.std.specs.Prelude.{◌≡◌, ◌⊎◌, ◌<◌, ℕ, zero, suc, ◌-◌, ◌&&◌, Bool, true, false, slice_get, slice_set, codes, decimal, List, [], ◌∷◌, ◌++◌, map, take, Option, Some, None, option_map}
 use Rattle.std.specs.declared.net.socket_addr.SocketAddr.{SocketAddr}
 use Rattle.std.specs.declared.net.socket_addr.SocketAddr.TheVariants.{V4}
 use Rattle.std.specs.declared.net.socket_addr.SocketAddrV4.{SocketAddrV4}
@@ -10,6 +10,7 @@ use Rattle.line_changes.specs.Changes.{changes_of}
 use Rattle.line_changes.specs.Telling.{with_changes, watching_line}
 use Rattle.line_changes.specs.Watching.{most_watchers, nobody, is_watched, told_at, with_watcher}
 use Rattle.gateway_core.specs.GatewayState.{GatewayState}
+use Rattle.gateway_core.specs.Changing.{is_marked}
 use Rattle.gateway_core.specs.Stands.{Stands}
 use Rattle.plain_machine.specs.declared.setup.Setup.{Setup}
 use Rattle.plain_machine.specs.Event.{GatewayEvent}
@@ -63,12 +64,19 @@ pub record TellsLine {S : Type 0}
   pub kept : is.seen.items ≡ with_seen (line - 1) seen (slice_get was.seen.items (line - 1)) was.seen.items
   pub watchers : is.watchers ≡ was.watchers
 
--- so it is told of the first so many lines, one behind the other
+-- so it is where the line is marked; else it isn't looked at
+abbrev pub TellsIf :
+    {S : Type 0} → Bool → (S → SocketAddr → List ℕ → S → Type 0) → Setup → Machine → ℕ → S → Watch → S → Watch → Type 0
+TellsIf true answers setup m line before was after is = TellsLine answers setup m line before was after is
+TellsIf false answers setup m line before was after is = (after ≡ before) × (is ≡ was)
+
+-- so it is told of those that are marked of the first so many lines, one behind the other
 unfoldable pub TellsLines :
-    {S : Type 0} → (S → SocketAddr → List ℕ → S → Type 0) → Setup → Machine → ℕ → S → Watch → S → Watch → Type 0
-TellsLines answers setup m zero before was after is = (after ≡ before) × (is ≡ was)
-TellsLines {S} answers setup m (suc line) before was after is = (between : S) × (mid : Watch)
-    × TellsLines answers setup m line before was between mid × TellsLine answers setup m (suc line) between mid after is
+    {S : Type 0} → (S → SocketAddr → List ℕ → S → Type 0) → List Bool → Setup → Machine → ℕ → S → Watch → S → Watch → Type 0
+TellsLines answers marks setup m zero before was after is = (after ≡ before) × (is ≡ was)
+TellsLines {S} answers marks setup m (suc line) before was after is = (between : S) × (mid : Watch)
+    × TellsLines answers marks setup m line before was between mid
+    × TellsIf (is_marked marks (suc line)) answers setup m (suc line) between mid after is
 
 -- Memory is refused for a line. It is still seen as it was seen last. So many of its changes, from the first, have used up their numbers,
 -- if any have: no number is used again.
@@ -79,21 +87,27 @@ pub record RefusesLine (setup : Setup) (m : Machine) (line : ℕ) (was is : Watc
       × (is.told.number ≡ (with_changes m.now line (record was.told { text = [] })
       (take count (changes_behind (slice_get was.seen.items (line - 1)) seen))).number))
 
--- so it is told of lines before one for which memory is refused
-abbrev pub TellsSome : {S : Type 0} → (S → SocketAddr → List ℕ → S → Type 0) → Setup → Machine → S → Watch → S → Watch → Type 0
-TellsSome answers setup m before was after is =
-    (line : ℕ) × (mid : Watch) × (line < setup.names.lines) × TellsLines answers setup m line before was after mid
-    × RefusesLine setup m (suc line) mid is
+-- so it is told of lines before one that is marked, and for which memory is refused
+abbrev pub TellsSome :
+    {S : Type 0} → (S → SocketAddr → List ℕ → S → Type 0) → List Bool → Setup → Machine → S → Watch → S → Watch → Type 0
+TellsSome answers marks setup m before was after is =
+    (line : ℕ) × (mid : Watch) × (line < setup.names.lines) × (is_marked marks (suc line) ≡ true)
+    × TellsLines answers marks setup m line before was after mid × RefusesLine setup m (suc line) mid is
 
--- Where nobody watches at this moment nothing is told, and all stays. Else what changed at each line is told. Or memory is refused: each
--- who watches is told that, behind what changed at the lines before, and nobody watches any more; what was seen stays as it was told last,
--- and no number is used again.
-abbrev pub WatchesOn : {S : Type 0} → (S → SocketAddr → List ℕ → S → Type 0) → Setup → Machine → S → Watch → S → Watch → Type 0
-WatchesOn {S} answers setup m before was after is =
-    ((is_watched m.now was.watchers.places ≡ false) × (after ≡ before) × (is ≡ was))
-    ⊎ ((is_watched m.now was.watchers.places ≡ true) × TellsLines answers setup m setup.names.lines before was after is)
-    ⊎ ((is_watched m.now was.watchers.places ≡ true) × (is.watchers.places ≡ nobody) × (between : S)
-    × TellsSome answers setup m before was between is
+-- who watches is to be told: an event was taken, and somebody does at this moment
+abbrev pub is_to_tell : Bool → ℕ → List (Option Watcher) → Bool
+is_to_tell taken now places = taken && is_watched now places
+
+-- Where no event was taken, or nobody watches at this moment, nothing is told, no line is looked at, and all stays. Else what changed at
+-- each line is told that is marked. Or memory is refused: each who watches is told that, behind what changed at the lines before, and
+-- nobody watches any more; what was seen stays as it was told last, and no number is used again.
+abbrev pub WatchesOn :
+    {S : Type 0} → Bool → (S → SocketAddr → List ℕ → S → Type 0) → List Bool → Setup → Machine → S → Watch → S → Watch → Type 0
+WatchesOn {S} taken answers marks setup m before was after is =
+    ((is_to_tell taken m.now was.watchers.places ≡ false) × (after ≡ before) × (is ≡ was))
+    ⊎ ((is_to_tell taken m.now was.watchers.places ≡ true) × TellsLines answers marks setup m setup.names.lines before was after is)
+    ⊎ ((is_to_tell taken m.now was.watchers.places ≡ true) × (is.watchers.places ≡ nobody) × (between : S)
+    × TellsSome answers marks setup m before was between is
     × TellsEach answers m.now was.watchers.places between (codes "! 1 OutOfMemory\n") after)
 
 -- So it is of who watches, whatever the gateway stands for: they do so still; or all are told that memory is refused, and nobody does any

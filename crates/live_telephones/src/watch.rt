@@ -2,12 +2,13 @@
 ghost use Rattle.std.specs.Prelude.{◌≡◌, ◌≤◌, ◌-◌, ℕ, [], List, true, false, None, Some, IfOk, IfErr, OnOk, OnErr, slice_get, map, take};
 ghost use Rattle.plain_machine.specs.Event.{GatewayEvent};
 ghost use Rattle.plain_machine.specs.Lists.{plain};
+ghost use Rattle.gateway_core.specs.Changing.{is_marked};
 ghost use Rattle.gateway_core.specs.Stands.{Stands};
 ghost use Rattle.line_changes.specs.Telling.{with_changes, watching_line};
 ghost use Rattle.line_changes.specs.Watching.{longest_watch, nobody, is_watched, with_watcher};
 ghost use Rattle.surroundings.specs.Hearing.{AnswersTo};
 ghost use Rattle.live_telephones.specs.Asking.{usage};
-ghost use Rattle.live_telephones.specs.Watching.{changes_behind, sender_at, with_seen, lines_seen, BeginsToSee, IsUnasked, IsUnwatched, RefusesLine, TellsEach, TellsLine, TellsLines, TellsSome, WatchesOn, WatchesStill, AnswersWatch};
+ghost use Rattle.live_telephones.specs.Watching.{changes_behind, sender_at, with_seen, lines_seen, BeginsToSee, IsUnasked, IsUnwatched, RefusesLine, TellsEach, TellsIf, TellsLine, TellsLines, TellsSome, WatchesOn, WatchesStill, AnswersWatch};
 
 use crate::answering::{UNKNOWN, full_answer};
 use crate::seeing::seen_line;
@@ -21,7 +22,8 @@ use std::alloc::Global;
 use std::net::{SocketAddr, SocketAddrV4};
 use surroundings::Surroundings;
 
-/// Who watches, and what was seen of the lines when that was told last. While nobody watches nothing is looked at.
+/// Who watches, and what was seen of the lines when that was told last. While nobody watches nothing is looked at, and else only the lines
+/// at which an event may have changed something.
 pub struct Watch {
     watchers: Watchers,
     seen: Vec<SeenLine>,
@@ -232,7 +234,32 @@ impl Watch {
         Ok(())
     }
 
-    // What changed at all lines is told.
+    // What changed at a line is told, where the last event may have changed something there; else the line isn't looked at.
+    fn tell_changed<S: Surroundings>(
+        &mut self,
+        alloc: Global,
+        around: &mut S,
+        gateway: &Gateway,
+        line: u16,
+    ) -> Result<(), OutOfMemory>
+        requires low { 1 ≤ line }
+        requires high { line ≤ gateway.now.setup.names.lines }
+        ensures told { (events : List GatewayEvent) → Stands gateway.now events → IfOk result (λ _.
+            TellsIf (is_marked gateway.now.changed line) S.answers gateway.now.setup (plain gateway.now.setup events) line
+            around.old self.old around.new self.new) }
+        ensures refused { IfErr result (λ _. (is_marked gateway.now.changed line ≡ true) × (around.new ≡ around.old)) }
+        ensures left { (events : List GatewayEvent) → Stands gateway.now events → IfErr result (λ _. RefusesLine
+            gateway.now.setup (plain gateway.now.setup events) line self.old self.new) }
+        ensures traffic { S.traffic around.new ≡ S.traffic around.old }
+        ensures watchers { self.new.watchers ≡ self.old.watchers }
+    {
+        if !gateway.is_changed(line) {
+            return Ok(());
+        }
+        self.tell_line(alloc, around, gateway, line)
+    }
+
+    // What changed at the lines is told at which the last event may have changed something.
     fn tell_lines<S: Surroundings>(
         &mut self,
         alloc: Global,
@@ -240,26 +267,36 @@ impl Watch {
         gateway: &Gateway,
     ) -> Result<(), OutOfMemory>
         ensures told { (events : List GatewayEvent) → Stands gateway.now events → IfOk result (λ _. TellsLines S.answers
-            gateway.now.setup (plain gateway.now.setup events) gateway.now.setup.names.lines around.old self.old around.new self.new) }
+            gateway.now.changed gateway.now.setup (plain gateway.now.setup events) gateway.now.setup.names.lines
+            around.old self.old around.new self.new) }
         ensures refused { (events : List GatewayEvent) → Stands gateway.now events → IfErr result (λ _. TellsSome S.answers
-            gateway.now.setup (plain gateway.now.setup events) around.old self.old around.new self.new) }
+            gateway.now.changed gateway.now.setup (plain gateway.now.setup events) around.old self.old around.new self.new) }
         ensures traffic { S.traffic around.new ≡ S.traffic around.old }
         ensures watchers { self.new.watchers ≡ self.old.watchers }
     {
         for before in 0..gateway.lines() {
-            self.tell_line(alloc, around, gateway, before + 1)?;
+            self.tell_changed(alloc, around, gateway, before + 1)?;
         }
         Ok(())
     }
 
-    /// Who watches is told what changed since that was told last. Where memory is refused all are told that, and watch no more; no number
-    /// is used again.
-    pub fn tell<S: Surroundings>(&mut self, alloc: Global, around: &mut S, gateway: &Gateway)
+    /// Who watches is told what changed at an event, where one was taken; where none was, no line is looked at. Where memory is refused all
+    /// are told that, and watch no more; no number is used again.
+    pub fn tell<S: Surroundings>(
+        &mut self,
+        alloc: Global,
+        around: &mut S,
+        gateway: &Gateway,
+        is_taken: bool,
+    )
         ensures traffic { S.traffic around.new ≡ S.traffic around.old }
         ensures watchers { WatchesStill S.answers self.old.watchers.places around.new self.new.watchers.places }
-        ensures watch { (events : List GatewayEvent) → Stands gateway.now events → WatchesOn S.answers gateway.now.setup
-            (plain gateway.now.setup events) around.old self.old around.new self.new }
+        ensures watch { (events : List GatewayEvent) → Stands gateway.now events → WatchesOn is_taken S.answers gateway.now.changed
+            gateway.now.setup (plain gateway.now.setup events) around.old self.old around.new self.new }
     {
+        if !is_taken {
+            return;
+        }
         let now = gateway.now();
         if !self.watchers.is_watched(now) {
             return;

@@ -26,3 +26,6 @@ returns-in_default-clause-happens c = happened_went _ _ _ _ _ c.new-out.ensures.
 
 pub returns-in_default-clause-told : goal.returns-in_default-clause-told
 returns-in_default-clause-told c = told_nothing _ _ _ _ _ c.requires.untold c.in_default.ensures.texts
+
+pub returns-clause-found : goal.returns-clause-found
+returns-clause-found c = c.loop-text.invariant.found

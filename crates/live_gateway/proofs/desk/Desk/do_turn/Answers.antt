@@ -28,7 +28,7 @@ returns-in-Tick-clause-play g c =
     (c.tick-done.ensures.came
     ∙ begun_came traffic c.args.self.now.exchange c.begin.new.self c.begin.ensures.network c.begin.ensures.around c.begin.ensures.faults)
     (counted_by told traffic c.tick-done.new.self c.tick-done.new.out c.note_taken.new.exchange _ _ _
-    (noted_of _ _ _ _ _ _ _ c.is_ok.ensures.value refl c.note_taken.ensures))
+    (noted_of _ _ _ _ _ _ _ c.is_ok-is_taken.ensures.value refl c.note_taken.ensures))
     refl
 
 pub returns-in-Tick-clause-does : goal.returns-in-Tick-clause-does
@@ -37,7 +37,7 @@ returns-in-Tick-clause-does g c =
     let traffic = g.S.Surroundings.traffic in
     let sends = g.S.Surroundings.sends in
     let to = c.in-Tick.moment in
-    let notes = noted_of _ _ _ _ _ _ _ c.is_ok.ensures.value
+    let notes = noted_of _ _ _ _ _ _ _ c.is_ok-is_taken.ensures.value
     (c.sent.ensures.kept ∙ ap (λ (gateway : GatewayState). gateway.account.sent) c.deref.ensures) c.note_taken.ensures in
     let here = begun_live told traffic c.args.self.now.play c.args.self.now.exchange c.begin.new.self c.begin.ensures.network c.begin.ensures.around in
     rw (c.in-Tick.is)
@@ -62,11 +62,11 @@ returns-in-Tick-clause-does g c =
 pub returns-in-Command-clause-play : goal.returns-in-Command-clause-play
 returns-in-Command-clause-play g c =
     between g.T.Teller.told g.S.Surroundings.traffic _ _ _ _
-    c.take_line.ensures.play
+    c.take_line-is_taken.ensures.play
     (heard_same g.T.Teller.told g.S.Surroundings.traffic c.args.self.now c.hear.new.self c.hear.new.lines c.hear.ensures.rest c.hear.ensures.traffic)
     refl
-    (page_same g.T.Teller.told g.S.Surroundings.traffic g.S.Surroundings.tells (not c.args.self.now.is_of_page) false c.take_line.new.self
-    (record c.take_line.new.self {
+    (page_same g.T.Teller.told g.S.Surroundings.traffic g.S.Surroundings.tells (not c.args.self.now.is_of_page) false c.take_line-is_taken.new.self
+    (record c.take_line-is_taken.new.self {
       exchange = c.take_from_page-self.new.exchange;
       lines = c.take_from_page-self.new.lines;
       is_of_page = c.take_from_page-self.result;
@@ -83,13 +83,13 @@ returns-in-Command-clause-play g c =
 pub returns-in-Command-clause-does : goal.returns-in-Command-clause-does
 returns-in-Command-clause-does g c = rw (c.in-Command.is) (record {
   heard = record c.args.self.now { exchange = c.hear.new.self; lines = c.hear.new.lines };
-  done = c.take_line.new.self;
+  done = c.take_line-is_taken.new.self;
   taken = c.hear.ensures.heard.0;
   hearing = c.hear.ensures.heard.1;
   before = with_exchange (record c.args.self.now { lines = c.hear.new.lines }) _ _
       (heard_alone c.args.self.now.exchange c.hear.new.self _ c.hear.ensures.rest c.hear.ensures.heard.2);
   kept = c.hear.ensures.traffic;
-  line = c.take_line.ensures.line;
+  line = c.take_line-is_taken.ensures.line;
   behind = record {
     asked = c.take_from_page-self.ensures.took.0;
     asks = c.take_from_page-self.ensures.took.1;
@@ -148,7 +148,7 @@ returns-in-Tick-clause-leaves g c =
     )
 
 pub returns-in-Command-clause-leaves : goal.returns-in-Command-clause-leaves
-returns-in-Command-clause-leaves g c = rw (c.in-Command.is) (c.take_line.ensures.play.admission, c.take_line.ensures.schedule, refl)
+returns-in-Command-clause-leaves g c = rw (c.in-Command.is) (c.take_line-is_taken.ensures.play.admission, c.take_line-is_taken.ensures.schedule, refl)
 
 pub returns-in-Datagram-clause-leaves : goal.returns-in-Datagram-clause-leaves
 returns-in-Datagram-clause-leaves g c = rw (c.in-Datagram.is) (c.datagram.ensures.rest, refl)

@@ -71,7 +71,7 @@ returns-in-Act-clause-play g c =
     c.act-done.ensures.came
     (counted_behind told traffic c.act-done.new.self c.act-done.new.out c.note_taken.new.exchange
     (record c.note_taken.new.exchange { around = c.answer.new.around; journal = c.answered.new.self }) _ _ _
-    (rw (c.is_ok.ensures.value, c.sent.ensures.kept, c.deref.ensures) at c.note_taken.ensures) (only_told c.note_taken.new.exchange c.answered.new.self c.answer.new.around c.answered.ensures.rest) c.answer.ensures.traffic)
+    (rw (c.is_ok-is_taken.ensures.value, c.sent.ensures.kept, c.deref.ensures) at c.note_taken.ensures) (only_told c.note_taken.new.exchange c.answered.new.self c.answer.new.around c.answered.ensures.rest) c.answer.ensures.traffic)
     refl
 
 pub returns-in-Act-clause-line : goal.returns-in-Act-clause-line
@@ -80,7 +80,7 @@ returns-in-Act-clause-line g c =
     let traffic = g.S.Surroundings.traffic in
     let answer = c.act_answer-answer.result.now in
     let told_behind = only_told c.note_taken.new.exchange c.answered.new.self c.answer.new.around c.answered.ensures.rest in
-    let notes = rw (c.is_ok.ensures.value, c.sent.ensures.kept, c.deref.ensures) at c.note_taken.ensures in
+    let notes = rw (c.is_ok-is_taken.ensures.value, c.sent.ensures.kept, c.deref.ensures) at c.note_taken.ensures in
     inr (
       c.in-Some.text.now,
       AsksAct c.in-Act.line c.in-Act.act,
