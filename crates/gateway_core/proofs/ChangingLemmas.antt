@@ -21,7 +21,7 @@ apart_from (y ∷ xs) (suc k) zero x other = refl
 apart_from (y ∷ xs) (suc k) (suc j) x other = apart_from xs k j x (λ same. other (ap (λ (n : ℕ). suc n) same))
 
 -- where no mark is set once this one is, that is another one, and it wasn't set before
-pub unset : (marks : List Bool) (k j : ℕ) → get_or (set marks k true) j true ≡ false → (j ≢ k) × (get_or marks j true ≡ false)
+unset : (marks : List Bool) (k j : ℕ) → get_or (set marks k true) j true ≡ false → (j ≢ k) × (get_or marks j true ≡ false)
 unset [] k j off = absurd cc
 unset (b ∷ marks) zero zero off = absurd cc
 unset (b ∷ marks) zero (suc j) off = (λ same. absurd (omega (arith, same)), off)
@@ -29,6 +29,10 @@ unset (b ∷ marks) (suc k) zero off = (λ same. absurd (omega (arith, same)), o
 unset (b ∷ marks) (suc k) (suc j) off =
     let rest = unset marks k j off in
     (λ same. rest.0 (omega (arith, same)), rest.1)
+
+pub unset_by : (marks marks' : List Bool) (at line : ℕ) → marks' ≡ slice_set marks (at - 1) true → is_marked marks' line ≡ false
+    → (line - 1 ≢ at - 1) × (is_marked marks line ≡ false)
+unset_by marks marks' at line set_is off = unset marks (at - 1) (line - 1) (ap (λ (m : List Bool). get_or m (line - 1) true) (sym set_is) ∙ off)
 
 -- an act changes the line alone at whose telephone it is
 acted_elsewhere : (setup : Setup) (endpoints : Endpoints) (at moment : ℕ) (act : Act) (line : ℕ) → line - 1 ≢ at - 1

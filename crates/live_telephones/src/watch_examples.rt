@@ -1,7 +1,7 @@
 //! What who watches is told, and what the page is shown of a gateway, at worked examples, as theorems.
 #![tactic(auto, unfolding(crate::proofs::Computing::on_examples))]
 
-ghost use Rattle.std.specs.Prelude.{◌≡◌, ◌<◌, ◌++◌, ◌⊎◌, None, Some, codes, List, [], ◌∷◌, map, Option};
+ghost use Rattle.std.specs.Prelude.{◌≡◌, ◌<◌, ◌++◌, ◌⊎◌, Bool, true, false, None, Some, codes, List, [], ◌∷◌, map, Option};
 ghost use Rattle.std.specs.Global.{Box};
 ghost use Rattle.plain_machine.specs.Example.{two_lines};
 ghost use Rattle.plain_machine.specs.Lists.{plain};
@@ -21,7 +21,7 @@ ghost use Rattle.live_telephones.specs.declared.watch.Watch.{Watch};
 ghost use Rattle.live_telephones.specs.Paging.{IsOf, Shows, TakesOldest};
 ghost use Rattle.live_telephones.specs.Picturing.{by_name};
 ghost use Rattle.live_telephones.specs.Viewing.{lines_in, viewed};
-ghost use Rattle.live_telephones.specs.Watching.{with_seen, TellsText, RefusesLine, TellsLine, TellsLines, TellsSome, WatchesOn, WatchesStill, BeginsToSee, IsUnasked, IsUnwatched};
+ghost use Rattle.live_telephones.specs.Watching.{with_seen, TellsText, RefusesLine, TellsIf, TellsLine, TellsLines, TellsSome, WatchesOn, WatchesStill, BeginsToSee, IsUnasked, IsUnwatched};
 ghost use Rattle.live_telephones.specs.WatchExample.{Heard, hears, somebody, heard_once};
 
 /// Who watches is told what there is to tell, up to the moment before their time ends. A line is seen so at its place, where it has one.
@@ -34,7 +34,7 @@ pub fn what_is_told_has_examples()
 {}
 
 /// What changed at a line is told under the next number, at the gateway's moment, and the line was seen so then; nothing is told where
-/// nothing changed. Of no line nothing is told; of the first one, what changed there.
+/// nothing changed. Of no line nothing is told; of the first one, what changed there. A line that isn't marked isn't looked at.
 pub fn what_changes_at_a_line_is_told()
     ensures changed { (was is : Watch) (after : Heard) → was.seen.items ≡ lifted ∷ []
         → was.told ≡ record { number = 7; text = codes "old" } → was.watchers.places ≡ somebody
@@ -43,25 +43,30 @@ pub fn what_changes_at_a_line_is_told()
     ensures same { (was is : Watch) (after : Heard) → was.seen.items ≡ resting ∷ []
         → was.told ≡ record { number = 7; text = codes "old" } → was.watchers.places ≡ somebody
         → TellsLine hears two_lines (plain two_lines []) 1 [] was after is → (after ≡ []) × (is.told.number ≡ 7) }
-    ensures none { (was is : Watch) (after : Heard) → TellsLines hears two_lines (plain two_lines []) 0 [] was after is
+    ensures none { (was is : Watch) (after : Heard) → TellsLines hears (true ∷ []) two_lines (plain two_lines []) 0 [] was after is
         → (after ≡ []) × (is ≡ was) }
     ensures one { (was is : Watch) (after : Heard) → TellsLine hears two_lines (plain two_lines []) 1 [] was after is
-        → TellsLines hears two_lines (plain two_lines []) 1 [] was after is }
+        → TellsLines hears (true ∷ []) two_lines (plain two_lines []) 1 [] was after is }
+    ensures unmarked { (was is : Watch) (after : Heard) → TellsIf false hears two_lines (plain two_lines []) 1 [] was after is
+        → (after ≡ []) × (is ≡ was) }
 {}
 
-/// Where nobody watches nobody is told, and nothing changes. Who watches does so still, or was told last that memory is refused, behind
+/// Where nobody watches, or no event was taken, nobody is told, and nothing changes. Who watches does so still, or was told last that memory is refused, behind
 /// fewer lines than there are.
 pub fn who_watches_has_examples()
-    ensures unwatched { (m : Machine) (was is : Watch) (after : Heard) → was.watchers.places ≡ nobody
-        → WatchesOn hears two_lines m [] was after is → (after ≡ []) × (is ≡ was) }
+    ensures unwatched { (taken : Bool) (m : Machine) (was is : Watch) (after : Heard) → was.watchers.places ≡ nobody
+        → WatchesOn taken hears [] two_lines m [] was after is → (after ≡ []) × (is ≡ was) }
+    ensures untaken { (m : Machine) (was is : Watch) (after : Heard) → WatchesOn false hears [] two_lines m [] was after is
+        → (after ≡ []) × (is ≡ was) }
     ensures refused { (was is : Watch) (after : Heard) → was.watchers.places ≡ somebody
-        → WatchesOn hears two_lines (plain two_lines []) [] was after is → is.watchers.places ≡ nobody
+        → WatchesOn true hears [] two_lines (plain two_lines []) [] was after is → is.watchers.places ≡ nobody
         → (between : Heard) × (after ≡ between ++ heard_once (codes "! 1 OutOfMemory\n")) }
     ensures goes_on { (are : List (Option Watcher)) (after : Heard) → WatchesStill hears somebody after are
         → (are ≡ somebody) ⊎ (are ≡ nobody) }
-    ensures fewer { (was is : Watch) (after : Heard) (some : TellsSome hears two_lines (plain two_lines []) [] was after is) → some.0 < 2 }
-    ensures at_once { (was is : Watch) (after : Heard) (some : TellsSome hears two_lines (plain two_lines []) [] was after is) → some.0 ≡ 0
-        → is.seen ≡ was.seen }
+    ensures fewer { (was is : Watch) (after : Heard) (some : TellsSome hears [] two_lines (plain two_lines []) [] was after is)
+        → some.0 < 2 }
+    ensures at_once { (was is : Watch) (after : Heard) (some : TellsSome hears [] two_lines (plain two_lines []) [] was after is)
+        → some.0 ≡ 0 → is.seen ≡ was.seen }
 {}
 
 /// Where memory is refused for a line it is still seen as it was seen last, and the next change has the number that it would have had, or

@@ -31,3 +31,6 @@ returns-clause-none c = λ was is after lines. lines
 pub returns-clause-one : goal.returns-clause-one
 unfolding on_examples
 returns-clause-one c = λ was is after tells. ([], was, (refl, refl), tells)
+
+pub returns-clause-unmarked : goal.returns-clause-unmarked
+returns-clause-unmarked c = λ was is after lines. lines
