@@ -26,25 +26,21 @@ class Calls {
     const key = name.toUpperCase();
     let call = this.calls.get(key);
     if (!call) {
-      call = { key, name, lines: new Set(), first: null, last: null };
+      call = { key, name, lines: new Set(), periods: new Set() };
       this.calls.set(key, call);
       forget(this.calls, MOST_CALLS);
     }
     return call;
   }
 
-  // Whether a call has a connection.
-  isHeld(call) {
-    return [...this.connections.values()].some((held) => held.call === call);
-  }
-
-  // A row is of a call: it reaches from its first row to its last.
-  extend(call, row) {
-    call.first ??= row.position;
-    call.last = Math.max(call.last ?? 0, row.number);
-    if (row.line > 0) {
-      call.lines.add(row.line);
+  // Whether a line has a connection.
+  isAt(line) {
+    for (const held of this.connections.values()) {
+      if (held.line === line) {
+        return true;
+      }
     }
+    return false;
   }
 
   // The call agent asks for something.
@@ -76,7 +72,7 @@ class Calls {
   take(asked, answer) {
     const line = answer.named || asked.line;
     const key = `${line} ${answer.connection || asked.connection}`;
-    const held = this.connections.get(key) ?? { call: this.callOf(asked) };
+    const held = this.connections.get(key) ?? { line, call: this.callOf(asked) };
     if (!held.call) {
       return;
     }
@@ -90,9 +86,8 @@ class Calls {
   // Connections were deleted: one, those of a call on a line, or all of a line or of the gateway.
   end(asked) {
     for (const [key, held] of this.connections) {
-      const [line, connection] = key.split(" ");
-      const isThere = asked.line === 0 || asked.line === Number(line);
-      const isMeant = asked.connection === "" || asked.connection === connection;
+      const isThere = asked.line === 0 || asked.line === held.line;
+      const isMeant = asked.connection === "" || key === `${held.line} ${asked.connection}`;
       const isCalled = asked.call === "" || asked.call.toUpperCase() === held.call.key;
       if (isThere && isMeant && isCalled) {
         this.connections.delete(key);
@@ -108,11 +103,7 @@ function connectionText(held) {
   return `connection ${connection} ${held.mode}, call ${held.call}, ${held.codec} ${held.ptime} ms${remote}`;
 }
 
-// Whether a row belongs to a call: it is of the call, or of a notification by one of its lines, from its first row to its last, or to
-// now while it has a connection.
+// Whether a row belongs to a call: it is of the call, or of none and in a busy period of a line that the call has.
 function isOfCall(row, call) {
-  if (row.call === call || !row.isNotification || !call.lines.has(row.line)) {
-    return row.call === call;
-  }
-  return row.position > call.first && (row.position < call.last || ladder.calls.isHeld(call));
+  return row.call ? row.call === call : call.periods.has(row.period);
 }

@@ -7,6 +7,8 @@ const MOST_BARS = 2;
 const heard = {
   name: "",
   connections: [],
+  // The ends of the chosen call.
+  ends: [],
 
   // Takes a report, or none where the text isn't one.
   take(name, text) {
@@ -54,11 +56,12 @@ const heard = {
   show() {
     const box = byId("heard");
     const ends = view.call ? this.endsOf(view.call) : [];
+    this.ends = ends;
     box.hidden = this.name === "";
-    const told = `${this.name}: ${this.connections.length} connections`;
+    const told = `${this.name}: ${counted(this.connections.length, "connection")}`;
     const hint = view.call ? `${this.name} tells nothing of this call` : `${told}; choose a call`;
     box.replaceChildren(...(ends.length > 0 ? ends.map(drawEnd) : [make("p", { class: "hint" }, hint)]));
-    ladder.rows.forEach((row) => markRow(row, ends));
+    ladder.pane.drawn.forEach((row) => markRow(row, ends));
   },
 };
 

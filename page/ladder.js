@@ -8,28 +8,29 @@ const RESPONSES = ["response", "answer", "again", "acknowledgement"];
 const SAID_BEFORE = ["repeat", "confirmed", "again", "resent"];
 // Nothing is told of a message without a label: its datagram is too long, 64 stand before it there, or memory was refused for that.
 const UNTOLD = { what: "", line: null, id: null, code: null, send: null };
-// So many rows are kept in the ladder.
-const MOST_ROWS = 3000;
-// A list this close to its end, in pixels, is at its end: two rows, since those that come may be higher once they are drawn.
-const NEAR_END = 80;
+// So many rows are remembered of a gateway, and of a file.
+const MOST_HEARD = 20000;
+const MOST_READ = 1000000;
 
 // Draws what happened, and marks what is said again and what is given up.
 class Ladder {
   constructor() {
-    this.list = byId("ladder");
-    // Whether the reader looks at a row far from the end.
-    this.isLeft = false;
-    // Whatever makes it smaller or wider, its end stays in sight.
-    new ResizeObserver(() => this.keepEnd()).observe(this.list);
+    this.pane = new Pane(byId("ladder"));
     this.clear();
   }
 
-  clear() {
-    this.list.replaceChildren();
+  // Nothing has happened yet; so many rows are remembered.
+  clear(most = MOST_HEARD) {
+    this.pane.show([]);
     this.peers = [];
+    this.most = most;
     this.rows = [];
-    this.count = 0;
+    // Whether rows that were passed over are wanted now.
+    this.isStale = false;
+    // The gateway's, once a command of its own names it, or one that it has executed.
+    this.domain = "";
     this.calls = new Calls();
+    this.periods = new BusyPeriods(this.calls);
     // Commands that nobody has answered yet, by direction and id: their rows.
     this.open = new Map();
     // Those that were answered, with their first rows.
@@ -42,10 +43,6 @@ class Ladder {
     hideMessage();
   }
 
-  get lanes() {
-    return 2 + Math.max(1, this.peers.length);
-  }
-
   setLanes() {
     const names = make("div", { class: "lane-names" }, make("span", {}, "telephones"), make("span", {}, "gateway"));
     const peers = this.peers.length > 0 ? this.peers : ["call agent"];
@@ -53,7 +50,7 @@ class Ladder {
       names.append(make("span", { title: peer }, peer));
     }
     byId("lanes").replaceChildren(names);
-    this.rows.forEach((row) => row.track?.style.setProperty("--lanes", String(this.lanes)));
+    this.pane.list.style.setProperty("--lanes", String(2 + peers.length));
   }
 
   // The lane of an address: the first has number 3.
@@ -69,116 +66,65 @@ class Ladder {
 
   // ---- Rows
 
-  // What an arrow says: of its head the id alone may be cut.
-  drawLabel(row) {
-    const [word, id, name] = row.head;
-    const label = make("span", { class: "label" }, make("span", { class: "word" }, word));
-    if (id !== "") {
-      label.append(" ", make("span", { class: "id", title: id }, id));
-    }
-    if (name !== "") {
-      label.append(" ", make("span", { class: "name" }, name));
-    }
-    return label;
-  }
-
-  // The arrow between two lanes, with what it says above it.
-  drawTrack(row) {
-    const [left, right] = row.from < row.to ? [row.from, row.to] : [row.to, row.from];
-    const arrow = make("span", { class: `arrow ${row.from < row.to ? "right" : "left"}` });
-    const said = make("span", { class: "said" }, this.drawLabel(row));
-    for (const [name, text] of [["reason", row.reason], ["more", row.more]]) {
-      if (text) {
-        said.append(make("span", { class: name, title: text }, text));
-      }
-    }
-    const track = make("span", { class: `track ${row.kind}` }, said, arrow);
-    track.style.setProperty("--lanes", String(this.lanes));
-    track.style.setProperty("--left", String(2 * left));
-    track.style.setProperty("--right", String(2 * right));
-    return track;
-  }
-
-  // Draws a row with an arrow between two lanes.
+  // Remembers a row with an arrow between two lanes.
   addRow(told) {
-    const row = { reason: "", more: "", call: null, isNotification: false, ...told };
-    this.count += 1;
-    row.number = this.count;
-    // Where it stands in the conversation: an answer stands where it was asked for.
-    row.position = row.number;
-    row.track = this.drawTrack(row);
-    const at = make("span", { class: "at" }, make("span", {}, clockText(row.at)));
-    if (row.wall !== null) {
-      at.append(make("span", { class: "wall", title: "The time of day, UTC, by this browser's clock" }, wallText(row.wall)));
-    }
-    row.button = make("button", { type: "button", class: "row", "aria-pressed": "false" }, at, row.track);
-    row.button.addEventListener("click", () => this.choose(row));
-    row.item = make("li", {}, row.button);
-    this.keep(row);
+    const row = { call: null, period: null, marks: [], item: null, ...told };
+    this.rows.push(row);
     return row;
   }
 
-  // A row stands in the list, and the oldest of too many doesn't any more.
+  // A row is as it stays: it is drawn with the next ones if it is wanted, and the oldest of too many isn't remembered any more.
   keep(row) {
-    row.item.hidden = !isWanted(row);
-    this.list.append(row.item);
-    this.rows.push(row);
-    while (this.rows.length > MOST_ROWS) {
-      this.rows.shift().item.remove();
+    if (isWanted(row)) {
+      this.pane.wanted.push(row);
+    }
+    if (this.rows.length > this.most) {
+      this.pane.forget(this.rows.shift());
     }
   }
 
   choose(row) {
-    this.chosen?.button.setAttribute("aria-pressed", "false");
+    this.chosen?.button?.setAttribute("aria-pressed", "false");
     this.chosen = row;
     row.button.setAttribute("aria-pressed", "true");
-    this.isLeft = this.list.scrollHeight - this.list.scrollTop - this.list.clientHeight > NEAR_END;
+    this.pane.look(row);
     showMessage(row);
-    if (this.isLeft) {
-      row.item.scrollIntoView({ block: "nearest" });
-    }
-    this.keepEnd();
+    this.pane.keepEnd();
   }
 
-  // What stands in a row is true of this line and this call from now on.
-  settle(row, line, call) {
-    row.line = line;
-    row.call = call;
-    if (call) {
-      this.calls.extend(call, row);
+  // What stands in a row is true of this line, of this call, and of this busy period.
+  settle(row, line, call, period) {
+    Object.assign(row, { line, call, period });
+    if (call && line > 0) {
+      call.lines.add(line);
     }
-    row.item.hidden = !isWanted(row);
+    if (call && period && !call.periods.has(period)) {
+      call.periods.add(period);
+      this.isStale ||= call === view.call;
+    }
   }
 
   // Shows the rows that are wanted now, and no others.
   settleAll() {
-    this.rows.forEach((row) => {
-      row.item.hidden = !isWanted(row);
-    });
-    this.toEnd();
+    this.isStale = false;
+    this.pane.show(this.rows.filter(isWanted));
   }
 
-  // Goes to the end if the reader follows.
-  toEnd() {
-    this.isLeft = false;
-    this.keepEnd();
-  }
-
-  // Stays at the end if the reader follows. Rows that are drawn only once they are reached may have another height then.
-  keepEnd(frames = 2) {
-    if (this.isLeft || !byId("following").checked) {
-      return;
+  // Draws what has come.
+  draw() {
+    if (this.isStale) {
+      this.settleAll();
     }
-    this.list.scrollTop = this.list.scrollHeight;
-    if (frames > 0) {
-      requestAnimationFrame(() => this.keepEnd(frames - 1));
-    }
+    this.pane.extend();
   }
 
   mark(row, name, text) {
-    if (!row.track.classList.contains(name)) {
-      row.track.classList.add(name);
-      row.track.querySelector(".label").append(" ", make("span", { class: "badge" }, text));
+    if (row.marks.some((mark) => mark.name === name)) {
+      return;
+    }
+    row.marks.push({ name, text });
+    if (row.item) {
+      drawMark(row, { name, text });
     }
   }
 
@@ -194,8 +140,9 @@ class Ladder {
   }
 
   addCommand(row, message, direction, label) {
-    row.isNotification = message.verb === "NTFY";
-    this.settle(row, label.line ?? message.line, this.calls.callOf(message));
+    const line = label.line ?? message.line;
+    const call = this.calls.callOf(message);
+    row.domain = message.domain;
     if (label.what === "lost") {
       this.mark(row, "given-up", "lost");
     }
@@ -205,12 +152,18 @@ class Ladder {
       const open = this.open.get(key);
       open?.push(row);
       // A page that came later hears the repeat first.
-      if (open || this.answered.has(key)) {
+      const first = open?.[0] ?? this.answered.get(key);
+      if (first) {
+        this.settle(row, line, call, first.period);
         return;
       }
     }
     if (direction === "in") {
       this.calls.ask(message);
+      this.settle(row, line, call, this.periods.ask(message, row.at));
+    } else {
+      this.domain ||= row.domain;
+      this.settle(row, line, call, this.periods.tell(message, row.at));
     }
     this.open.set(key, [row]);
     forget(this.open, 1000);
@@ -226,16 +179,19 @@ class Ladder {
     }
     const asked = this.open.get(key)?.[0] ?? this.answered.get(key);
     if (!asked) {
-      this.settle(row, label.line ?? row.line, null);
+      const line = label.line ?? row.line;
+      this.settle(row, line, null, this.periods.at(line, row.at));
       return;
     }
     if (message.code >= 200 && this.open.delete(key)) {
       this.answered.set(key, asked);
       forget(this.answered, 5000);
     }
-    row.isNotification = asked.isNotification;
-    row.position = asked.number;
-    this.settle(row, message.named || asked.line, asked.call);
+    if (direction === "out" && message.code >= 200 && message.code < 300) {
+      this.domain ||= asked.domain;
+    }
+    const line = message.named || asked.line;
+    this.settle(row, line, asked.call, asked.period ?? this.periods.at(line, row.at));
   }
 
   // ---- What happened
@@ -249,23 +205,24 @@ class Ladder {
     texts.forEach((text, place) => {
       const label = happened.said?.[place] ?? UNTOLD;
       const kind = kindOf(label);
-      const message = kind === "fault" ? readLine(text, "not MGCP: ") : readMessage(text);
+      const message = readAs(kind, text);
       const part = texts.length > 1 ? `, ${place + 1} of ${texts.length} in its datagram` : "";
       const row = this.addRow({
         happened, at: happened.at, wall: happened.wall, peer: happened.peer, text,
         kind: kind === "response" && message.code >= 400 ? "fault" : kind,
         from: direction === "in" ? lane : 2,
         to: direction === "in" ? 2 : lane,
-        line: message.line, head: message.head, reason: message.reason, more: message.more,
-        title: `${way}${whenText(happened)}${part}${message.reason ? `: ${message.reason}` : ""}`,
+        line: message.line,
+        look: () => lookOf(text, kind, `${way}${whenText(happened)}${part}`),
       });
       if (kind === "command") {
         this.addCommand(row, message, direction, label);
       } else if (kind === "response") {
         this.addResponse(row, message, direction, label);
       } else {
-        this.settle(row, message.line, this.calls.callOf(message));
+        this.settle(row, message.line, this.calls.callOf(message), this.periods.at(message.line, row.at));
       }
+      this.keep(row);
     });
   }
 
@@ -274,11 +231,14 @@ class Ladder {
     const found = /^\s*phone\s+(\d+)\s+(\S+)/.exec(happened.text);
     const line = found ? Number(found[1]) : 0;
     const words = { off: "lifted", on: "hung up", flash: "flash" };
-    const label = found ? `${found[1]}: ${words[found[2]] ?? `key ${found[2]}`}` : happened.text.trim();
+    const text = happened.text.trim();
+    const label = found ? `${nameOf(line)}: ${words[found[2]] ?? `key ${found[2]}`}` : text;
     this.lastAct = this.addRow({
-      happened, at: happened.at, wall: happened.wall, peer: "", kind: "act", from: 1, to: 2, line, head: [label, "", ""],
-      title: `at a telephone${whenText(happened)}`, text: happened.text.trim(),
+      happened, at: happened.at, wall: happened.wall, peer: "", kind: "act", from: 1, to: 2, line, text,
+      period: this.periods.act(line, found?.[2], happened.at),
+      look: () => ({ head: [label, "", ""], title: `at a telephone${whenText(happened)}` }),
     });
+    this.keep(this.lastAct);
   }
 
   // What was told to a telephone, or of a line.
@@ -288,18 +248,18 @@ class Ladder {
       return;
     }
     const of = /^line (\d+) /.exec(text);
-    this.addRow({
+    const line = of ? Number(of[1]) : this.lastAct?.line ?? 0;
+    this.keep(this.addRow({
       happened, at: happened.at, wall: happened.wall, peer: "", kind: text.startsWith("!") ? "fault" : "act", from: 2, to: 1,
-      line: of ? Number(of[1]) : this.lastAct?.line ?? 0, head: [text.slice(0, 80), "", ""],
-      title: `told to the telephones${whenText(happened)}`, text,
-    });
+      line, text, period: this.periods.at(line, happened.at),
+      look: () => ({ head: [text.slice(0, 80), "", ""], title: `told to the telephones${whenText(happened)}` }),
+    }));
   }
 
   // Events that this page has missed.
   addGap(count) {
-    const item = make("li", {}, make("p", { class: "hint" }, `${count} events are no longer known`));
-    this.count += 1;
-    this.keep({ item, line: 0, number: this.count, position: this.count, call: null, isNotification: false });
+    const hint = `${counted(count, "event")} ${count === 1 ? "is" : "are"} no longer known`;
+    this.keep(this.addRow({ hint, line: 0 }));
   }
 
   add(happened) {
@@ -321,7 +281,8 @@ class Ladder {
     }
     list.forEach(take);
     listCalls(this.calls);
-    this.toEnd();
+    this.pane.isLeft = false;
+    this.draw();
   }
 }
 
@@ -334,6 +295,17 @@ function kindOf(label) {
     return "response";
   }
   return label.what === "unreadable" ? "fault" : "untold";
+}
+
+// A text as what its label says that it is.
+function readAs(kind, text) {
+  return kind === "fault" ? readLine(text, "not MGCP: ") : readMessage(text);
+}
+
+// How a message looks: its head, what stands below it, and what is said of it where its whole text is shown.
+function lookOf(text, kind, way) {
+  const { head, reason, more } = readAs(kind, text);
+  return { head, reason, more, title: `${way}${reason ? `: ${reason}` : ""}` };
 }
 
 // When something happened, by the gateway's clock and by the time of day.

@@ -86,8 +86,21 @@ function takeState(state) {
   const off = state.lines.filter((line) => line.hook === "off").length;
   const held = state.lines.reduce((sum, line) => sum + line.connections.length, 0);
   const counts = state.counts;
-  setText(byId("numbers"), `${state.lines.length} lines, ${off} off hook, ${held} connections, `
+  setText(byId("numbers"), `${counted(state.lines.length, "line")}, ${off} off hook, ${counted(held, "connection")}, `
     + `datagrams ${counts.datagrams_in} in ${counts.datagrams_out} out, ids from ${state.first}`);
+}
+
+// Title, heading and telephones carry the gateway's domain, once it is known, and the names of its lines.
+function tellName() {
+  const { domain } = ladder;
+  const { length } = gateway.isFile ? [] : telephones.list;
+  const names = [length > 0 ? nameOf(1) : "", length > 1 ? nameOf(length) : ""].filter((name) => name !== "").join(" to ");
+  setText(byId("domain"), domain || "rgwd");
+  setText(byId("names"), names);
+  const title = [domain, names].filter((part) => part !== "").join(" ");
+  setText(document.querySelector("title"), title === "" ? "rgwd" : `${title} - rgwd`);
+  setText(byId("telephones-title"), domain === "" ? "Telephones" : `Telephones of ${domain}`);
+  telephones.list.forEach((telephone) => telephone.tellName(domain));
 }
 
 // Asks what happened, and goes on asking while this is the latest turn.
@@ -109,6 +122,7 @@ async function follow(turn) {
       takeState(state);
     }
     tellAgent(answer.clock);
+    tellName();
     stand("live", "page connected");
     if (answer.more) {
       pause = 0;
@@ -137,22 +151,59 @@ function stop() {
 
 // ---- A file
 
-async function openFile(file) {
-  const text = await file.text();
+// A file stands in the place of the gateway.
+function showFile(file) {
   gateway.isFile = true;
   stop();
   speaker.hear([]);
   document.querySelector("main").classList.add("is-file");
   byId("live").hidden = false;
   ["numbers", "clock", "wall", "agent"].forEach((id) => setText(byId(id), ""));
-  ladder.clear();
-  const { happened } = new Recording(text);
-  ladder.addAll(happened, (it) => ladder.add(it));
+  ladder.clear(MOST_READ);
+  // It is read from its beginning on.
+  ladder.pane.isLeft = true;
   heard.show();
-  ladder.isLeft = true;
-  ladder.list.scrollTop = 0;
-  const told = happened.filter((it) => it.kind !== "given up");
-  stand("file", `${file.name}: ${told.length} events`);
+  stand("file", `${file.name} is read ..`);
+}
+
+// Reads a file into the ladder, unless another is opened meanwhile; gives how many events it has.
+async function readFile(file, isCurrent) {
+  const domain = await configuredDomain(file);
+  const recording = new Recording(domain !== null);
+  let count = 0;
+  for await (const lines of linesOfFile(file)) {
+    if (!isCurrent()) {
+      break;
+    }
+    lines.forEach((line) => recording.read(line));
+    for (const happened of recording.take()) {
+      ladder.add(happened);
+      count += happened.kind === "given up" ? 0 : 1;
+    }
+    ladder.draw();
+  }
+  if (isCurrent() && domain) {
+    ladder.domain = domain;
+  }
+  return count;
+}
+
+async function openFile(file) {
+  showFile(file);
+  const { turn } = gateway;
+  const isCurrent = () => turn === gateway.turn;
+  try {
+    const count = await readFile(file, isCurrent);
+    if (isCurrent()) {
+      listCalls(ladder.calls);
+      tellName();
+      stand("file", `${file.name}: ${counted(count, "event")}`);
+    }
+  } catch {
+    if (isCurrent()) {
+      stand("lost", `${file.name} can't be read`);
+    }
+  }
 }
 
 function backToGateway() {
@@ -173,7 +224,7 @@ byId("phones").addEventListener("keydown", keyDown);
 byId("wanted-lines").addEventListener("input", showLines);
 byId("busy-only").addEventListener("change", () => telephones.settle());
 byId("shown-call").addEventListener("change", (event) => showCall(ladder.calls.calls.get(event.target.value) ?? null));
-byId("following").addEventListener("change", () => ladder.settleAll());
+byId("following").addEventListener("change", () => ladder.pane.toEnd());
 byId("tones").addEventListener("change", (event) => speaker.turn(event.target.checked));
 byId("save").addEventListener("click", saveShown);
 byId("message-call").addEventListener("click", () => showCall(ladder.chosen.call));

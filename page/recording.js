@@ -1,20 +1,52 @@
 // ---- Traces and outputs of scripts
 
+// So many lines of a file are read between two looks at the clock.
+const MOST_LINES_READ = 200;
+
+// The lines of a file, some at a time, in steps.
+async function* linesOfFile(file) {
+  const reader = file.stream().pipeThrough(new TextDecoderStream()).getReader();
+  let last = "";
+  for (let read = await reader.read(); !read.done; read = await reader.read()) {
+    const lines = (last + read.value).split(/\r\n|\n/);
+    last = lines.pop();
+    for (let place = 0; place < lines.length; place += MOST_LINES_READ) {
+      yield lines.slice(place, place + MOST_LINES_READ);
+      await rest();
+    }
+  }
+  yield [last];
+}
+
+// The domain that a file's configuration has, which is before a line `%%`; null where it has none.
+async function configuredDomain(file) {
+  let domain = "";
+  for await (const lines of linesOfFile(file)) {
+    for (const line of lines) {
+      if (line.trim() === "%%") {
+        return domain;
+      }
+      domain ||= /^\s*domain\s*=\s*"([^"]+)"/.exec(line)?.[1] ?? "";
+    }
+  }
+  return null;
+}
+
 // Reads a trace of rgwd, a script, or what rgw simulate printed, into what happened.
 class Recording {
-  constructor(text) {
+  constructor(hasConfiguration) {
     this.happened = [];
     this.labels = new FileLabels();
-    this.at = null;
+    this.isScript = hasConfiguration;
+    // Whether what happened begins behind a line that hasn't come yet.
+    this.isHead = hasConfiguration;
+    this.at = hasConfiguration ? 0 : null;
     this.inside = null;
-    const lines = text.split(/\r\n|\n/);
-    const end = lines.findIndex((line) => line.trim() === "%%");
-    if (end >= 0) {
-      this.at = 0;
-    }
-    for (const line of lines.slice(end + 1)) {
-      this.read(line, end >= 0);
-    }
+  }
+
+  // What happened since this was called last.
+  take() {
+    return this.happened.splice(0);
   }
 
   put(kind, peer, text, at = this.at, hex = null) {
@@ -28,12 +60,14 @@ class Recording {
   }
 
   // A line, of a script or of what was printed.
-  read(line, isScript) {
+  read(line) {
     const isPrinted = line.startsWith("| ");
     const said = isPrinted ? line.slice(2) : line;
-    if (this.inside) {
+    if (this.isHead) {
+      this.isHead = line.trim() !== "%%";
+    } else if (this.inside) {
       this.readInside(said);
-    } else if (isPrinted || !isScript) {
+    } else if (isPrinted || !this.isScript) {
       this.readPrinted(said);
     } else {
       this.readStep(said.trim());
@@ -98,8 +132,8 @@ function traceLines(happened) {
   return lines.map((line) => (happened.kind === "act" ? line : `| ${line}`));
 }
 
-// The trace of what happened. It has no configuration, so it can be drawn, but not replayed.
-function traceOf(list, told) {
+// The trace of what happened, made in steps. It has no configuration, so it can be drawn, but not replayed.
+async function traceOf(list, told) {
   const lines = [`# ${told}`, "%%"];
   let at = 0;
   for (const happened of list) {
@@ -108,16 +142,17 @@ function traceOf(list, told) {
       lines.push(`at ${at}`);
     }
     lines.push(...traceLines(happened));
+    await rest();
   }
   return `${lines.join("\n")}\n`;
 }
 
 // Saves what the ladder shows as a file: whole datagrams, of which a message is shown.
-function saveShown() {
-  const shown = new Set(ladder.rows.filter((row) => row.happened && !row.item.hidden).map((row) => row.happened));
+async function saveShown() {
+  const shown = new Set(ladder.pane.wanted.filter((row) => row.happened).map((row) => row.happened));
   const time = new Date().toISOString().slice(0, 19);
   const parts = [view.call ? `call ${view.call.name}` : "", view.lines ? `lines ${[...view.lines].join(", ")}` : ""];
-  const text = traceOf(shown, `${["shown by the page of rgwd", ...parts.filter((part) => part !== "")].join(", ")}, ${time}Z`);
+  const text = await traceOf(shown, `${["shown by the page of rgwd", ...parts.filter((part) => part !== "")].join(", ")}, ${time}Z`);
   const address = URL.createObjectURL(new Blob([text], { type: "text/plain" }));
   const link = make("a", { href: address, download: `rgwd_${time.replaceAll(":", "-")}Z.trace` });
   link.click();

@@ -20,7 +20,7 @@ class Telephone {
     this.hook = "on";
     this.signals = [];
     this.isBusy = false;
-    this.name = make("button", { type: "button", class: "phone-name", "aria-expanded": "false" }, `Line ${line}`);
+    this.name = make("button", { type: "button", class: "phone-name", "aria-expanded": "false" }, nameOf(line));
     this.hookButton = make("button", { type: "button", class: "phone-hook" }, "Lift");
     this.hears = make("p", { class: "hears silent" }, "silent");
     this.carries = make("div", { class: "carries" });
@@ -28,7 +28,7 @@ class Telephone {
     this.lost.hidden = true;
     this.refusal = make("p", { class: "refusal" });
     this.refusal.hidden = true;
-    this.keys = make("div", { class: "keys", role: "group", "aria-label": `Keys of line ${line}` });
+    this.keys = make("div", { class: "keys", role: "group", "aria-label": `Keys of ${nameOf(line)}` });
     this.keyButtons = KEYS.map((key) => {
       const button = make("button", { type: "button" }, key);
       button.addEventListener("click", () => act(line, key));
@@ -36,7 +36,7 @@ class Telephone {
     });
     this.flash = make("button", { type: "button", class: "flash" }, "Flash");
     this.keys.append(...this.keyButtons, this.flash);
-    this.card = make("div", { class: "phone", role: "group", "aria-label": `Line ${line}` },
+    this.card = make("div", { class: "phone", role: "group", "aria-label": nameOf(line) },
       make("div", { class: "phone-head" }, this.name, this.hookButton),
       this.refusal, this.hears, this.carries, this.lost, this.keys);
     this.card.dataset.line = String(line);
@@ -60,6 +60,15 @@ class Telephone {
 
   pressHook() {
     act(this.line, this.hook === "off" ? "on" : "off");
+  }
+
+  // Its endpoint's name.
+  tellName(domain) {
+    const name = domain === "" ? nameOf(this.line) : `${nameOf(this.line)}@${domain}`;
+    if (this.name.title !== name) {
+      this.name.title = name;
+      this.card.setAttribute("aria-label", name);
+    }
   }
 
   // Whether the tabulator key comes to it.
@@ -152,7 +161,7 @@ const telephones = {
     const isBusyOnly = byId("busy-only").checked;
     this.list.forEach((telephone) => telephone.settle(isBusyOnly));
     const shown = this.shown;
-    setText(byId("phones-told"), shown.length === this.list.length ? "" : `${shown.length} of ${this.list.length} lines are shown`);
+    setText(byId("phones-told"), shown.length === this.list.length ? "" : `shown: ${shown.length} of ${this.list.length} lines`);
     if (shown.length > 0 && this.chosen?.card.hidden) {
       this.choose(shown[0], false);
     }
@@ -196,7 +205,7 @@ const telephones = {
   // What was refused is told at its telephone, and above all of them.
   refuse(line, text) {
     this.list[line - 1]?.refuse(text);
-    setText(byId("refused"), text === "" ? "" : `Line ${line}: ${text}`);
+    setText(byId("refused"), text === "" ? "" : `${nameOf(line)}: ${text}`);
   },
 };
 

@@ -33,10 +33,29 @@ function setText(element, text) {
   }
 }
 
-// Forgets the oldest of a map that has grown past this.
+// So many of what a word names, in words: "1 connection", "2 connections".
+function counted(count, word) {
+  return `${count} ${word}${count === 1 ? "" : "s"}`;
+}
+
+// Forgets the oldest of a map that has grown past this by a quarter: many at once, since a map looks for its oldest past those that went.
 function forget(map, most) {
-  if (map.size > most) {
-    map.delete(map.keys().next().value);
+  if (map.size > 1.25 * most) {
+    [...map.keys()].slice(0, map.size - most).forEach((key) => map.delete(key));
+  }
+}
+
+// ---- Steps
+
+// So long, in ms, something is done at once.
+const STEP = 25;
+const step = { end: 0 };
+
+// The browser gets its turn where a step has taken its time: it draws, and takes what the reader does.
+async function rest() {
+  if (performance.now() > step.end) {
+    await new Promise((done) => setTimeout(done, 0));
+    step.end = performance.now() + STEP;
   }
 }
 
@@ -73,6 +92,11 @@ function linesOf(text) {
   return lines.size > 0 || /\d/.test(text) ? lines : null;
 }
 
+// The local name of a line's endpoint.
+function nameOf(line) {
+  return `aaln/${line}`;
+}
+
 // The number of the line that an endpoint's name is of, or 0.
 function lineOfName(name) {
   const found = /^aaln\/(\d+)(@|$)/i.exec(name);
@@ -83,11 +107,16 @@ function lineOfName(name) {
 
 const decoder = new TextDecoder("utf-8");
 
+// What a hexadecimal digit is, by its code.
+function digitOf(code) {
+  return code < 58 ? code - 48 : (code & 95) - 55;
+}
+
 // The text that pairs of hexadecimal digits spell.
 function textOfHex(hex) {
   const bytes = new Uint8Array(hex.length >> 1);
   for (let place = 0; place < bytes.length; place += 1) {
-    bytes[place] = Number.parseInt(hex.slice(2 * place, 2 * place + 2), 16);
+    bytes[place] = 16 * digitOf(hex.charCodeAt(2 * place)) + digitOf(hex.charCodeAt(2 * place + 1));
   }
   return decoder.decode(bytes);
 }
@@ -141,8 +170,13 @@ function readCommand(head, parameters) {
     id: Number(id),
     endpoint: endpoint.toLowerCase(),
     line: lineOfName(endpoint),
+    domain: /@(.+)$/.exec(endpoint)?.[1] ?? "",
     head: [verb.toUpperCase(), id, endpoint.replace(/@.*$/, "")],
     reason: "",
+    isRequest: verb.toUpperCase() === "RQNT" || valueOf(parameters, "X") !== "",
+    rings: /(^|,)\s*(L\/)?r[gs]\b/i.test(valueOf(parameters, "S")),
+    asksForLifting: /(^|,)\s*(L\/)?hd\b/i.test(valueOf(parameters, "R")),
+    observed: valueOf(parameters, "O"),
     disconnected: /^disconnected\b/i.test(valueOf(parameters, "RM")),
   };
 }

@@ -12,7 +12,7 @@ function isWanted(row) {
 // What a call is called in a list.
 function callText(call) {
   const lines = [...call.lines].sort((a, b) => a - b);
-  return lines.length > 0 ? `${call.name}, line ${lines.join(", ")}` : call.name;
+  return lines.length > 0 ? `${call.name}, ${lines.map(nameOf).join(", ")}` : call.name;
 }
 
 // Lists these calls, the latest first.
@@ -51,7 +51,7 @@ function showLines() {
 // ---- The message that is shown
 
 function showMessage(row) {
-  setText(byId("message-title"), row.title);
+  setText(byId("message-title"), row.look().title);
   setText(byId("message-text"), row.text);
   const call = byId("message-call");
   call.hidden = !row.call;

@@ -13,7 +13,7 @@ pub const PAGE: &str = r##"<!doctype html>
 </head>
 <body>
 <header>
-  <h1>rgwd</h1>
+  <h1><span id="domain">rgwd</span> <span id="names"></span></h1>
   <p id="standing" role="status" title="Whether this page hears from the gateway">not connected</p>
   <p id="agent" title="Whether the gateway hears from its call agent"></p>
   <p id="numbers"></p>

@@ -1,4 +1,4 @@
-//! What it does: page/text.js and 10 files behind it, written by `tools/page_files`.
+//! What it does: page/text.js and 12 files behind it, written by `tools/page_files`.
 
 /// What it does.
 pub const SCRIPT: &str = r##"// What the page of rgwd does.
@@ -36,10 +36,29 @@ function setText(element, text) {
   }
 }
 
-// Forgets the oldest of a map that has grown past this.
+// So many of what a word names, in words: "1 connection", "2 connections".
+function counted(count, word) {
+  return `${count} ${word}${count === 1 ? "" : "s"}`;
+}
+
+// Forgets the oldest of a map that has grown past this by a quarter: many at once, since a map looks for its oldest past those that went.
 function forget(map, most) {
-  if (map.size > most) {
-    map.delete(map.keys().next().value);
+  if (map.size > 1.25 * most) {
+    [...map.keys()].slice(0, map.size - most).forEach((key) => map.delete(key));
+  }
+}
+
+// ---- Steps
+
+// So long, in ms, something is done at once.
+const STEP = 25;
+const step = { end: 0 };
+
+// The browser gets its turn where a step has taken its time: it draws, and takes what the reader does.
+async function rest() {
+  if (performance.now() > step.end) {
+    await new Promise((done) => setTimeout(done, 0));
+    step.end = performance.now() + STEP;
   }
 }
 
@@ -76,6 +95,11 @@ function linesOf(text) {
   return lines.size > 0 || /\d/.test(text) ? lines : null;
 }
 
+// The local name of a line's endpoint.
+function nameOf(line) {
+  return `aaln/${line}`;
+}
+
 // The number of the line that an endpoint's name is of, or 0.
 function lineOfName(name) {
   const found = /^aaln\/(\d+)(@|$)/i.exec(name);
@@ -86,11 +110,16 @@ function lineOfName(name) {
 
 const decoder = new TextDecoder("utf-8");
 
+// What a hexadecimal digit is, by its code.
+function digitOf(code) {
+  return code < 58 ? code - 48 : (code & 95) - 55;
+}
+
 // The text that pairs of hexadecimal digits spell.
 function textOfHex(hex) {
   const bytes = new Uint8Array(hex.length >> 1);
   for (let place = 0; place < bytes.length; place += 1) {
-    bytes[place] = Number.parseInt(hex.slice(2 * place, 2 * place + 2), 16);
+    bytes[place] = 16 * digitOf(hex.charCodeAt(2 * place)) + digitOf(hex.charCodeAt(2 * place + 1));
   }
   return decoder.decode(bytes);
 }
@@ -144,8 +173,13 @@ function readCommand(head, parameters) {
     id: Number(id),
     endpoint: endpoint.toLowerCase(),
     line: lineOfName(endpoint),
+    domain: /@(.+)$/.exec(endpoint)?.[1] ?? "",
     head: [verb.toUpperCase(), id, endpoint.replace(/@.*$/, "")],
     reason: "",
+    isRequest: verb.toUpperCase() === "RQNT" || valueOf(parameters, "X") !== "",
+    rings: /(^|,)\s*(L\/)?r[gs]\b/i.test(valueOf(parameters, "S")),
+    asksForLifting: /(^|,)\s*(L\/)?hd\b/i.test(valueOf(parameters, "R")),
+    observed: valueOf(parameters, "O"),
     disconnected: /^disconnected\b/i.test(valueOf(parameters, "RM")),
   };
 }
@@ -288,25 +322,21 @@ class Calls {
     const key = name.toUpperCase();
     let call = this.calls.get(key);
     if (!call) {
-      call = { key, name, lines: new Set(), first: null, last: null };
+      call = { key, name, lines: new Set(), periods: new Set() };
       this.calls.set(key, call);
       forget(this.calls, MOST_CALLS);
     }
     return call;
   }
 
-  // Whether a call has a connection.
-  isHeld(call) {
-    return [...this.connections.values()].some((held) => held.call === call);
-  }
-
-  // A row is of a call: it reaches from its first row to its last.
-  extend(call, row) {
-    call.first ??= row.position;
-    call.last = Math.max(call.last ?? 0, row.number);
-    if (row.line > 0) {
-      call.lines.add(row.line);
+  // Whether a line has a connection.
+  isAt(line) {
+    for (const held of this.connections.values()) {
+      if (held.line === line) {
+        return true;
+      }
     }
+    return false;
   }
 
   // The call agent asks for something.
@@ -338,7 +368,7 @@ class Calls {
   take(asked, answer) {
     const line = answer.named || asked.line;
     const key = `${line} ${answer.connection || asked.connection}`;
-    const held = this.connections.get(key) ?? { call: this.callOf(asked) };
+    const held = this.connections.get(key) ?? { line, call: this.callOf(asked) };
     if (!held.call) {
       return;
     }
@@ -352,9 +382,8 @@ class Calls {
   // Connections were deleted: one, those of a call on a line, or all of a line or of the gateway.
   end(asked) {
     for (const [key, held] of this.connections) {
-      const [line, connection] = key.split(" ");
-      const isThere = asked.line === 0 || asked.line === Number(line);
-      const isMeant = asked.connection === "" || asked.connection === connection;
+      const isThere = asked.line === 0 || asked.line === held.line;
+      const isMeant = asked.connection === "" || key === `${held.line} ${asked.connection}`;
       const isCalled = asked.call === "" || asked.call.toUpperCase() === held.call.key;
       if (isThere && isMeant && isCalled) {
         this.connections.delete(key);
@@ -370,13 +399,107 @@ function connectionText(held) {
   return `connection ${connection} ${held.mode}, call ${held.call}, ${held.codec} ${held.ptime} ms${remote}`;
 }
 
-// Whether a row belongs to a call: it is of the call, or of a notification by one of its lines, from its first row to its last, or to
-// now while it has a connection.
+// Whether a row belongs to a call: it is of the call, or of none and in a busy period of a line that the call has.
 function isOfCall(row, call) {
-  if (row.call === call || !row.isNotification || !call.lines.has(row.line)) {
-    return row.call === call;
+  return row.call ? row.call === call : call.periods.has(row.period);
+}
+
+// ---- Busy periods of lines
+
+// So long after a line was busy last the request that ends its period may come, in ms: for as long a command is sent again (RFC 3435, 3.5.1).
+const REQUEST_TIME = 30000;
+
+// A line is busy from when it is lifted, rung or asked for a connection until it is on hook without a connection and its next lifting is
+// requested. What happens at it meanwhile is of one period.
+class BusyPeriods {
+  constructor(calls) {
+    this.calls = calls;
+    this.lines = new Map();
   }
-  return row.position > call.first && (row.position < call.last || ladder.calls.isHeld(call));
+
+  of(line) {
+    let state = this.lines.get(line);
+    if (!state) {
+      state = { line, hook: null, isWatched: false, isRung: false, isRequested: false, busyAt: null, period: null, last: null };
+      this.lines.set(line, state);
+    }
+    return state;
+  }
+
+  isAtRest(state) {
+    return state.hook !== "off" && !state.isRung && !this.calls.isAt(state.line);
+  }
+
+  // The period in which something happens at a line, or null.
+  at(line, at) {
+    if (line === 0) {
+      return null;
+    }
+    const state = this.of(line);
+    if (!this.isAtRest(state)) {
+      state.busyAt = at;
+      state.period ??= { line };
+    } else if (state.isRequested || at - state.busyAt > REQUEST_TIME) {
+      state.period = null;
+    }
+    state.last = state.period ?? state.last;
+    return state.period;
+  }
+
+  // A line leaves rest; one that is busy is in its period already.
+  begin(line, at) {
+    const state = this.of(line);
+    if (this.isAtRest(state)) {
+      Object.assign(state, { period: { line }, busyAt: at, isRequested: false });
+    }
+    return state;
+  }
+
+  // A handset is lifted or hung up, where the word says so.
+  move(line, word, at) {
+    if (word === "off") {
+      Object.assign(this.begin(line, at), { hook: "off", isRung: false });
+    }
+    const period = this.at(line, at);
+    if (word === "on") {
+      Object.assign(this.of(line), { hook: "on", isRequested: false });
+    }
+    return period;
+  }
+
+  // Something was done at a telephone.
+  act(line, word, at) {
+    if (line === 0) {
+      return null;
+    }
+    this.of(line).isWatched = true;
+    return this.move(line, word, at);
+  }
+
+  // The call agent asks for something.
+  ask(message, at) {
+    const { line } = message;
+    if (line === 0) {
+      return null;
+    }
+    if (message.verb === "CRCX" || (message.isRequest && message.rings)) {
+      this.begin(line, at);
+    }
+    const state = this.of(line);
+    const period = this.at(line, at);
+    if (message.isRequest) {
+      Object.assign(state, { isRung: message.rings && state.hook !== "off", isRequested: message.asksForLifting });
+    }
+    return period;
+  }
+
+  // The gateway tells what it observed, at once or when that is requested. A page that came later may have seen no act.
+  tell(message, at) {
+    const { line, observed } = message;
+    const hook = /\bhu\b/i.test(observed) ? "on" : /\bh[df]\b|\bD\//i.test(observed) ? "off" : "";
+    const period = line === 0 || this.of(line).isWatched ? this.at(line, at) : this.move(line, hook, at);
+    return hook === "on" ? period ?? this.of(line).last : period;
+  }
 }
 
 // ---- What is shown
@@ -393,7 +516,7 @@ function isWanted(row) {
 // What a call is called in a list.
 function callText(call) {
   const lines = [...call.lines].sort((a, b) => a - b);
-  return lines.length > 0 ? `${call.name}, line ${lines.join(", ")}` : call.name;
+  return lines.length > 0 ? `${call.name}, ${lines.map(nameOf).join(", ")}` : call.name;
 }
 
 // Lists these calls, the latest first.
@@ -432,7 +555,7 @@ function showLines() {
 // ---- The message that is shown
 
 function showMessage(row) {
-  setText(byId("message-title"), row.title);
+  setText(byId("message-title"), row.look().title);
   setText(byId("message-text"), row.text);
   const call = byId("message-call");
   call.hidden = !row.call;
@@ -453,6 +576,8 @@ const MOST_BARS = 2;
 const heard = {
   name: "",
   connections: [],
+  // The ends of the chosen call.
+  ends: [],
 
   // Takes a report, or none where the text isn't one.
   take(name, text) {
@@ -500,11 +625,12 @@ const heard = {
   show() {
     const box = byId("heard");
     const ends = view.call ? this.endsOf(view.call) : [];
+    this.ends = ends;
     box.hidden = this.name === "";
-    const told = `${this.name}: ${this.connections.length} connections`;
+    const told = `${this.name}: ${counted(this.connections.length, "connection")}`;
     const hint = view.call ? `${this.name} tells nothing of this call` : `${told}; choose a call`;
     box.replaceChildren(...(ends.length > 0 ? ends.map(drawEnd) : [make("p", { class: "hint" }, hint)]));
-    ladder.rows.forEach((row) => markRow(row, ends));
+    ladder.pane.drawn.forEach((row) => markRow(row, ends));
   },
 };
 
@@ -532,6 +658,188 @@ async function openReport(file) {
   heard.take(file.name, await file.text());
 }
 
+// ---- The rows that are drawn
+
+// So many rows are drawn at most, of those that are wanted: the latest, or those around what the reader looks at.
+const MOST_DRAWN = 200;
+// So close to the end of its list, in pixels, a reader is at the end.
+const NEAR_END = 80;
+
+// What an arrow says: of its head the id alone may be cut.
+function drawLabel(head) {
+  const [word, id, name] = head;
+  const label = make("span", { class: "label" }, make("span", { class: "word" }, word));
+  if (id !== "") {
+    label.append(" ", make("span", { class: "id", title: id }, id));
+  }
+  if (name !== "") {
+    label.append(" ", make("span", { class: "name" }, name));
+  }
+  return label;
+}
+
+// The arrow between two lanes, with what it says above it.
+function drawTrack(row, { head, reason, more }) {
+  const [left, right] = row.from < row.to ? [row.from, row.to] : [row.to, row.from];
+  const arrow = make("span", { class: `arrow ${row.from < row.to ? "right" : "left"}` });
+  const said = make("span", { class: "said" }, drawLabel(head));
+  for (const [name, text] of [["reason", reason], ["more", more]]) {
+    if (text) {
+      said.append(make("span", { class: name, title: text }, text));
+    }
+  }
+  const track = make("span", { class: `track ${row.kind}` }, said, arrow);
+  track.style.setProperty("--left", String(2 * left));
+  track.style.setProperty("--right", String(2 * right));
+  return track;
+}
+
+// A row has a mark at its head.
+function drawMark(row, { name, text }) {
+  row.track.classList.add(name);
+  row.track.querySelector(".label").append(" ", make("span", { class: "badge" }, text));
+}
+
+// Draws a row with an arrow between two lanes, or a hint.
+function drawRow(row) {
+  if (row.hint) {
+    row.item = make("li", {}, make("p", { class: "hint" }, row.hint));
+    return;
+  }
+  row.track = drawTrack(row, row.look());
+  const at = make("span", { class: "at" }, make("span", {}, clockText(row.at)));
+  if (row.wall !== null) {
+    at.append(make("span", { class: "wall", title: "The time of day, UTC, by this browser's clock" }, wallText(row.wall)));
+  }
+  row.button = make("button", { type: "button", class: "row", "aria-pressed": String(row === ladder.chosen) }, at, row.track);
+  row.button.addEventListener("click", () => ladder.choose(row));
+  row.item = make("li", {}, row.button);
+  row.marks.forEach((mark) => drawMark(row, mark));
+  markRow(row, heard.ends);
+}
+
+// A row isn't drawn any more.
+function dropRow(row) {
+  row.item.remove();
+  Object.assign(row, { item: null, button: null, track: null });
+}
+
+// A part of the wanted rows, which moves with the reader.
+class Pane {
+  constructor(list) {
+    this.list = list;
+    // Whatever makes it smaller or wider, its end stays in sight.
+    new ResizeObserver(() => this.keepEnd()).observe(list);
+    list.addEventListener("scroll", () => this.scrolled());
+    this.drawn = [];
+    this.show([]);
+  }
+
+  // These rows are wanted, and no others.
+  show(rows) {
+    this.wanted = rows;
+    // Whether the reader looks at a row far from the end.
+    this.isLeft = false;
+    this.drawFrom(this.isFollowing ? Math.max(0, rows.length - MOST_DRAWN) : 0);
+    this.keepEnd();
+  }
+
+  get to() {
+    return this.from + this.drawn.length;
+  }
+
+  get isFollowing() {
+    return !this.isLeft && byId("following").checked;
+  }
+
+  // Draws the rows from this one on; a row that was drawn before stays where it is seen.
+  drawFrom(from, anchor = null) {
+    const gap = anchor ? anchor.item.offsetTop - this.list.scrollTop : 0;
+    const focused = document.activeElement;
+    const part = new Set(this.wanted.slice(from, from + MOST_DRAWN));
+    this.drawn.filter((row) => !part.has(row)).forEach(dropRow);
+    this.from = from;
+    this.drawn = [...part];
+    this.drawn.filter((row) => !row.item).forEach(drawRow);
+    this.list.replaceChildren(...this.drawn.map((row) => row.item));
+    if (anchor) {
+      this.list.scrollTop = anchor.item.offsetTop - gap;
+    }
+    if (this.list.contains(focused)) {
+      focused.focus({ preventScroll: true });
+    }
+  }
+
+  // Rows have come behind the others: they are drawn where there is room, or where the reader follows.
+  extend() {
+    const end = this.wanted.length;
+    if (this.isFollowing && end - this.to > MOST_DRAWN) {
+      this.drawFrom(end - MOST_DRAWN);
+    }
+    const last = this.isFollowing ? end : Math.min(end, this.from + MOST_DRAWN);
+    const added = this.wanted.slice(this.to, last);
+    added.forEach(drawRow);
+    this.list.append(...added.map((row) => row.item));
+    this.drawn.push(...added);
+    const surplus = this.drawn.splice(0, Math.max(0, this.drawn.length - MOST_DRAWN));
+    surplus.forEach(dropRow);
+    this.from += surplus.length;
+    this.keepEnd();
+    this.scrolled();
+  }
+
+  // The oldest of the remembered rows isn't remembered any more.
+  forget(row) {
+    if (this.wanted[0] !== row) {
+      return;
+    }
+    this.wanted.shift();
+    if (this.from > 0) {
+      this.from -= 1;
+    } else if (this.drawn.length > 0) {
+      dropRow(this.drawn.shift());
+    }
+  }
+
+  // Goes to the end if the reader follows.
+  toEnd() {
+    this.isLeft = false;
+    this.extend();
+  }
+
+  // Stays at the end if the reader follows.
+  keepEnd() {
+    if (this.isFollowing) {
+      this.list.scrollTop = this.list.scrollHeight;
+    }
+  }
+
+  // How far the reader is from the end of the list, in pixels.
+  get rest() {
+    return this.list.scrollHeight - this.list.scrollTop - this.list.clientHeight;
+  }
+
+  // The reader looks at a row, which stays in sight.
+  look(row) {
+    this.isLeft = this.to < this.wanted.length || this.rest > NEAR_END;
+    if (this.isLeft) {
+      row.item.scrollIntoView({ block: "nearest" });
+    }
+  }
+
+  // Where the reader comes to an end of what is drawn, rows beyond it are drawn in place of some at the other end.
+  scrolled() {
+    const { scrollTop, clientHeight } = this.list;
+    const most = Math.max(0, this.wanted.length - MOST_DRAWN);
+    const step = scrollTop < clientHeight ? -MOST_DRAWN / 2 : this.rest < clientHeight ? MOST_DRAWN / 2 : 0;
+    const from = Math.max(0, Math.min(this.from + step, most));
+    if (from !== this.from) {
+      const anchor = this.drawn.find((row) => row.item.offsetTop + row.item.offsetHeight > scrollTop);
+      this.drawFrom(from, anchor);
+    }
+  }
+}
+
 // ---- The ladder
 
 // What a message is stands in its label: the gateway's (`said` of /events), or where a file is drawn that of `FileLabels`. Its text says
@@ -542,28 +850,29 @@ const RESPONSES = ["response", "answer", "again", "acknowledgement"];
 const SAID_BEFORE = ["repeat", "confirmed", "again", "resent"];
 // Nothing is told of a message without a label: its datagram is too long, 64 stand before it there, or memory was refused for that.
 const UNTOLD = { what: "", line: null, id: null, code: null, send: null };
-// So many rows are kept in the ladder.
-const MOST_ROWS = 3000;
-// A list this close to its end, in pixels, is at its end: two rows, since those that come may be higher once they are drawn.
-const NEAR_END = 80;
+// So many rows are remembered of a gateway, and of a file.
+const MOST_HEARD = 20000;
+const MOST_READ = 1000000;
 
 // Draws what happened, and marks what is said again and what is given up.
 class Ladder {
   constructor() {
-    this.list = byId("ladder");
-    // Whether the reader looks at a row far from the end.
-    this.isLeft = false;
-    // Whatever makes it smaller or wider, its end stays in sight.
-    new ResizeObserver(() => this.keepEnd()).observe(this.list);
+    this.pane = new Pane(byId("ladder"));
     this.clear();
   }
 
-  clear() {
-    this.list.replaceChildren();
+  // Nothing has happened yet; so many rows are remembered.
+  clear(most = MOST_HEARD) {
+    this.pane.show([]);
     this.peers = [];
+    this.most = most;
     this.rows = [];
-    this.count = 0;
+    // Whether rows that were passed over are wanted now.
+    this.isStale = false;
+    // The gateway's, once a command of its own names it, or one that it has executed.
+    this.domain = "";
     this.calls = new Calls();
+    this.periods = new BusyPeriods(this.calls);
     // Commands that nobody has answered yet, by direction and id: their rows.
     this.open = new Map();
     // Those that were answered, with their first rows.
@@ -576,10 +885,6 @@ class Ladder {
     hideMessage();
   }
 
-  get lanes() {
-    return 2 + Math.max(1, this.peers.length);
-  }
-
   setLanes() {
     const names = make("div", { class: "lane-names" }, make("span", {}, "telephones"), make("span", {}, "gateway"));
     const peers = this.peers.length > 0 ? this.peers : ["call agent"];
@@ -587,7 +892,7 @@ class Ladder {
       names.append(make("span", { title: peer }, peer));
     }
     byId("lanes").replaceChildren(names);
-    this.rows.forEach((row) => row.track?.style.setProperty("--lanes", String(this.lanes)));
+    this.pane.list.style.setProperty("--lanes", String(2 + peers.length));
   }
 
   // The lane of an address: the first has number 3.
@@ -603,116 +908,65 @@ class Ladder {
 
   // ---- Rows
 
-  // What an arrow says: of its head the id alone may be cut.
-  drawLabel(row) {
-    const [word, id, name] = row.head;
-    const label = make("span", { class: "label" }, make("span", { class: "word" }, word));
-    if (id !== "") {
-      label.append(" ", make("span", { class: "id", title: id }, id));
-    }
-    if (name !== "") {
-      label.append(" ", make("span", { class: "name" }, name));
-    }
-    return label;
-  }
-
-  // The arrow between two lanes, with what it says above it.
-  drawTrack(row) {
-    const [left, right] = row.from < row.to ? [row.from, row.to] : [row.to, row.from];
-    const arrow = make("span", { class: `arrow ${row.from < row.to ? "right" : "left"}` });
-    const said = make("span", { class: "said" }, this.drawLabel(row));
-    for (const [name, text] of [["reason", row.reason], ["more", row.more]]) {
-      if (text) {
-        said.append(make("span", { class: name, title: text }, text));
-      }
-    }
-    const track = make("span", { class: `track ${row.kind}` }, said, arrow);
-    track.style.setProperty("--lanes", String(this.lanes));
-    track.style.setProperty("--left", String(2 * left));
-    track.style.setProperty("--right", String(2 * right));
-    return track;
-  }
-
-  // Draws a row with an arrow between two lanes.
+  // Remembers a row with an arrow between two lanes.
   addRow(told) {
-    const row = { reason: "", more: "", call: null, isNotification: false, ...told };
-    this.count += 1;
-    row.number = this.count;
-    // Where it stands in the conversation: an answer stands where it was asked for.
-    row.position = row.number;
-    row.track = this.drawTrack(row);
-    const at = make("span", { class: "at" }, make("span", {}, clockText(row.at)));
-    if (row.wall !== null) {
-      at.append(make("span", { class: "wall", title: "The time of day, UTC, by this browser's clock" }, wallText(row.wall)));
-    }
-    row.button = make("button", { type: "button", class: "row", "aria-pressed": "false" }, at, row.track);
-    row.button.addEventListener("click", () => this.choose(row));
-    row.item = make("li", {}, row.button);
-    this.keep(row);
+    const row = { call: null, period: null, marks: [], item: null, ...told };
+    this.rows.push(row);
     return row;
   }
 
-  // A row stands in the list, and the oldest of too many doesn't any more.
+  // A row is as it stays: it is drawn with the next ones if it is wanted, and the oldest of too many isn't remembered any more.
   keep(row) {
-    row.item.hidden = !isWanted(row);
-    this.list.append(row.item);
-    this.rows.push(row);
-    while (this.rows.length > MOST_ROWS) {
-      this.rows.shift().item.remove();
+    if (isWanted(row)) {
+      this.pane.wanted.push(row);
+    }
+    if (this.rows.length > this.most) {
+      this.pane.forget(this.rows.shift());
     }
   }
 
   choose(row) {
-    this.chosen?.button.setAttribute("aria-pressed", "false");
+    this.chosen?.button?.setAttribute("aria-pressed", "false");
     this.chosen = row;
     row.button.setAttribute("aria-pressed", "true");
-    this.isLeft = this.list.scrollHeight - this.list.scrollTop - this.list.clientHeight > NEAR_END;
+    this.pane.look(row);
     showMessage(row);
-    if (this.isLeft) {
-      row.item.scrollIntoView({ block: "nearest" });
-    }
-    this.keepEnd();
+    this.pane.keepEnd();
   }
 
-  // What stands in a row is true of this line and this call from now on.
-  settle(row, line, call) {
-    row.line = line;
-    row.call = call;
-    if (call) {
-      this.calls.extend(call, row);
+  // What stands in a row is true of this line, of this call, and of this busy period.
+  settle(row, line, call, period) {
+    Object.assign(row, { line, call, period });
+    if (call && line > 0) {
+      call.lines.add(line);
     }
-    row.item.hidden = !isWanted(row);
+    if (call && period && !call.periods.has(period)) {
+      call.periods.add(period);
+      this.isStale ||= call === view.call;
+    }
   }
 
   // Shows the rows that are wanted now, and no others.
   settleAll() {
-    this.rows.forEach((row) => {
-      row.item.hidden = !isWanted(row);
-    });
-    this.toEnd();
+    this.isStale = false;
+    this.pane.show(this.rows.filter(isWanted));
   }
 
-  // Goes to the end if the reader follows.
-  toEnd() {
-    this.isLeft = false;
-    this.keepEnd();
-  }
-
-  // Stays at the end if the reader follows. Rows that are drawn only once they are reached may have another height then.
-  keepEnd(frames = 2) {
-    if (this.isLeft || !byId("following").checked) {
-      return;
+  // Draws what has come.
+  draw() {
+    if (this.isStale) {
+      this.settleAll();
     }
-    this.list.scrollTop = this.list.scrollHeight;
-    if (frames > 0) {
-      requestAnimationFrame(() => this.keepEnd(frames - 1));
-    }
+    this.pane.extend();
   }
 
   mark(row, name, text) {
-    if (!row.track.classList.contains(name)) {
-      row.track.classList.add(name);
-      row.track.querySelector(".label").append(" ", make("span", { class: "badge" }, text));
+    if (row.marks.some((mark) => mark.name === name)) {
+      return;
+    }
+    row.marks.push({ name, text });
+    if (row.item) {
+      drawMark(row, { name, text });
     }
   }
 
@@ -728,8 +982,9 @@ class Ladder {
   }
 
   addCommand(row, message, direction, label) {
-    row.isNotification = message.verb === "NTFY";
-    this.settle(row, label.line ?? message.line, this.calls.callOf(message));
+    const line = label.line ?? message.line;
+    const call = this.calls.callOf(message);
+    row.domain = message.domain;
     if (label.what === "lost") {
       this.mark(row, "given-up", "lost");
     }
@@ -739,12 +994,18 @@ class Ladder {
       const open = this.open.get(key);
       open?.push(row);
       // A page that came later hears the repeat first.
-      if (open || this.answered.has(key)) {
+      const first = open?.[0] ?? this.answered.get(key);
+      if (first) {
+        this.settle(row, line, call, first.period);
         return;
       }
     }
     if (direction === "in") {
       this.calls.ask(message);
+      this.settle(row, line, call, this.periods.ask(message, row.at));
+    } else {
+      this.domain ||= row.domain;
+      this.settle(row, line, call, this.periods.tell(message, row.at));
     }
     this.open.set(key, [row]);
     forget(this.open, 1000);
@@ -760,16 +1021,19 @@ class Ladder {
     }
     const asked = this.open.get(key)?.[0] ?? this.answered.get(key);
     if (!asked) {
-      this.settle(row, label.line ?? row.line, null);
+      const line = label.line ?? row.line;
+      this.settle(row, line, null, this.periods.at(line, row.at));
       return;
     }
     if (message.code >= 200 && this.open.delete(key)) {
       this.answered.set(key, asked);
       forget(this.answered, 5000);
     }
-    row.isNotification = asked.isNotification;
-    row.position = asked.number;
-    this.settle(row, message.named || asked.line, asked.call);
+    if (direction === "out" && message.code >= 200 && message.code < 300) {
+      this.domain ||= asked.domain;
+    }
+    const line = message.named || asked.line;
+    this.settle(row, line, asked.call, asked.period ?? this.periods.at(line, row.at));
   }
 
   // ---- What happened
@@ -783,23 +1047,24 @@ class Ladder {
     texts.forEach((text, place) => {
       const label = happened.said?.[place] ?? UNTOLD;
       const kind = kindOf(label);
-      const message = kind === "fault" ? readLine(text, "not MGCP: ") : readMessage(text);
+      const message = readAs(kind, text);
       const part = texts.length > 1 ? `, ${place + 1} of ${texts.length} in its datagram` : "";
       const row = this.addRow({
         happened, at: happened.at, wall: happened.wall, peer: happened.peer, text,
         kind: kind === "response" && message.code >= 400 ? "fault" : kind,
         from: direction === "in" ? lane : 2,
         to: direction === "in" ? 2 : lane,
-        line: message.line, head: message.head, reason: message.reason, more: message.more,
-        title: `${way}${whenText(happened)}${part}${message.reason ? `: ${message.reason}` : ""}`,
+        line: message.line,
+        look: () => lookOf(text, kind, `${way}${whenText(happened)}${part}`),
       });
       if (kind === "command") {
         this.addCommand(row, message, direction, label);
       } else if (kind === "response") {
         this.addResponse(row, message, direction, label);
       } else {
-        this.settle(row, message.line, this.calls.callOf(message));
+        this.settle(row, message.line, this.calls.callOf(message), this.periods.at(message.line, row.at));
       }
+      this.keep(row);
     });
   }
 
@@ -808,11 +1073,14 @@ class Ladder {
     const found = /^\s*phone\s+(\d+)\s+(\S+)/.exec(happened.text);
     const line = found ? Number(found[1]) : 0;
     const words = { off: "lifted", on: "hung up", flash: "flash" };
-    const label = found ? `${found[1]}: ${words[found[2]] ?? `key ${found[2]}`}` : happened.text.trim();
+    const text = happened.text.trim();
+    const label = found ? `${nameOf(line)}: ${words[found[2]] ?? `key ${found[2]}`}` : text;
     this.lastAct = this.addRow({
-      happened, at: happened.at, wall: happened.wall, peer: "", kind: "act", from: 1, to: 2, line, head: [label, "", ""],
-      title: `at a telephone${whenText(happened)}`, text: happened.text.trim(),
+      happened, at: happened.at, wall: happened.wall, peer: "", kind: "act", from: 1, to: 2, line, text,
+      period: this.periods.act(line, found?.[2], happened.at),
+      look: () => ({ head: [label, "", ""], title: `at a telephone${whenText(happened)}` }),
     });
+    this.keep(this.lastAct);
   }
 
   // What was told to a telephone, or of a line.
@@ -822,18 +1090,18 @@ class Ladder {
       return;
     }
     const of = /^line (\d+) /.exec(text);
-    this.addRow({
+    const line = of ? Number(of[1]) : this.lastAct?.line ?? 0;
+    this.keep(this.addRow({
       happened, at: happened.at, wall: happened.wall, peer: "", kind: text.startsWith("!") ? "fault" : "act", from: 2, to: 1,
-      line: of ? Number(of[1]) : this.lastAct?.line ?? 0, head: [text.slice(0, 80), "", ""],
-      title: `told to the telephones${whenText(happened)}`, text,
-    });
+      line, text, period: this.periods.at(line, happened.at),
+      look: () => ({ head: [text.slice(0, 80), "", ""], title: `told to the telephones${whenText(happened)}` }),
+    }));
   }
 
   // Events that this page has missed.
   addGap(count) {
-    const item = make("li", {}, make("p", { class: "hint" }, `${count} events are no longer known`));
-    this.count += 1;
-    this.keep({ item, line: 0, number: this.count, position: this.count, call: null, isNotification: false });
+    const hint = `${counted(count, "event")} ${count === 1 ? "is" : "are"} no longer known`;
+    this.keep(this.addRow({ hint, line: 0 }));
   }
 
   add(happened) {
@@ -855,7 +1123,8 @@ class Ladder {
     }
     list.forEach(take);
     listCalls(this.calls);
-    this.toEnd();
+    this.pane.isLeft = false;
+    this.draw();
   }
 }
 
@@ -868,6 +1137,17 @@ function kindOf(label) {
     return "response";
   }
   return label.what === "unreadable" ? "fault" : "untold";
+}
+
+// A text as what its label says that it is.
+function readAs(kind, text) {
+  return kind === "fault" ? readLine(text, "not MGCP: ") : readMessage(text);
+}
+
+// How a message looks: its head, what stands below it, and what is said of it where its whole text is shown.
+function lookOf(text, kind, way) {
+  const { head, reason, more } = readAs(kind, text);
+  return { head, reason, more, title: `${way}${reason ? `: ${reason}` : ""}` };
 }
 
 // When something happened, by the gateway's clock and by the time of day.
@@ -974,21 +1254,53 @@ function labelOf(what, id) {
 
 // ---- Traces and outputs of scripts
 
+// So many lines of a file are read between two looks at the clock.
+const MOST_LINES_READ = 200;
+
+// The lines of a file, some at a time, in steps.
+async function* linesOfFile(file) {
+  const reader = file.stream().pipeThrough(new TextDecoderStream()).getReader();
+  let last = "";
+  for (let read = await reader.read(); !read.done; read = await reader.read()) {
+    const lines = (last + read.value).split(/\r\n|\n/);
+    last = lines.pop();
+    for (let place = 0; place < lines.length; place += MOST_LINES_READ) {
+      yield lines.slice(place, place + MOST_LINES_READ);
+      await rest();
+    }
+  }
+  yield [last];
+}
+
+// The domain that a file's configuration has, which is before a line `%%`; null where it has none.
+async function configuredDomain(file) {
+  let domain = "";
+  for await (const lines of linesOfFile(file)) {
+    for (const line of lines) {
+      if (line.trim() === "%%") {
+        return domain;
+      }
+      domain ||= /^\s*domain\s*=\s*"([^"]+)"/.exec(line)?.[1] ?? "";
+    }
+  }
+  return null;
+}
+
 // Reads a trace of rgwd, a script, or what rgw simulate printed, into what happened.
 class Recording {
-  constructor(text) {
+  constructor(hasConfiguration) {
     this.happened = [];
     this.labels = new FileLabels();
-    this.at = null;
+    this.isScript = hasConfiguration;
+    // Whether what happened begins behind a line that hasn't come yet.
+    this.isHead = hasConfiguration;
+    this.at = hasConfiguration ? 0 : null;
     this.inside = null;
-    const lines = text.split(/\r\n|\n/);
-    const end = lines.findIndex((line) => line.trim() === "%%");
-    if (end >= 0) {
-      this.at = 0;
-    }
-    for (const line of lines.slice(end + 1)) {
-      this.read(line, end >= 0);
-    }
+  }
+
+  // What happened since this was called last.
+  take() {
+    return this.happened.splice(0);
   }
 
   put(kind, peer, text, at = this.at, hex = null) {
@@ -1002,12 +1314,14 @@ class Recording {
   }
 
   // A line, of a script or of what was printed.
-  read(line, isScript) {
+  read(line) {
     const isPrinted = line.startsWith("| ");
     const said = isPrinted ? line.slice(2) : line;
-    if (this.inside) {
+    if (this.isHead) {
+      this.isHead = line.trim() !== "%%";
+    } else if (this.inside) {
       this.readInside(said);
-    } else if (isPrinted || !isScript) {
+    } else if (isPrinted || !this.isScript) {
       this.readPrinted(said);
     } else {
       this.readStep(said.trim());
@@ -1072,8 +1386,8 @@ function traceLines(happened) {
   return lines.map((line) => (happened.kind === "act" ? line : `| ${line}`));
 }
 
-// The trace of what happened. It has no configuration, so it can be drawn, but not replayed.
-function traceOf(list, told) {
+// The trace of what happened, made in steps. It has no configuration, so it can be drawn, but not replayed.
+async function traceOf(list, told) {
   const lines = [`# ${told}`, "%%"];
   let at = 0;
   for (const happened of list) {
@@ -1082,16 +1396,17 @@ function traceOf(list, told) {
       lines.push(`at ${at}`);
     }
     lines.push(...traceLines(happened));
+    await rest();
   }
   return `${lines.join("\n")}\n`;
 }
 
 // Saves what the ladder shows as a file: whole datagrams, of which a message is shown.
-function saveShown() {
-  const shown = new Set(ladder.rows.filter((row) => row.happened && !row.item.hidden).map((row) => row.happened));
+async function saveShown() {
+  const shown = new Set(ladder.pane.wanted.filter((row) => row.happened).map((row) => row.happened));
   const time = new Date().toISOString().slice(0, 19);
   const parts = [view.call ? `call ${view.call.name}` : "", view.lines ? `lines ${[...view.lines].join(", ")}` : ""];
-  const text = traceOf(shown, `${["shown by the page of rgwd", ...parts.filter((part) => part !== "")].join(", ")}, ${time}Z`);
+  const text = await traceOf(shown, `${["shown by the page of rgwd", ...parts.filter((part) => part !== "")].join(", ")}, ${time}Z`);
   const address = URL.createObjectURL(new Blob([text], { type: "text/plain" }));
   const link = make("a", { href: address, download: `rgwd_${time.replaceAll(":", "-")}Z.trace` });
   link.click();
@@ -1201,7 +1516,7 @@ class Telephone {
     this.hook = "on";
     this.signals = [];
     this.isBusy = false;
-    this.name = make("button", { type: "button", class: "phone-name", "aria-expanded": "false" }, `Line ${line}`);
+    this.name = make("button", { type: "button", class: "phone-name", "aria-expanded": "false" }, nameOf(line));
     this.hookButton = make("button", { type: "button", class: "phone-hook" }, "Lift");
     this.hears = make("p", { class: "hears silent" }, "silent");
     this.carries = make("div", { class: "carries" });
@@ -1209,7 +1524,7 @@ class Telephone {
     this.lost.hidden = true;
     this.refusal = make("p", { class: "refusal" });
     this.refusal.hidden = true;
-    this.keys = make("div", { class: "keys", role: "group", "aria-label": `Keys of line ${line}` });
+    this.keys = make("div", { class: "keys", role: "group", "aria-label": `Keys of ${nameOf(line)}` });
     this.keyButtons = KEYS.map((key) => {
       const button = make("button", { type: "button" }, key);
       button.addEventListener("click", () => act(line, key));
@@ -1217,7 +1532,7 @@ class Telephone {
     });
     this.flash = make("button", { type: "button", class: "flash" }, "Flash");
     this.keys.append(...this.keyButtons, this.flash);
-    this.card = make("div", { class: "phone", role: "group", "aria-label": `Line ${line}` },
+    this.card = make("div", { class: "phone", role: "group", "aria-label": nameOf(line) },
       make("div", { class: "phone-head" }, this.name, this.hookButton),
       this.refusal, this.hears, this.carries, this.lost, this.keys);
     this.card.dataset.line = String(line);
@@ -1241,6 +1556,15 @@ class Telephone {
 
   pressHook() {
     act(this.line, this.hook === "off" ? "on" : "off");
+  }
+
+  // Its endpoint's name.
+  tellName(domain) {
+    const name = domain === "" ? nameOf(this.line) : `${nameOf(this.line)}@${domain}`;
+    if (this.name.title !== name) {
+      this.name.title = name;
+      this.card.setAttribute("aria-label", name);
+    }
   }
 
   // Whether the tabulator key comes to it.
@@ -1333,7 +1657,7 @@ const telephones = {
     const isBusyOnly = byId("busy-only").checked;
     this.list.forEach((telephone) => telephone.settle(isBusyOnly));
     const shown = this.shown;
-    setText(byId("phones-told"), shown.length === this.list.length ? "" : `${shown.length} of ${this.list.length} lines are shown`);
+    setText(byId("phones-told"), shown.length === this.list.length ? "" : `shown: ${shown.length} of ${this.list.length} lines`);
     if (shown.length > 0 && this.chosen?.card.hidden) {
       this.choose(shown[0], false);
     }
@@ -1377,7 +1701,7 @@ const telephones = {
   // What was refused is told at its telephone, and above all of them.
   refuse(line, text) {
     this.list[line - 1]?.refuse(text);
-    setText(byId("refused"), text === "" ? "" : `Line ${line}: ${text}`);
+    setText(byId("refused"), text === "" ? "" : `${nameOf(line)}: ${text}`);
   },
 };
 
@@ -1508,8 +1832,21 @@ function takeState(state) {
   const off = state.lines.filter((line) => line.hook === "off").length;
   const held = state.lines.reduce((sum, line) => sum + line.connections.length, 0);
   const counts = state.counts;
-  setText(byId("numbers"), `${state.lines.length} lines, ${off} off hook, ${held} connections, `
+  setText(byId("numbers"), `${counted(state.lines.length, "line")}, ${off} off hook, ${counted(held, "connection")}, `
     + `datagrams ${counts.datagrams_in} in ${counts.datagrams_out} out, ids from ${state.first}`);
+}
+
+// Title, heading and telephones carry the gateway's domain, once it is known, and the names of its lines.
+function tellName() {
+  const { domain } = ladder;
+  const { length } = gateway.isFile ? [] : telephones.list;
+  const names = [length > 0 ? nameOf(1) : "", length > 1 ? nameOf(length) : ""].filter((name) => name !== "").join(" to ");
+  setText(byId("domain"), domain || "rgwd");
+  setText(byId("names"), names);
+  const title = [domain, names].filter((part) => part !== "").join(" ");
+  setText(document.querySelector("title"), title === "" ? "rgwd" : `${title} - rgwd`);
+  setText(byId("telephones-title"), domain === "" ? "Telephones" : `Telephones of ${domain}`);
+  telephones.list.forEach((telephone) => telephone.tellName(domain));
 }
 
 // Asks what happened, and goes on asking while this is the latest turn.
@@ -1531,6 +1868,7 @@ async function follow(turn) {
       takeState(state);
     }
     tellAgent(answer.clock);
+    tellName();
     stand("live", "page connected");
     if (answer.more) {
       pause = 0;
@@ -1559,22 +1897,59 @@ function stop() {
 
 // ---- A file
 
-async function openFile(file) {
-  const text = await file.text();
+// A file stands in the place of the gateway.
+function showFile(file) {
   gateway.isFile = true;
   stop();
   speaker.hear([]);
   document.querySelector("main").classList.add("is-file");
   byId("live").hidden = false;
   ["numbers", "clock", "wall", "agent"].forEach((id) => setText(byId(id), ""));
-  ladder.clear();
-  const { happened } = new Recording(text);
-  ladder.addAll(happened, (it) => ladder.add(it));
+  ladder.clear(MOST_READ);
+  // It is read from its beginning on.
+  ladder.pane.isLeft = true;
   heard.show();
-  ladder.isLeft = true;
-  ladder.list.scrollTop = 0;
-  const told = happened.filter((it) => it.kind !== "given up");
-  stand("file", `${file.name}: ${told.length} events`);
+  stand("file", `${file.name} is read ..`);
+}
+
+// Reads a file into the ladder, unless another is opened meanwhile; gives how many events it has.
+async function readFile(file, isCurrent) {
+  const domain = await configuredDomain(file);
+  const recording = new Recording(domain !== null);
+  let count = 0;
+  for await (const lines of linesOfFile(file)) {
+    if (!isCurrent()) {
+      break;
+    }
+    lines.forEach((line) => recording.read(line));
+    for (const happened of recording.take()) {
+      ladder.add(happened);
+      count += happened.kind === "given up" ? 0 : 1;
+    }
+    ladder.draw();
+  }
+  if (isCurrent() && domain) {
+    ladder.domain = domain;
+  }
+  return count;
+}
+
+async function openFile(file) {
+  showFile(file);
+  const { turn } = gateway;
+  const isCurrent = () => turn === gateway.turn;
+  try {
+    const count = await readFile(file, isCurrent);
+    if (isCurrent()) {
+      listCalls(ladder.calls);
+      tellName();
+      stand("file", `${file.name}: ${counted(count, "event")}`);
+    }
+  } catch {
+    if (isCurrent()) {
+      stand("lost", `${file.name} can't be read`);
+    }
+  }
 }
 
 function backToGateway() {
@@ -1595,7 +1970,7 @@ byId("phones").addEventListener("keydown", keyDown);
 byId("wanted-lines").addEventListener("input", showLines);
 byId("busy-only").addEventListener("change", () => telephones.settle());
 byId("shown-call").addEventListener("change", (event) => showCall(ladder.calls.calls.get(event.target.value) ?? null));
-byId("following").addEventListener("change", () => ladder.settleAll());
+byId("following").addEventListener("change", () => ladder.pane.toEnd());
 byId("tones").addEventListener("change", (event) => speaker.turn(event.target.checked));
 byId("save").addEventListener("click", saveShown);
 byId("message-call").addEventListener("click", () => showCall(ladder.chosen.call));

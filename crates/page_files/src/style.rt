@@ -77,6 +77,7 @@ header {
   background: var(--card);
   border-bottom: 1px solid var(--edge);
 }
+#names { color: var(--soft); font-weight: 400; font-size: .9rem; }
 #standing, #agent { font-weight: 600; }
 #standing[data-is="lost"], #agent[data-is="lost"] { color: var(--fault); }
 #standing[data-is="live"], #agent[data-is="live"] { color: var(--response); }
@@ -140,7 +141,7 @@ section { display: flex; flex-direction: column; min-width: 0; min-height: 0; pa
 .phone.open .keys { display: grid; }
 .keys button { padding: .2rem 0; }
 .keys .flash { grid-column: 1 / -1; }
-#lanes, .row { --lanes: 3; }
+#ladder { --lanes: 3; }
 #lanes {
   overflow-y: hidden;
   scrollbar-gutter: stable;
@@ -152,9 +153,7 @@ section { display: flex; flex-direction: column; min-width: 0; min-height: 0; pa
 }
 .lane-names { grid-column: 2; display: grid; grid-auto-flow: column; grid-auto-columns: minmax(0, 1fr); text-align: center; }
 .lane-names span { overflow: hidden; text-overflow: ellipsis; white-space: nowrap; padding: 0 .2rem; }
-#ladder { list-style: none; padding: 0; flex: 1; min-height: 8rem; overflow-x: hidden; overflow-y: auto; scrollbar-gutter: stable; }
-/* A row that isn't drawn yet keeps its height alone: a kept width would keep the ladder as wide as it once was. */
-#ladder li { content-visibility: auto; contain-intrinsic-height: auto 2.6rem; }
+#ladder { position: relative; overflow-anchor: none; list-style: none; padding: 0; flex: 1; min-height: 8rem; overflow-x: hidden; overflow-y: auto; scrollbar-gutter: stable; }
 .row {
   display: grid;
   grid-template-columns: 5.6rem minmax(0, 1fr);
