@@ -1,6 +1,7 @@
 //! How the program ends: its status, and what it says then.
-ghost use Rattle.std.specs.Prelude.{◌≡◌, ◌⊎◌, ℕ, List, ◌++◌, [], codes, OnOk, IfOk};
+ghost use Rattle.std.specs.Prelude.{◌≡◌, ◌⊎◌, ℕ, List, ◌++◌, ◌∷◌, [], codes, OnOk, IfOk};
 ghost use Rattle.live_ends.specs.Ending.{status_of as common_status};
+ghost use Rattle.live_ends.specs.Wording.{joined};
 ghost use Rattle.rgca_words.specs.Statuses.{status_of, is_asked};
 ghost use Rattle.rgca_words.specs.Texts.{moved_text, ending_text};
 ghost use Rattle.rgca_words.specs.Names.{HasNames, Says};
@@ -90,7 +91,7 @@ impl Ending {
     {
         match self {
             Ending::Common(ending) => ending.put_text(alloc, out, about, files),
-            Ending::Moved { what } => put_pieces(out, &[moved_text(*what)]),
+            Ending::Moved { what } => put_moved(out, *what),
             Ending::Config { line } => put_config(out, files.read_from, line.as_slice()),
         }
     }
@@ -141,6 +142,13 @@ fn moved_text(what: Moved) -> &'static str
         }
         Moved::Load => "rgca load is now the program rgw-load\n",
     }
+}
+
+// Says where a part of the program went.
+fn put_moved(out: &mut Vec<u8>, what: Moved) -> Result<(), OutOfMemory>
+    ensures { OnOk result (out.new.items ≡ out.old.items ++ joined (moved_text what ∷ [])) }
+{
+    put_pieces(out, &[moved_text(what)])
 }
 
 // The configuration in this file has a fault, which a line tells.

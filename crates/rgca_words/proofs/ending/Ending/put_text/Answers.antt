@@ -7,4 +7,4 @@ returns-in-Common c = rw (c.in-Common.is) c.put_text.ensures
 
 pub returns-in-Moved : goal.returns-in-Moved
 unfolding ending_text
-returns-in-Moved c = rw (c.in-Moved.is) c.put_pieces.ensures
+returns-in-Moved c = rw (c.in-Moved.is) c.put_moved.ensures
