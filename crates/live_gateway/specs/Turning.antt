@@ -116,6 +116,17 @@ Does told traffic sockets tells receives sends hears answers Datagram was is = L
 Does told traffic sockets tells receives sends hears answers Visit was is = at_desk told traffic is ≡ at_desk told traffic was
 Does told traffic sockets tells receives sends hears answers (Note pause) was is = at_desk told traffic is ≡ at_desk told traffic was
 
+-- an event may be taken at a turn of this kind; at the others none is
+abbrev pub MayTake : Turn → Bool → Type 0
+MayTake End taken = taken ≡ false
+MayTake Look taken = taken ≡ false
+MayTake (Wait until) taken = taken ≡ false
+MayTake (Tick moment) taken = ⊤
+MayTake Command taken = ⊤
+MayTake Datagram taken = ⊤
+MayTake Visit taken = taken ≡ false
+MayTake (Note pause) taken = taken ≡ false
+
 -- What may have something: who types, where a line is left, or as was told of their socket; the network, where that which spoils it hands
 -- something out by now, or as was told of its socket; visitors, as they say.
 abbrev pub ready_at : Told → Bool → Option ℕ → ℕ → Bool → Ready
@@ -176,6 +187,7 @@ pub record DoesNext {S T V : Type 0}
   pub does : Does told traffic sockets tells receives sends hears answers turn begun done
   pub leaves : Leaves traffic dates tells sleeps serves at.moment turn visitors left begun done
   pub taken : Bool
+  pub may : MayTake turn taken
   pub changes : Changes taken done.play.gateway.value.changed begun.play.gateway.value.machine.endpoints
       done.play.gateway.value.machine.endpoints
   pub behind : is ≡ record done { exchange = record done.exchange { around = is.exchange.around }; watch = is.watch }

@@ -21,7 +21,7 @@ ghost use Rattle.live_play.specs.Readable.{first_unread};
 ghost use Rattle.live_gateway.specs.Answering.{DoesLine, AnswersRequest};
 ghost use Rattle.live_gateway.specs.Leaving.{OnlyPlays, DoesVisit, Leaves};
 ghost use Rattle.live_gateway.specs.Opening.{CountsNothing, BeginsBoard, BeginsNetwork, BeginsRecords, IsUnused, IsUnplayed, IsUntyped};
-ghost use Rattle.live_gateway.specs.Turning.{LooksForOne, Does, DoesNext, RunsTurns};
+ghost use Rattle.live_gateway.specs.Turning.{LooksForOne, Does, DoesNext, MayTake, RunsTurns};
 
 use crate::admission::Admission;
 use crate::arriving::{read_address, read_bytes};
@@ -318,6 +318,7 @@ impl<S: Surroundings + Drop, T: Teller + Drop> Desk<S, T> {
         ensures does { Does T.told S.traffic S.sockets S.tells S.receives S.sends S.hears S.answers turn self.old self.new }
         ensures leaves { Leaves S.traffic S.dates S.tells S.sleeps V.serves moment turn visitors.old visitors.new self.old self.new }
         ensures over { is_end turn ≡ true → (self.new.play ≡ self.old.play) × (self.new.end ≡ self.old.end) }
+        ensures may { MayTake turn result }
         ensures changes { Changes result self.new.play.gateway.value.changed self.old.play.gateway.value.machine.endpoints
             self.new.play.gateway.value.machine.endpoints }
     {

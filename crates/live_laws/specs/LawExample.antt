@@ -1,5 +1,5 @@
 -- What the worked examples of what laws ask for speak of: a gateway that runs live and announces itself, and turns of an exchange.
-use Rattle.std.specs.Prelude.{List, [], ◌∷◌, ◌++◌, codes, Some}
+use Rattle.std.specs.Prelude.{List, [], ◌∷◌, ◌++◌, codes, Some, false}
 use Rattle.transmission.specs.declared.output.OutDatagram.{OutDatagram}
 use Rattle.plain_machine.specs.Event.{tick}
 use Rattle.plain_machine.specs.Example.{announced, to_agent_at, two_lines}
@@ -22,7 +22,7 @@ use Rattle.live_laws.specs.Example.{at_port}
 -- A gateway that runs live
 
 abbrev pub opened_gateway : GatewayState
-opened_gateway = record { setup = two_lines; machine = opening two_lines; outcomes = []; account = no_account }
+opened_gateway = record { setup = two_lines; machine = opening two_lines; outcomes = []; account = no_account; changed = false ∷ false ∷ [] }
 
 -- a ms later it announces itself
 abbrev pub announced_gateway : GatewayState
@@ -31,6 +31,7 @@ announced_gateway = record {
   machine = (effect two_lines (opening two_lines) (tick 1)).value;
   outcomes = outcomes_of two_lines (opening two_lines) (tick 1);
   account = account_of two_lines (opening two_lines) (tick 1);
+  changed = false ∷ false ∷ [];
 }
 
 abbrev pub announcement : OutDatagram

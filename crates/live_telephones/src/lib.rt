@@ -10,6 +10,7 @@ mod telephones;
 pub mod view_examples;
 mod watch;
 pub mod watch_examples;
+pub mod watch_laws;
 
 pub use crate::answering::{
     PHONES_FROM_AFAR, act_answer, all_shown, answer_put, question_answer, short_answer, show,

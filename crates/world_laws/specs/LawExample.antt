@@ -41,7 +41,7 @@ agent_with events = record { setup = agent_from 1; machine = agent_then events }
 
 abbrev pub opened_world : WorldState
 opened_world = record {
-  gateway = record { setup = two_lines; machine = opening two_lines; outcomes = []; account = no_account };
+  gateway = record { setup = two_lines; machine = opening two_lines; outcomes = []; account = no_account; changed = false ∷ false ∷ [] };
   agent = record { setup = agent_of two_lines; machine = agent_opening (agent_of two_lines) };
   posted = [];
   spent = false;

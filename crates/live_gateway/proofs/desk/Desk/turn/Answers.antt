@@ -92,6 +92,7 @@ returns-clause-does g c =
       does = c.do_turn-is_taken.ensures.does;
       leaves = c.do_turn-is_taken.ensures.leaves;
       taken = c.do_turn-is_taken.result;
+      may = c.do_turn-is_taken.ensures.may;
       changes = c.do_turn-is_taken.ensures.changes;
       behind = refl;
       kept = c.tell.ensures.traffic;
