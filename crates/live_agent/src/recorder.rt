@@ -27,6 +27,7 @@ pub trait Recorder {
 }
 
 /// The outlets of a program, and where its log notes that the time of day was set.
+#[derive(Drop)]
 pub(crate) struct Recording<'a, R: Files> {
     pub rt: &'a R,
     pub alloc: Global,

@@ -7,4 +7,5 @@ returns-in-Phone-clause-found c = λ line off.
     c.mark_changed.ensures.found (line - 1) (unset_by c.mark_changed.new.marks.items _ c.in-Phone.line line c.mark_line.ensures off).1
 
 pub returns-in-Phone-clause-act : goal.returns-in-Phone-clause-act
-returns-in-Phone-clause-act c = λ line off. (unset_by c.mark_changed.new.marks.items _ c.in-Phone.line line c.mark_line.ensures off).0
+returns-in-Phone-clause-act c = λ line off.
+    rw (c.in-Phone.is) (unset_by c.mark_changed.new.marks.items _ c.in-Phone.line line c.mark_line.ensures off).0
