@@ -1,0 +1,79 @@
+"""The clock of rgwd, and the time of day."""
+import datetime
+import re
+import time
+
+from running import FREE, LONG, Bench, Program, command, ran
+
+LOG_LINE = re.compile(r"(?m)^(\d{4}-\d\d-\d\dT\d\d:\d\d:\d\d\.\d{3})Z ")
+
+
+def utc() -> datetime.datetime:
+    """The time of day."""
+    return datetime.datetime.now(datetime.UTC).replace(tzinfo=None)
+
+
+def times(log: str) -> list[datetime.datetime]:
+    """The times of a log's lines."""
+    return [datetime.datetime.fromisoformat(it) for it in LOG_LINE.findall(log)]
+
+
+def test_stop_after(bench: Bench) -> None:
+    """--stop-after ends rgwd at that moment of its clock; it prints its counts then."""
+    began = time.monotonic()
+    status, _, said = ran([*command("rgwd"), bench.config(), *FREE, "--stop-after", "300"])
+    assert status == 0 and 0.3 <= time.monotonic() - began < LONG
+    assert said.count("\ndatagrams in 0 ") == 1
+
+
+def long_wait(bench: Bench, *words: str) -> tuple[float, float, Program]:
+    """When a start began that waits for more than 2 s, how long it waits, and its program. The wait is drawn by the time of day."""
+    for _ in range(20):
+        began = time.monotonic()
+        program = bench.start([*command("rgwd"), bench.config(), *FREE, "--first", "0", "--spread", "4000", *words])
+        found = re.fullmatch(r"listen .* first 0 waits (\d+) ms\n", program.start)
+        assert found, program.start
+        if int(found[1]) > 2000:
+            return began, int(found[1]) / 1000, program
+        program.close()
+    raise AssertionError("no start waits for more than 2 s of 4")
+
+
+def test_start_waits_before_its_clock_begins(bench: Bench) -> None:
+    """A start announces itself 1 ms after its wait, and --stop-after counts from there."""
+    began, waits, program = long_wait(bench, "--log", "--stop-after", "1500")
+    assert program.wait() == 0
+    ended, took = utc(), time.monotonic() - began
+    assert took >= waits + 1.5
+    first = (ended - times(program.said())[0]).total_seconds()
+    assert 1.4 < first < 1.4 + waits
+
+
+def test_start_opens_its_sockets_once_its_number_is_over(bench: Bench) -> None:
+    """Ids begin with the number of the time of day, a number for each 50 ms: by then it has passed."""
+    for _ in range(8):
+        program = bench.start([*command("rgwd"), bench.config(), *FREE])
+        now = int(time.time() * 1000) // 50
+        found = re.search(r" first (\d+)\n", program.start)
+        assert found and 0 < (now - int(found[1])) % 9999999 < 20 * LONG
+        program.close()
+
+
+def test_log_has_the_time_of_day(bench: Bench) -> None:
+    """Lines of the log are as far apart as what they tell."""
+    began = utc()
+    program = bench.gateway("--log")
+    time.sleep(0.3)
+    assert bench.audit(program)
+    _, said, _ = program.stop()
+    assert all(-1 < (it - began).total_seconds() < 2 * LONG for it in times(said))
+    assert 0.3 <= (times(said)[-1] - times(said)[0]).total_seconds() < LONG
+
+
+def test_no_processor_is_used_where_nothing_comes(bench: Bench) -> None:
+    program = bench.gateway()
+    program.tell("show 1\n")
+    time.sleep(0.2)
+    before = program.spent()
+    time.sleep(1)
+    assert program.spent() - before < 0.3
