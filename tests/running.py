@@ -262,7 +262,7 @@ class Bench:
     def logs(self) -> Iterator[tuple[str, str]]:
         """Of each program its command and status, and the end of its log."""
         for it in self.programs:
-            yield f"{shlex.join(it.words)}: status {it.process.poll()}", it.logged()[-4000:]
+            yield f"{shlex.join(it.words)}: status {it.process.poll()}", it.logged()[-2000:]
 
     def close(self) -> None:
         """Ends all that runs."""
