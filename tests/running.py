@@ -81,7 +81,7 @@ def until(test: Callable[[], object], seconds: float = LONG) -> bool:
     return True
 
 
-def ran(words: Sequence[str], seconds: float = 12 * LONG, **how: Any) -> tuple[int | None, str, str]:
+def ran(words: Sequence[str], seconds: float = 60 * LONG, **how: Any) -> tuple[int | None, str, str]:
     """The status of a program that ends by itself, its standard output and its standard error. The status is None where it doesn't end."""
     how = {"capture_output": True, "text": True, "errors": "replace", "stdin": subprocess.DEVNULL, **how}
     try:
@@ -117,20 +117,23 @@ def hears_signals(before: Callable[[], object] | None = None) -> Callable[[], No
 
 
 class Program:
-    """A program that serves until it is stopped. Its standard error goes into a file, or is a terminal."""
+    """A program that serves until it is stopped. Its standard error goes into a file, is a terminal, or goes to this descriptor `error`:
+    then its addresses are those in its words."""
 
-    def __init__(self, words: Sequence[str], log: Path, out: int | IO[bytes] = subprocess.PIPE, terminal: bool = False, **how: Any):
-        self.words, self.log, self.read, self.end = list(words), log, 0, ""
+    def __init__(self, words: Sequence[str], log: Path, out: int | IO[bytes] = subprocess.PIPE, terminal: bool = False,
+                 error: int | None = None, **how: Any):
+        self.words, self.log, self.read, self.terminal = list(words), log, 0, -1
         self.phone = client()
-        self.terminal = -1
-        error = os.open(log, os.O_WRONLY | os.O_CREAT, 0o600)
+        own = os.open(log, os.O_WRONLY | os.O_CREAT, 0o600)
         if terminal:
-            os.close(error)
-            self.terminal, error = os.openpty()
-        self.process = subprocess.Popen(self.words, stdin=subprocess.DEVNULL, stdout=out, stderr=error, **how)
-        os.close(error)
-        until(lambda: self.process.poll() is not None or "\n" in self.logged())
-        self.start = self.logged().partition("\n")[0] + "\n"
+            os.close(own)
+            self.terminal, own = os.openpty()
+        err = own if error is None else error
+        self.process: subprocess.Popen[bytes] = subprocess.Popen(self.words, stdin=subprocess.DEVNULL, stdout=out, stderr=err, **how)
+        os.close(own)
+        if error is None:
+            until(lambda: self.process.poll() is not None or "\n" in self.logged())
+        self.start = self.logged().partition("\n")[0] + "\n" if error is None else shlex.join(words)
         self.read = len(self.start)
         self.addresses = addresses_in(self.start)
 

@@ -90,4 +90,4 @@ def test_the_conversation_is_the_log() -> None:
             continue
         assert (title, told) == (title, story.logged)
         played += 1
-    assert played >= 12 and len(left) == 4, left
+    assert played >= 12 and len(left) == 5, left
