@@ -1,0 +1,1 @@
+"""The commands: rgw-check, rgw-load, rgw-relay."""

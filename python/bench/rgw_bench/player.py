@@ -1,0 +1,141 @@
+"""Plays the steps of a check at a gateway."""
+
+import re
+from collections.abc import Callable, Iterable
+
+from .check_text import Check, Step
+from .gateway import Gateway, NotMet, NotSupported
+
+# A session description: G.711 to and from the machine's own address.
+SDP = "v=0 / o=- 1 1 IN IP4 127.0.0.1 / s=- / c=IN IP4 127.0.0.1 / t=0 0 / m=audio 40000 RTP/AVP 0 8"
+
+
+class Player:
+    """Plays steps; names that steps keep stand for their values from there on."""
+
+    def __init__(self, gateway: Gateway) -> None:
+        self.gateway, self.kept = gateway, dict[str, str]()
+
+    def play(self, steps: Iterable[Step]) -> None:
+        """Plays these steps up to the first that isn't met.
+
+        Raises NotMet or NotSupported there; the first has in `due` what was due, as the step says it."""
+        for step in steps:
+            try:
+                _PLAYED[step.word](self, step)
+            except NotMet as fault:
+                raise NotMet(self.filled(str(step)), *fault.instead) from None
+
+    def undo(self, steps: Iterable[Step]) -> None:
+        """Plays each of these, whatever came of those before it."""
+        for step in steps:
+            try:
+                self.play([step])
+            except (NotMet, NotSupported):
+                pass
+
+    def filled(self, text: str) -> str:
+        """A text with what the names in its braces stand for; one that stands for nothing is left."""
+        return re.sub(r"\{(\w+)\}", lambda found: self._meant(found[1]), text)
+
+    def _meant(self, name: str) -> str:
+        gateway = self.gateway
+        if re.fullmatch("[0-9]{1,3}", name):
+            return str(gateway.base + int(name))
+        places: dict[str, Callable[[], str]] = {
+            "line": lambda: gateway.line,
+            "LINE": lambda: gateway.line.upper(),
+            "other": lambda: gateway.other,
+            "local": lambda: gateway.places.local,
+            "domain": lambda: gateway.places.domain,
+            "call": lambda: gateway.call,
+            "sdp": lambda: SDP,
+            "here": lambda: gateway.entity("here"),
+            "there": lambda: gateway.entity("there"),
+        }
+        return places[name]() if name in places else self.kept.get(name, f"{{{name}}}")
+
+    def datagram(self, text: str) -> bytes:
+        """The bytes that a step sends: each line ends in CRLF, or as its text says."""
+        made = self.filled(text).replace(" / ", "\r\n").replace("\\t", "\t").replace("\\n", "\n")
+        return (made if made.endswith("\n") else f"{made}\r\n").encode("latin-1", "replace")
+
+    def _id(self, text: str) -> int:
+        digits = self.filled(text)
+        return int(digits) if re.fullmatch("[0-9]{1,9}", digits) else 0
+
+    def _send(self, step: Step, port: str) -> None:
+        if step.rest == "again":
+            self.gateway.send_again(port)
+        else:
+            self.gateway.send(self.datagram(step.rest), port)
+
+    def _answer(self, step: Step, is_optional: bool) -> None:
+        codes, id = step.rest.split(" ")
+        self.gateway.answer([int(it) for it in codes.split("|")], self._id(id), is_optional)
+
+    def _has(self, step: Step, is_other: bool = False) -> None:
+        code, _, wanted = step.rest.partition(" ")
+        given, value = self._value(code), self.filled(wanted).lower()
+        is_met = given is not None and (given.lower() != value if is_other else not value or given.lower() == value)
+        self.gateway.due(str(step), is_met, f"came with {code}: {given}" if given is not None else f"came without {code}")
+
+    def _value(self, code: str) -> str | None:
+        return self.gateway.last[code] if self.gateway.last else None
+
+    def _tells(self, step: Step) -> None:
+        came = self.gateway.last.raw if self.gateway.last else b""
+        self.gateway.due(str(step), step.rest.encode("latin-1", "replace") in came)
+
+    def _keep(self, step: Step) -> None:
+        name, code = step.rest.split(" ")
+        given = self._value(code)
+        self.gateway.due(str(step), given is not None, f"came without {code}")
+        self.kept[name] = given or ""
+
+    def _differ(self, step: Step) -> None:
+        first, second = (self.filled(it) for it in step.rest.split(" "))
+        self.gateway.due(str(step), first != second, f"both are {first}")
+
+    def _notified(self, step: Step, port: str) -> None:
+        name, rest = step.rest.split(" ", 1)
+        endpoint, x, events = self.filled(rest).split(" ", 2)
+        self.kept[name] = str(self.gateway.notified(endpoint, x, events, port).id)
+
+    def _announced(self, step: Step, port: str) -> None:
+        name, method = step.rest.split(" ")
+        self.kept[name] = str(self.gateway.announced(method, port).id)
+
+    def _pause(self, step: Step) -> None:
+        self.gateway.pause(int(step.rest))
+
+
+_PLAYED: dict[str, Callable[[Player, Step], None]] = {
+    ">": lambda player, step: player._send(step, "here"),
+    ">>": lambda player, step: player._send(step, "there"),
+    "<": lambda player, step: player._answer(step, False),
+    "<?": lambda player, step: player._answer(step, True),
+    "same": lambda player, step: player.gateway.same(player._id(step.rest)),
+    "silence": lambda player, step: player.gateway.silence(int(step.rest)),
+    "wait": Player._pause,
+    "pause": Player._pause,
+    "has": Player._has,
+    "unlike": lambda player, step: player._has(step, True),
+    "tells": Player._tells,
+    "keep": Player._keep,
+    "differ": Player._differ,
+    "notified": lambda player, step: player._notified(step, "here"),
+    "notified-there": lambda player, step: player._notified(step, "there"),
+    "announced": lambda player, step: player._announced(step, "here"),
+    "announced-there": lambda player, step: player._announced(step, "there"),
+    "again": lambda player, step: player.gateway.repeats(int(step.rest)),
+    "slower": lambda player, step: player.gateway.repeats(int(step.rest), grows=True),
+    "quiet": lambda player, step: player.gateway.quiet(int(step.rest)),
+    "act": lambda player, step: player.gateway.act(step.rest),
+    "restart": lambda player, step: player.gateway.act("restart"),
+}
+
+
+def told(check: Check, gateway: Gateway, fault: NotMet) -> list[str]:
+    """What is told of a check that fails, a line each: what was sent and came, what was due, and what came in its place."""
+    return [*gateway.told(), f"! due: {fault.due}", *(f"! {it}" for it in fault.instead)]
