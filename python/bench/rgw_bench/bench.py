@@ -89,6 +89,8 @@ class Bench:
     settings: Settings
     gateway: Gateway
     bases: Iterator[int] = field(repr=False)
+    # What came in place of an answer that was asked for last.
+    came: tuple[str, ...] = ()
 
     @classmethod
     def opened(cls, settings: Settings, limit: float | None = None, ends: Ends | None = None, part: int = 0) -> "Bench":
@@ -122,15 +124,20 @@ class Bench:
             try:
                 return self.gateway.find_answer(id).message
             except NotMet as fault:
-                self.why = fault.instead
+                self.came = fault.came
         return None
+
+    def _instead(self) -> str:
+        """What came in place of an answer, if anything did."""
+        came = [it for it in self.came if it != "nothing"]
+        return f"; came: {'; '.join(came)}" if came else ""
 
     def serves(self) -> None:
         """Waits until the gateway serves. Raises Dead where it doesn't answer, or refuses with 405."""
         for _ in range(MOST_TRIES):
             answer = self.asked("RQNT", self.gateway.line, X=1)
             if answer is None:
-                raise Dead(f"{written(self.settings.gateway)}: {'; '.join(self.why)}")
+                raise Dead(f"{written(self.settings.gateway)}: no answer{self._instead()}")
             if answer.code != 405:
                 return
             self.gateway.pump(time.monotonic() + 1)

@@ -144,6 +144,6 @@ class Dialogue:
         """The gateway is started anew."""
         self.gateway.act("restart")
 
-    def due(self, what: str, is_met: object, *instead: str) -> None:
+    def due(self, what: str, is_met: object, *came: str) -> None:
         """Fails with what was due, and what came in its place, where it isn't met."""
-        self.gateway.due(what, is_met, *instead)
+        self.gateway.due(what, is_met, *came)

@@ -31,11 +31,15 @@ _FIRST_ID = re.compile(rb"(?m)^[ \t]*[A-Za-z0-9]+[ \t]+([0-9]{1,9})\b")
 
 
 class NotMet(AssertionError):
-    """What was due didn't come: what it was, and what came in its place, a line each."""
+    """What was due didn't come: what it was, and what came in its place, a line each; `nothing` where nothing did."""
 
-    def __init__(self, due: str, *instead: str) -> None:
-        super().__init__("\n".join([due, *instead]))
-        self.due, self.instead = due, instead
+    def __init__(self, due: str, *came: str) -> None:
+        super().__init__("; ".join([f"due: {due}", *(f"came: {it}" for it in came)]))
+        self.due, self.came = due, came
+
+    def lines(self) -> list[str]:
+        """What a report says of it, a line each."""
+        return [f"! due: {self.due}", *(f"! came: {it}" for it in self.came)]
 
 
 class NotSupported(Exception):
@@ -213,9 +217,9 @@ class Gateway:
     def _take(self, came: Arrival, message: Message | mgcp.NoMessage, is_elsewhere: bool) -> bytes:
         """Takes a message, which is from elsewhere if it is from another port of the gateway's host: what is answered at once."""
         if isinstance(message, mgcp.NoMessage):
-            self._odd(f"came, but is no message: {message}")
+            self._odd(f"{mgcp.shown(came.data, 200)} ({message})")
         elif message.is_response and is_elsewhere:
-            self._odd(f"came from {written(came.source)} in place of {written(self.places.gateway)}: {mgcp.shown(message.raw, 200)}")
+            self._odd(f"{mgcp.shown(message.raw, 200)} from {written(came.source)}")
         elif message.is_response and self._is_own(message.id):
             self._keep(self.answers, Came(came.port, came.moment, message, came.source))
         elif not message.is_response and self._is_for_check(message):
@@ -269,10 +273,10 @@ class Gateway:
         """Sends the same bytes again as last."""
         self.send(self.last_sent, port)
 
-    def due(self, what: str, is_met: object, *instead: str) -> None:
+    def due(self, what: str, is_met: object, *came: str) -> None:
         """Raises NotMet, with what was due and what came in its place, where it isn't met."""
         if not is_met:
-            raise NotMet(what, *instead)
+            raise NotMet(what, *came)
 
     def _answers_for(self, id: int) -> list[Came]:
         return [it for it in self.answers if it.port == self.last_port and it.message.id == id]
@@ -304,16 +308,17 @@ class Gateway:
     def _instead(self, id: int, begun: float, late: Came | None) -> list[str]:
         """What came in place of an answer with this id."""
         if late:
-            return [f"came {late.moment - begun:.1f} s after it was asked: {mgcp.shown(late.message.raw, 200)}"]
+            return [f"{mgcp.shown(late.message.raw, 200)} {late.moment - begun:.3f} s later"]
         rows = []
         for it in self.answers:
+            shown = mgcp.shown(it.message.raw, 200)
             if it.message.id != id:
-                rows.append(f"came with another id, {it.message.id} in place of {id}: {mgcp.shown(it.message.raw, 200)}")
+                rows.append(f"{shown} (another id)")
             elif it.port != self.last_port:
-                rows.append(f"came to another port, {written(self.ends.address(it.port))}: {mgcp.shown(it.message.raw, 200)}")
+                rows.append(f"{shown} at {written(self.ends.address(it.port))} (another port than it was asked from)")
             else:
-                rows.append(f"came, but is provisional: {mgcp.shown(it.message.raw, 200)}")
-        return [*rows, *self.odd] or ["no answer"]
+                rows.append(f"{shown} (provisional)")
+        return [*rows, *self.odd] or ["nothing"]
 
     def answer(self, codes: int | Collection[int], id: int, is_optional: bool = False) -> Message:
         """The answer with this id, which has one of these codes.
@@ -327,7 +332,7 @@ class Gateway:
         code = message.code or 0
         if code not in wanted and is_optional and 500 <= code < 600:
             raise NotSupported(f"{due}: refused with {code}")
-        self.due(due, code in wanted, f"came with another code: {mgcp.shown(message.raw, 200)}")
+        self.due(due, code in wanted, mgcp.shown(message.raw, 200))
         return message
 
     def same(self, id: int) -> None:
@@ -335,14 +340,13 @@ class Gateway:
         came = self.find_answer(id, f"same {id}")
         first = next((it for it in self.taken if it.message.id == id), None)
         if first is None:
-            raise NotMet(f"same {id}", "there was no answer before")
-        was = f"came first: {mgcp.shown(first.message.raw, 200)}"
-        self.due(f"same {id}", came.is_same(first), was, f"came again: {mgcp.shown(came.message.raw, 200)}")
+            raise NotMet(f"same {id}", "nothing before")
+        self.due(f"same {id}", came.is_same(first), mgcp.shown(came.message.raw, 200), f"{mgcp.shown(first.message.raw, 200)} (before)")
 
     def silence(self, ms: int) -> None:
         """No answer comes for so long, in ms. Raises NotMet if one does."""
         self.pump(time.monotonic() + ms / 1000, lambda: self.answers or self.odd)
-        came = [f"came: {mgcp.shown(it.message.raw, 200)}" for it in self.answers] + self.odd
+        came = [mgcp.shown(it.message.raw, 200) for it in self.answers] + self.odd
         self.due(f"silence {ms}", not came, *came)
         self.note("", "(nothing comes)")
 
@@ -365,10 +369,10 @@ class Gateway:
         self.pump(time.monotonic() + UNASKED, found)
         came = found()
         if came is None:
-            others = [f"came: {mgcp.shown(it.message.raw, 200)}" for it in self.unasked if not it.is_asked]
-            raise NotMet(due, *([*others, *self.odd] or [f"nothing came by itself within {UNASKED:g} s"]))
+            others = [mgcp.shown(it.message.raw, 200) for it in self.unasked if not it.is_asked]
+            raise NotMet(due, *([*others, *self.odd] or ["nothing"]))
         came.is_asked, self.current = True, came
-        self.due(due, is_right(came.message), f"came otherwise: {mgcp.shown(came.message.raw, 200)}")
+        self.due(due, is_right(came.message), mgcp.shown(came.message.raw, 200))
         return came.message
 
     def notified(self, endpoint: str = "*", x: str = "*", events: str = "*", port: str = "here") -> Message:
@@ -387,7 +391,7 @@ class Gateway:
         again as the first. Raises NotMet if it doesn't."""
         due = f"{'slower' if grows else 'again'} {number}"
         if self.current is None:
-            raise NotMet(due, "nothing came before")
+            raise NotMet(due, "nothing before")
         first = self.current
 
         def moments() -> list[float]:
@@ -397,8 +401,8 @@ class Gateway:
             before = len(moments())
             self.pump(moments()[-1] + UNASKED, lambda: len(moments()) > before)
         gaps = [later - sooner for sooner, later in zip(moments(), moments()[1:])]
-        self.note("", "gaps " + (", ".join(f"{gap:.3f} s" for gap in gaps) or "none"))
-        came = f"came {len(gaps)} times again, in gaps of {', '.join(f'{gap:.3f} s' for gap in gaps) or 'none'}"
+        came = f"{len(gaps)} times again{', in gaps of ' if gaps else ''}{', '.join(f'{gap:.3f} s' for gap in gaps)}"
+        self.note("", f"({came})")
         self.due(due, len(gaps) >= number and (not grows or gaps[-1] >= 1.5 * gaps[0]), came)
 
     def quiet(self, ms: int) -> None:
@@ -409,7 +413,7 @@ class Gateway:
             return [it for it in self.unasked if not it.is_asked and not (self._is_copy(it) and it.moment <= begun + CROSSING)]
 
         self.pump(begun + ms / 1000, loud)
-        self.due(f"quiet {ms}", not loud(), *(f"came: {mgcp.shown(it.message.raw, 200)}" for it in loud()))
+        self.due(f"quiet {ms}", not loud(), *(mgcp.shown(it.message.raw, 200) for it in loud()))
         self.note("", "(nothing comes)")
 
     def act(self, what: str) -> None:

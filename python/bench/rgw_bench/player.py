@@ -3,7 +3,8 @@
 import re
 from collections.abc import Callable, Iterable
 
-from .check_text import Check, Step
+from . import mgcp
+from .check_text import Step
 from .gateway import Gateway, NotMet, NotSupported
 
 # A session description: G.711 to and from the machine's own address.
@@ -24,7 +25,7 @@ class Player:
             try:
                 _PLAYED[step.word](self, step)
             except NotMet as fault:
-                raise NotMet(self.filled(str(step)), *fault.instead) from None
+                raise NotMet(self.filled(str(step)), *fault.came) from None
 
     def undo(self, steps: Iterable[Step]) -> None:
         """Plays each of these, whatever came of those before it."""
@@ -78,19 +79,19 @@ class Player:
         code, _, wanted = step.rest.partition(" ")
         given, value = self._value(code), self.filled(wanted).lower()
         is_met = given is not None and (given.lower() != value if is_other else not value or given.lower() == value)
-        self.gateway.due(str(step), is_met, f"came with {code}: {given}" if given is not None else f"came without {code}")
+        self.gateway.due(str(step), is_met, f"{code}: {printed(given)}" if given is not None else f"no {code}")
 
     def _value(self, code: str) -> str | None:
         return self.gateway.last[code] if self.gateway.last else None
 
     def _tells(self, step: Step) -> None:
         came = self.gateway.last.raw if self.gateway.last else b""
-        self.gateway.due(str(step), step.rest.encode("latin-1", "replace") in came)
+        self.gateway.due(str(step), step.rest.encode("latin-1", "replace") in came, mgcp.shown(came, 200))
 
     def _keep(self, step: Step) -> None:
         name, code = step.rest.split(" ")
         given = self._value(code)
-        self.gateway.due(str(step), given is not None, f"came without {code}")
+        self.gateway.due(str(step), given is not None, f"no {code}")
         self.kept[name] = given or ""
 
     def _differ(self, step: Step) -> None:
@@ -136,6 +137,6 @@ _PLAYED: dict[str, Callable[[Player, Step], None]] = {
 }
 
 
-def told(check: Check, gateway: Gateway, fault: NotMet) -> list[str]:
-    """What is told of a check that fails, a line each: what was sent and came, what was due, and what came in its place."""
-    return [*gateway.told(), f"! due: {fault.due}", *(f"! {it}" for it in fault.instead)]
+def printed(value: str) -> str:
+    """A value of the gateway's in printable ASCII."""
+    return mgcp.shown(value.encode("latin-1", "replace"), 200)

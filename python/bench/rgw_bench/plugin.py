@@ -22,7 +22,7 @@ from .bench import Bench, Settings
 from .check_text import NEEDS, Check
 from .dialogue import Dialogue, undo_steps
 from .gateway import Dead, NotMet, NotSupported, OutOfTime
-from .player import Player, told
+from .player import Player
 
 BENCH = pytest.StashKey[Bench]()
 LIMIT = pytest.StashKey[float | None]()
@@ -65,9 +65,10 @@ def _address(text: str) -> wire.Address:
 
 
 def pytest_addoption(parser: pytest.Parser) -> None:
-    """`--gateway` is always there."""
-    group = parser.getgroup("rgw-bench", "checks of an MGCP gateway (rgw-bench)")
+    """`--gateway` and `--phones` are always there."""
+    group = parser.getgroup("rgw-bench", "checks of an MGCP gateway, and telephones of rgwd (rgw-bench)")
     group.addoption("--gateway", type=_address, metavar="ADDRESS", help="the gateway that is checked; with --help: more words")
+    group.addoption("--phones", action="append", default=[], metavar="[NAME=]ADDRESS", help="the telephones of an rgwd; checks use the first")
 
 
 @pytest.hookimpl(tryfirst=True)  # type: ignore[misc]
@@ -80,7 +81,6 @@ def pytest_load_initial_conftests(parser: pytest.Parser, args: list[str]) -> Non
     group.addoption("--line", default="", help="the local name of a line, as aaln/1")
     group.addoption("--more-lines", action="append", default=[], metavar="NAME", help="of another one; with -n each worker has two lines")
     group.addoption("--own", type=_address, metavar="ADDRESS", help="the address of the call agent that the gateway is configured for")
-    group.addoption("--phones", type=_address, metavar="ADDRESS", help="the telephones of an rgwd")
     group.addoption("--hook", type=_address, metavar="ADDRESS", help="a program that works its telephones, and starts it anew")
     group.addoption("--slow", action="store_true", help="checks that wait for half a minute, too")
     group.addoption("--gateway-timeout", type=float, metavar="SECONDS", help="the time for the whole run")
@@ -104,8 +104,9 @@ def settings_of(config: pytest.Config) -> Settings:
         raise pytest.UsageError("no --gateway")
     if not option.domain or not option.line:
         raise pytest.UsageError("--gateway wants --domain and --line")
+    phones = _address(option.phones[0].rpartition("=")[2]) if option.phones else None
     lines = (option.line, *option.more_lines)
-    return Settings(option.gateway, option.domain, lines, option.own, option.phones, option.hook, option.slow, option.gateway_timeout)
+    return Settings(option.gateway, option.domain, lines, option.own, phones, option.hook, option.slow, option.gateway_timeout)
 
 
 def pytest_collect_file(file_path: Path, parent: pytest.Collector) -> "CheckFile | None":
@@ -322,15 +323,11 @@ def judge_fault(item: pytest.Item, rule: Rule, kept: Outcome, report: pytest.Tes
     gateway = item.config.stash[BENCH].gateway if BENCH in item.config.stash else None
     if isinstance(fault, NotMet) and gateway:
         lines = [*gateway.told()] if not kept.said else list(kept.said)
-        lines += [f"! due: {fault.due}", *(f"! {it}" for it in fault.instead)]
+        lines += fault.lines()
         kept.expected, kept.said = fault.due, tuple(lines)
-        message = f"due: {fault.due}; {'; '.join(fault.instead)}" if fault.instead else f"due: {fault.due}"
-        report.longrepr = failure(item, rule, lines, message)
+        report.longrepr = failure(item, rule, lines, str(fault))
     if isinstance(fault, AssertionError) and rule.is_open:
         kept.result = "left open"
         report.outcome, report.wasxfail = "skipped", f"left open by the RFC: {kept.expected}"  # type: ignore[attr-defined]
     else:
         kept.result = "FAIL"
-
-
-__all__ = ["gw", "told"]

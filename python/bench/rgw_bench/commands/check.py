@@ -76,17 +76,17 @@ def parser() -> Words:
     made.add_argument("address", type=address, metavar="ADDRESS", help="of the gateway")
     made.add_argument("--domain", required=True, metavar="D", help="of its endpoint names")
     made.add_argument("--line", required=True, type=name, metavar="NAME", help="the local name of a line, as aaln/1")
-    made.add_argument("--more-lines", action="append", default=[], type=name, metavar="NAME", help="of another one, for checks that need two")
+    made.add_argument("--more-lines", action="append", default=[], type=name, metavar="NAME", help="of another, for checks of two lines")
     made.add_argument("--own", type=address, metavar="ADDRESS",
-                      help="of the call agent that the gateway is configured for: from there it sends, and there it hears what the gateway says "
-                      "by itself; else any free port, and that is not checked")
+                      help="of the call agent that the gateway is configured for: from there it sends, and there it hears what the gateway "
+                      "says by itself; else any free port, and that is not checked")
     worked = made.add_mutually_exclusive_group()
     worked.add_argument("--phones", type=address, metavar="ADDRESS", help="of the telephones of an rgwd")
     worked.add_argument("--hook", type=address, metavar="ADDRESS",
                         help="of a program that works them: it is sent `act 1 off` or `restart`, and answers `done`")
     made.add_argument("--slow", action="store_true", help="checks that wait for half a minute too")
     made.add_argument("--only", metavar="NAME,..", help="these checks alone, slow ones too")
-    made.add_argument("--timeout", type=seconds, metavar="SECONDS", help="the time for the whole run; what isn't played by then is not played")
+    made.add_argument("--timeout", type=seconds, metavar="SECONDS", help="the time for the whole run; what comes later isn't played")
     made.add_argument("-n", type=int, default=0, metavar="WORKERS", help="so many play side by side, by pytest-xdist, two lines each")
     made.add_argument("--json", action="store_true", help="the report as JSON, an object a line")
     made.add_argument("--junit", metavar="FILE", help="the report as JUnit's XML too, in this file")
@@ -105,8 +105,8 @@ def end(status: int, why: str = "", junit: str | None = None) -> NoReturn:
         case = f'<testcase classname="rgw-check" name="gateway"><error message={quoteattr(text)}/></testcase>'
         try:
             Path(junit).write_text(
-                f'<?xml version="1.0" encoding="utf-8"?>\n<testsuites><testsuite name="rgw-check" tests="1" failures="0" errors="1" skipped="0">'
-                f"{case}</testsuite></testsuites>\n", encoding="utf-8"
+                '<?xml version="1.0" encoding="utf-8"?>\n<testsuites><testsuite name="rgw-check" tests="1" failures="0" errors="1" '
+                f'skipped="0">{case}</testsuite></testsuites>\n', encoding="utf-8"
             )
         except OSError as fault:
             print(f"{junit}: write fault: {fault.strerror}", file=sys.stderr)
