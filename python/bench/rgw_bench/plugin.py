@@ -68,7 +68,8 @@ def pytest_addoption(parser: pytest.Parser) -> None:
     """`--gateway` and `--phones` are always there."""
     group = parser.getgroup("rgw-bench", "checks of an MGCP gateway, and telephones of rgwd (rgw-bench)")
     group.addoption("--gateway", type=_address, metavar="ADDRESS", help="the gateway that is checked; with --help: more words")
-    group.addoption("--phones", action="append", default=[], metavar="[NAME=]ADDRESS", help="the telephones of an rgwd; checks use the first")
+    group.addoption("--phones", action="append", default=[], metavar="[NAME=]ADDRESS",
+                    help="telephones of an rgwd; checks use the first")
 
 
 @pytest.hookimpl(tryfirst=True)  # type: ignore[misc]
