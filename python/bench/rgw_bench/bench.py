@@ -106,8 +106,7 @@ class Bench:
         lines = settings.lines[2 * part : 2 * part + 2]
         place = settings.hook or settings.phones
         telephones = Worked(place, bool(settings.hook)) if place else None
-        others = tuple(it for it in settings.lines if it not in lines)
-        places = Places(settings.gateway, settings.domain, lines[0], lines[1] if len(lines) > 1 else "", others)
+        places = Places(settings.gateway, settings.domain, lines[0], lines[1] if len(lines) > 1 else "")
         first = int(time.time() * 1000) % BASES + 10_000 + BASES * part
         return cls(settings, Gateway(places, ends, telephones, limit), iter(range(first, 900_000_000, IDS)))
 

@@ -63,6 +63,8 @@ class Ends(Protocol):
 
     def wait(self, until: float) -> list[Arrival]: ...
 
+    def claim(self, base: int, hears: bool, announces: bool) -> None: ...
+
     def close(self) -> None: ...
 
 
@@ -106,8 +108,6 @@ class Places:
     domain: str
     local: str
     other_local: str = ""
-    # Local names of lines at which others are at work: what they notify isn't for this one.
-    elsewhere: Collection[str] = ()
 
 
 class Gateway:
@@ -131,6 +131,7 @@ class Gateway:
         self.base, self.hears, self.announces = base, False, False
         self._forget()
         if base:
+            self.ends.claim(base, hears, announces)
             self.pump(time.monotonic())
         self.hears, self.announces = hears, announces
         self._forget()
@@ -204,7 +205,7 @@ class Gateway:
 
     def hear(self, came: Arrival) -> None:
         """Takes a datagram."""
-        if came.source[0] != self.places.gateway[0] or not self._concerns(came.data):
+        if came.source[0] != self.places.gateway[0] or came.is_answered:
             return
         is_elsewhere = came.source != self.places.gateway
         mark = "<" if came.port == "here" else "<<"
@@ -235,10 +236,6 @@ class Gateway:
     def _odd(self, text: str) -> None:
         if len(self.odd) < MOST_KEPT:
             self.odd.append(text)
-
-    def _concerns(self, data: bytes) -> bool:
-        """Whether it isn't for others alone that are at work at other lines of the gateway."""
-        return True
 
     def _is_own(self, id: int) -> bool:
         return id >= self.base or id < self.base - EARLIER_IDS
@@ -425,6 +422,7 @@ class Gateway:
     def settle(self) -> None:
         """Answers all that the gateway said by itself and no step has answered, so that it isn't repeated after the check."""
         self.hears = self.announces = False
+        self.ends.claim(self.base, False, False)
         for came in reversed(self.unasked):
             if came.message.id not in self.responded:
                 self.responded.add(came.message.id)

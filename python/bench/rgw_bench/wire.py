@@ -30,12 +30,15 @@ _STAMP = struct.Struct("qq")
 
 
 class Arrival(NamedTuple):
-    """A datagram: the name of the socket to which it came, its bytes, who sent it, and when it came, in seconds of `time.monotonic`."""
+    """A datagram: the name of the socket to which it came, its bytes, who sent it, and when it came, in seconds of `time.monotonic`.
+
+    `is_answered`: its commands have been answered already, by another process."""
 
     port: str
     data: bytes
     source: Address
     moment: float
+    is_answered: bool = False
 
 
 def address(text: str) -> Address:
@@ -154,6 +157,9 @@ class Wire:
             self._selector.select(left)
             came = self.read()
         return came
+
+    def claim(self, base: int, hears: bool, announces: bool) -> None:
+        """A check begins: nothing is to be told to others, as `shared.SharedWire` has it."""
 
     def close(self) -> None:
         """Closes the sockets."""
