@@ -10,17 +10,22 @@ each; `STEPS` has their forms:
     <? CODES ID         the same of something that a gateway may leave out: with a code from 500 to 599 it isn't supported
     same ID             the answer with this id comes again, byte for byte as it first came
     silence MS          no answer comes for so long, in ms
-    wait MS, pause MS   nothing is asked for so long; a check with `wait` is a slow one (`--slow`)
+    wait MS, pause MS   nothing is asked for so long; a check that waits for 10 s or more in all is a slow one (`--slow`)
     has CODE [VALUE]    the last answer has this parameter, with this value; `unlike CODE VALUE` with another one
+    once CODE           it has this parameter once; `lacks CODE` not at all; `empty CODE` not at all, or without a value
+    form CODE PATTERN   it has this parameter, whose whole value is as this regular expression says
+    lists CODE VALUE    its value is a list, separated by commas, with this item in it; `|` stands between several that are right
     tells TEXT          the last answer holds this text
     keep NAME CODE      the value of this parameter of the last answer has this name from here on
     differ A B          two values differ
     notified NAME ENDPOINT X EVENTS
                         a notification of this endpoint comes by itself, with this X and these events; its id has this name from here on.
                         `*` stands for anything, and `|` between two that are right
-    announced NAME METHOD
-                        an RSIP with this method comes; `notified-there`, `announced-there` are the same at the second socket
-    again N, slower N   what a step asked for last comes so often again; and its last gap is at least half as long again as the first
+    announced NAME METHOD [ENDPOINT [MS]]
+                        an RSIP with this method comes, for this endpoint (else for any), within so long, in ms (else 4 s);
+                        `notified-there`, `announced-there` are the same at the second socket
+    again N [MS]        what a step asked for last comes so often again, each time within so long, in ms (else 4 s)
+    slower N            the same, and its last gap is at least half as long again as the first
     quiet MS            the gateway says nothing by itself for so long
     act ACT, restart    this is done at the line's telephone (off, on, flash, a key); the gateway is started anew
     undo [call | request | both | telephone]
@@ -48,7 +53,7 @@ UNDO = {
 STEPS = {
     ">": r".+",
     ">>": r".+",
-    "<": r"[0-9]{3}(\|[0-9]{3})* \{\w+\}",
+    "<": r"[0-9]{3}(\|[0-9]{3})* (\{\w+\}|[0-9]{1,9})",
     "<?": r"[0-9]{3}(\|[0-9]{3})* \{\w+\}",
     "same": r"\{\w+\}",
     "silence": r"[0-9]{1,6}",
@@ -56,19 +61,27 @@ STEPS = {
     "pause": r"[0-9]{1,6}",
     "has": r"\S+( .+)?",
     "unlike": r"\S+ .+",
+    "once": r"\S+",
+    "lacks": r"\S+",
+    "empty": r"\S+",
+    "form": r"\S+ .+",
+    "lists": r"\S+ .+",
     "tells": r".+",
     "keep": r"\w+ \S+",
     "differ": r"\S+ \S+",
     "notified": r"\w+ \S+ \S+ .+",
     "notified-there": r"\w+ \S+ \S+ .+",
-    "announced": r"\w+ \S+",
-    "announced-there": r"\w+ \S+",
-    "again": r"[0-9]{1,3}",
+    "announced": r"\w+ \S+( \S+( [0-9]{1,6})?)?",
+    "announced-there": r"\w+ \S+( \S+( [0-9]{1,6})?)?",
+    "again": r"[0-9]{1,3}( [0-9]{1,6})?",
     "slower": r"[0-9]{1,3}",
     "quiet": r"[0-9]{1,6}",
     "act": r"off|on|flash|[0-9*#A-D]",
     "restart": r"",
 }
+# Steps that wait for so long as the last of their words says, in ms; and how long a check that isn't slow may wait in all.
+_WAITS = re.compile(r"(?:wait|pause|silence|quiet) ([0-9]+)|again [0-9]+ ([0-9]+)|announced(?:-there)? \S+ \S+ \S+ ([0-9]+)")
+LONGEST_WAIT = 10_000
 # What a check needs that a gateway's address, domain and line don't give, by its name; and how that is given.
 NEEDS = {
     "slow": "half a minute (--slow)",
@@ -122,6 +135,12 @@ class Check:
         return self.announces or self._has("notified", "notified-there", "quiet")
 
     @property
+    def waits(self) -> int:
+        """How long its steps may wait in all for what they name, in ms."""
+        found = (_WAITS.fullmatch(str(it)) for it in self.steps)
+        return sum(int(it[it.lastindex or 0]) for it in found if it)
+
+    @property
     def is_alone(self) -> bool:
         """Whether nothing else may be played at the gateway meanwhile: it is started anew, or the check speaks of all lines or any."""
         return self._has("restart") or any(re.search(r"[*$]@", it.rest) for it in self.steps if it.word.startswith(">"))
@@ -130,7 +149,7 @@ class Check:
     def needs(self) -> tuple[str, ...]:
         """What it needs of `NEEDS`."""
         needed = {
-            "slow": self._has("wait"),
+            "slow": self.waits >= LONGEST_WAIT,
             "other_line": any("{other}" in it.rest for it in self.steps),
             "own": self.hears,
             "telephone": self._has("act"),

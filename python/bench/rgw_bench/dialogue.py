@@ -126,7 +126,7 @@ class Dialogue:
 
     def repeats(self, number: int, grows: bool = False) -> None:
         """What came last comes so often again."""
-        self.gateway.repeats(number, grows)
+        self.gateway.repeats(number, grows=grows)
 
     def quiet(self, ms: int) -> None:
         """The gateway says nothing by itself for so long, in ms."""

@@ -116,6 +116,9 @@ class Gateway:
     def __init__(self, places: Places, ends: Ends, telephones: Telephones | None = None, limit: float | None = None) -> None:
         """`limit` is the moment of `time.monotonic` at which the time for the whole run is over."""
         self.places, self.ends, self.telephones, self.limit = places, ends, telephones, limit
+        # What the gateway announced that no step had to answer, each time that it came, and when it was answered first, by its id.
+        self.announcements: list[Came] = []
+        self.announcements_answered: dict[int, float] = {}
         self.began = time.monotonic()
         self.begin(0)
 
@@ -226,6 +229,9 @@ class Gateway:
         elif not message.is_response and self._is_for_check(message):
             self._keep(self.unasked, Came(came.port, came.moment, message, came.source))
         elif not message.is_response:
+            if message.verb == "RSIP":
+                self._keep(self.announcements, Came(came.port, came.moment, message, came.source))
+                self.announcements_answered.setdefault(message.id, time.monotonic())
             return mgcp.response(200, message.id)
         return b""
 
@@ -355,18 +361,18 @@ class Gateway:
         return any(it.is_asked and it is not came and it.is_same(came) for it in self.unasked)
 
     def find_unasked(
-        self, due: str, is_meant: Callable[[Message], bool], is_right: Callable[[Message], bool], port: str = "here"
+        self, due: str, is_meant: Callable[[Message], bool], is_right: Callable[[Message], bool], port: str = "here", within: float = UNASKED
     ) -> Message:
-        """What the gateway says by itself that is meant: it comes within `UNASKED`, and is right. Raises NotMet if it doesn't, or isn't."""
+        """What the gateway says by itself that is meant: it comes within so many seconds, and is right. Raises NotMet where not so."""
 
         def found() -> Came | None:
             news = (it for it in self.unasked if not it.is_asked and it.port == port and is_meant(it.message))
             return next((it for it in news if not self._is_copy(it)), None)
 
-        self.pump(time.monotonic() + UNASKED, found)
+        self.pump(time.monotonic() + within, found)
         came = found()
         if came is None:
-            others = [mgcp.shown(it.message.raw, 200) for it in self.unasked if not it.is_asked]
+            others = [mgcp.shown(it.message.raw, 200) for it in self.unasked if not it.is_asked and not self._is_copy(it)]
             raise NotMet(due, *([*others, *self.odd] or ["nothing"]))
         came.is_asked, self.current = True, came
         self.due(due, is_right(came.message), mgcp.shown(came.message.raw, 200))
@@ -379,12 +385,15 @@ class Gateway:
             due, lambda it: it.verb == "NTFY" and fits(endpoint, it.endpoint), lambda it: fits(x, it["X"]) and fits(events, it["O"]), port
         )
 
-    def announced(self, method: str, port: str = "here") -> Message:
-        """An announcement with this restart method."""
-        return self.find_unasked(f"announced {method}", lambda it: it.verb == "RSIP", lambda it: fits(method, it["RM"]), port)
+    def announced(self, method: str, port: str = "here", endpoint: str = "*", within: float = UNASKED) -> Message:
+        """An announcement with this restart method, for this endpoint, comes within so many seconds; `*` is anything."""
+        due = f"announced {method} {endpoint}"
+        return self.find_unasked(
+            due, lambda it: it.verb == "RSIP", lambda it: fits(method, it["RM"]) and fits(endpoint, it.endpoint), port, within
+        )
 
-    def repeats(self, number: int, grows: bool = False) -> None:
-        """What was asked for last comes so often again, each time within `UNASKED`; in growing gaps the last is at least half as long
+    def repeats(self, number: int, within: float = UNASKED, grows: bool = False) -> None:
+        """What was asked for last comes so often again, each time within so many seconds; in growing gaps the last is at least half as long
         again as the first. Raises NotMet if it doesn't."""
         due = f"{'slower' if grows else 'again'} {number}"
         if self.current is None:
@@ -394,9 +403,9 @@ class Gateway:
         def moments() -> list[float]:
             return [first.moment] + [it.moment for it in self.unasked if it is not first and it.is_same(first)]
 
-        while len(moments()) <= number and time.monotonic() < moments()[-1] + UNASKED:
+        while len(moments()) <= number and time.monotonic() < moments()[-1] + within:
             before = len(moments())
-            self.pump(moments()[-1] + UNASKED, lambda: len(moments()) > before)
+            self.pump(moments()[-1] + within, lambda: len(moments()) > before)
         gaps = [later - sooner for sooner, later in zip(moments(), moments()[1:])]
         came = f"{len(gaps)} times again{', in gaps of ' if gaps else ''}{', '.join(f'{gap:.3f} s' for gap in gaps)}"
         self.note("", f"({came})")

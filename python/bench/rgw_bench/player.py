@@ -5,7 +5,7 @@ from collections.abc import Callable, Iterable
 
 from . import mgcp
 from .check_text import Step
-from .gateway import Gateway, NotMet, NotSupported
+from .gateway import UNASKED, Gateway, NotMet, NotSupported
 
 # A session description: G.711 to and from the machine's own address.
 SDP = "v=0 / o=- 1 1 IN IP4 127.0.0.1 / s=- / c=IN IP4 127.0.0.1 / t=0 0 / m=audio 40000 RTP/AVP 0 8"
@@ -84,6 +84,26 @@ class Player:
     def _value(self, code: str) -> str | None:
         return self.gateway.last[code] if self.gateway.last else None
 
+    def _judge(self, step: Step, code: str, is_met: object) -> None:
+        """A step about a parameter of the last answer is met, or tells what that has."""
+        values = self.gateway.last.values(code) if self.gateway.last else []
+        came = " and ".join(f"{code}: {it}".rstrip() for it in values)
+        self.gateway.due(str(step), is_met, came or f"no {code}")
+
+    def _once(self, step: Step) -> None:
+        values = self.gateway.last.values(step.rest) if self.gateway.last else []
+        self._judge(step, step.rest, len(values) == 1)
+
+    def _form(self, step: Step) -> None:
+        code, pattern = step.rest.split(" ", 1)
+        self._judge(step, code, re.fullmatch(pattern, self._value(code) or ""))
+
+    def _lists(self, step: Step) -> None:
+        code, wanted = step.rest.split(" ", 1)
+        # (a comma in parentheses stands in an item)
+        items = {it.strip(" \t").lower() for it in re.split(r",(?![^()]*\))", self._value(code) or "")}
+        self._judge(step, code, items & set(self.filled(wanted).lower().split("|")))
+
     def _tells(self, step: Step) -> None:
         came = self.gateway.last.raw if self.gateway.last else b""
         self.gateway.due(str(step), step.rest.encode("latin-1", "replace") in came, mgcp.shown(came, 200))
@@ -104,8 +124,14 @@ class Player:
         self.kept[name] = str(self.gateway.notified(endpoint, x, events, port).id)
 
     def _announced(self, step: Step, port: str) -> None:
-        name, method = step.rest.split(" ")
-        self.kept[name] = str(self.gateway.announced(method, port).id)
+        name, method, *more = self.filled(step.rest).split(" ")
+        endpoint = more[0] if more else "*"
+        within = int(more[1]) / 1000 if len(more) > 1 else UNASKED
+        self.kept[name] = str(self.gateway.announced(method, port, endpoint, within).id)
+
+    def _again(self, step: Step) -> None:
+        number, _, within = step.rest.partition(" ")
+        self.gateway.repeats(int(number), int(within) / 1000 if within else UNASKED)
 
     def _pause(self, step: Step) -> None:
         self.gateway.pause(int(step.rest))
@@ -122,6 +148,11 @@ _PLAYED: dict[str, Callable[[Player, Step], None]] = {
     "pause": Player._pause,
     "has": Player._has,
     "unlike": lambda player, step: player._has(step, True),
+    "once": Player._once,
+    "lacks": lambda player, step: player._judge(step, step.rest, player._value(step.rest) is None),
+    "empty": lambda player, step: player._judge(step, step.rest, not player._value(step.rest)),
+    "form": Player._form,
+    "lists": Player._lists,
     "tells": Player._tells,
     "keep": Player._keep,
     "differ": Player._differ,
@@ -129,7 +160,7 @@ _PLAYED: dict[str, Callable[[Player, Step], None]] = {
     "notified-there": lambda player, step: player._notified(step, "there"),
     "announced": lambda player, step: player._announced(step, "here"),
     "announced-there": lambda player, step: player._announced(step, "there"),
-    "again": lambda player, step: player.gateway.repeats(int(step.rest)),
+    "again": Player._again,
     "slower": lambda player, step: player.gateway.repeats(int(step.rest), grows=True),
     "quiet": lambda player, step: player.gateway.quiet(int(step.rest)),
     "act": lambda player, step: player.gateway.act(step.rest),
