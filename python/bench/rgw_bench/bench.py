@@ -5,6 +5,7 @@ import socket
 import time
 from collections.abc import Iterator
 from dataclasses import dataclass, field
+from itertools import count
 
 from . import mgcp
 from .gateway import Dead, Ends, Gateway, NotMet, Places
@@ -15,8 +16,8 @@ from .wire import Address, Wire, written
 MOST_TRIES, MOST_SILENT = 10, 3
 # So long an act at an rgwd's telephone, and one by a program (`--hook`), may take, in seconds.
 LONGEST_ACT, LONGEST_HOOKED = 5.0, 30.0
-# A check's ids are the nine behind a number; so many numbers one who plays checks has.
-IDS, BASES = 10, 9_000_000
+# A check's ids are the nine behind a number, which has at most seven digits: zeros may stand before it.
+IDS, FIRST_ID, MOST_IDS = 10, 10_000, 9_000_000
 LONGEST_NAME = 64
 
 
@@ -93,8 +94,10 @@ class Bench:
     came: tuple[str, ...] = ()
 
     @classmethod
-    def opened(cls, settings: Settings, limit: float | None = None, ends: Ends | None = None, part: int = 0) -> "Bench":
-        """Opens the sockets. With several that play side by side each is a `part`, with two lines of its own and its own ids.
+    def opened(
+        cls, settings: Settings, limit: float | None = None, ends: Ends | None = None, part: int = 0, parts: int = 1
+    ) -> "Bench":
+        """Opens the sockets. Of several that play side by side each is a `part`, with two lines of its own and its own ids.
 
         Raises Dead where there is no socket at the agent's address."""
         own = settings.own or ("0.0.0.0", 0)
@@ -107,8 +110,11 @@ class Bench:
         place = settings.hook or settings.phones
         telephones = Worked(place, bool(settings.hook)) if place else None
         places = Places(settings.gateway, settings.domain, lines[0], lines[1] if len(lines) > 1 else "")
-        first = int(time.time() * 1000) % BASES + 10_000 + BASES * part
-        return cls(settings, Gateway(places, ends, telephones, limit), iter(range(first, 900_000_000, IDS)))
+        # By the time of day in ms, so that no session of the last two hours began with them.
+        row = int(time.time() * 1000) % MOST_IDS // IDS
+        first = FIRST_ID + IDS * (row - row % parts + part)
+        bases = (FIRST_ID + (number - FIRST_ID) % (MOST_IDS // (IDS * parts) * IDS * parts) for number in count(first, IDS * parts))
+        return cls(settings, Gateway(places, ends, telephones, limit), bases)
 
     def begin(self, hears: bool = False, announces: bool = False) -> None:
         """A new check, with ids of its own."""

@@ -113,7 +113,7 @@ class Dialogue:
         self.gateway.same(id)
 
     def silence(self, ms: int) -> None:
-        """No answer comes for so long, in ms."""
+        """No answer comes for so long, in ms; a check with this wants to be alone (`is_alone`), since an answer's id might be anyone's."""
         self.gateway.silence(ms)
 
     def notified(self, endpoint: str = "*", x: str = "*", events: str = "*", port: str = "here") -> Message:

@@ -208,8 +208,10 @@ class Gateway:
 
     def hear(self, came: Arrival) -> None:
         """Takes a datagram."""
-        if came.source[0] != self.places.gateway[0] or came.is_answered:
+        if came.source[0] != self.places.gateway[0]:
             return
+        if came.is_answered:
+            return self._announced(came)
         is_elsewhere = came.source != self.places.gateway
         mark = "<" if came.port == "here" else "<<"
         shown = mgcp.shown(came.data)
@@ -229,11 +231,20 @@ class Gateway:
         elif not message.is_response and self._is_for_check(message):
             self._keep(self.unasked, Came(came.port, came.moment, message, came.source))
         elif not message.is_response:
-            if message.verb == "RSIP":
-                self._keep(self.announcements, Came(came.port, came.moment, message, came.source))
-                self.announcements_answered.setdefault(message.id, time.monotonic())
+            self._keep_announcement(came, message)
             return mgcp.response(200, message.id)
         return b""
+
+    def _announced(self, came: Arrival) -> None:
+        """Keeps what was announced and answered, by another process."""
+        for message in mgcp.messages(came.data):
+            if isinstance(message, Message):
+                self._keep_announcement(came, message)
+
+    def _keep_announcement(self, came: Arrival, message: Message) -> None:
+        if message.verb == "RSIP":
+            self._keep(self.announcements, Came(came.port, came.moment, message, came.source))
+            self.announcements_answered.setdefault(message.id, time.monotonic())
 
     def _keep(self, kept: list[Came], came: Came) -> None:
         if len(kept) < MOST_KEPT:
@@ -393,8 +404,8 @@ class Gateway:
         )
 
     def repeats(self, number: int, within: float = UNASKED, grows: bool = False) -> None:
-        """What was asked for last comes so often again, each time within so many seconds; in growing gaps the last is at least half as long
-        again as the first. Raises NotMet if it doesn't."""
+        """What was asked for last comes so often again, each time within so many seconds; in growing gaps the last is at least half as
+        long again as the first. Raises NotMet if it doesn't."""
         due = f"{'slower' if grows else 'again'} {number}"
         if self.current is None:
             raise NotMet(due, "nothing before")

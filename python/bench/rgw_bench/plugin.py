@@ -17,7 +17,7 @@ from typing import Any
 import pytest
 from _pytest._code.code import ReprEntryNative, ReprExceptionInfo, ReprFileLocation, ReprTraceback
 
-from . import check_text, wire
+from . import check_text, mgcp, wire, workers
 from .bench import Bench, Settings
 from .check_text import NEEDS, Check
 from .dialogue import Dialogue, undo_steps
@@ -26,8 +26,12 @@ from .player import Player
 
 BENCH = pytest.StashKey[Bench]()
 LIMIT = pytest.StashKey[float | None]()
+WORKERS = pytest.StashKey[workers.Workers]()
 OUTCOME = pytest.StashKey["Outcome"]()
 UNPLAYED = "not played: "
+OVER = "the time for the whole run is over"
+# What undoes a check may take so long where that time is over, in seconds.
+UNDOING = 3.0
 # The folder of the checks that come with the package.
 CHECKS = Path(__file__).parent / "checks"
 
@@ -93,9 +97,24 @@ def pytest_configure(config: pytest.Config) -> None:
     config.addinivalue_line("markers", "profile: what RFC 3435 leaves open")
     for name, what in NEEDS.items():
         config.addinivalue_line("markers", f"{name}: needs {what}")
-    timeout = getattr(config.option, "gateway_timeout", None)
-    if timeout is not None:
-        config.stash[LIMIT] = time.monotonic() + timeout
+    config.stash[LIMIT] = limit = workers.limit_of(config)
+    if config.option.gateway and not config.option.collectonly and workers.is_controller(config):
+        config.stash[WORKERS] = made = workers.Workers(config, settings_of(config), limit)
+        config.pluginmanager.register(made, "rgw_bench.workers")
+
+
+def pytest_unconfigure(config: pytest.Config) -> None:
+    """Closes the sockets."""
+    if BENCH in config.stash:
+        config.stash[BENCH].gateway.close()
+
+
+def pytest_report_header(config: pytest.Config) -> str | None:
+    """Which gateway is checked, and by how many."""
+    if not config.option.gateway:
+        return None
+    few = config.stash[WORKERS].told() if WORKERS in config.stash else ""
+    return f"rgw-bench: {wire.written(config.option.gateway)}{', ' if few else ''}{few}"
 
 
 def settings_of(config: pytest.Config) -> Settings:
@@ -146,12 +165,13 @@ class CheckItem(pytest.Item):
     def runtest(self) -> None:
         """Plays it."""
         bench = ready(self, self.rule)
-        bench.begin(self.check.hears, self.check.announces)
-        player = Player(bench.gateway)
-        try:
-            player.play(self.check.steps)
-        finally:
-            finish(self, bench, player, list(self.check.undo), self.check.needs)
+        with workers.turn(self.config, self.rule.is_alone, bench.gateway.limit):
+            bench.begin(self.check.hears, self.check.announces)
+            player = Player(bench.gateway)
+            try:
+                player.play(self.check.steps)
+            finally:
+                finish(self, bench, player, list(self.check.undo), self.check.needs)
 
 
 def rule_of(item: pytest.Item) -> Rule | None:
@@ -184,28 +204,34 @@ def pytest_itemcollected(item: pytest.Item) -> None:
         mark(item, rule)
 
 
-def is_worker(config: pytest.Config) -> bool:
-    """Whether this is a worker of xdist."""
-    return hasattr(config, "workerinput")
-
-
 @pytest.hookimpl(tryfirst=True)  # type: ignore[misc]
 def pytest_collection(session: pytest.Session) -> None:
     """Sees that the gateway can be checked, before the first check and before workers have any; else the status is 3, and the report has
     an error that says why."""
     config = session.config
-    if not config.option.gateway or config.option.collectonly or is_worker(config):
+    if not config.option.gateway or config.option.collectonly or workers.is_worker(config):
         return
+    several = config.stash.get(WORKERS, None)
     try:
-        bench = bench_of(config)
+        if several:
+            several.check()
+        bench = Bench.opened(settings_of(config), config.stash[LIMIT], several.wire if several else None)
         bench.find()
     except (Dead, OutOfTime) as fault:
-        why = str(fault) or "the time for the whole run is over"
+        why = str(fault) or OVER
         tell_dead(config, why)
         pytest.exit(why, returncode=3)
-    if getattr(config.option, "numprocesses", None):
-        bench.gateway.close()
-        del config.stash[BENCH]
+    if several:
+        several.begin()
+    else:
+        config.stash[BENCH] = bench
+
+
+def pytest_sessionfinish(session: pytest.Session) -> None:
+    """Where the time for the whole run is over before all was played the status isn't 0."""
+    limit = session.config.stash.get(LIMIT, None)
+    if limit is not None and time.monotonic() >= limit and session.exitstatus == 0:
+        session.exitstatus = 3
 
 
 def tell_dead(config: pytest.Config, why: str) -> None:
@@ -221,7 +247,9 @@ def tell_dead(config: pytest.Config, why: str) -> None:
 def bench_of(config: pytest.Config) -> Bench:
     """The one bench of a session. Raises Dead where there is no socket."""
     if BENCH not in config.stash:
-        config.stash[BENCH] = Bench.opened(settings_of(config), config.stash.get(LIMIT, None))
+        settings = settings_of(config)
+        ends, mine = workers.ends_of(config, settings), workers.given(config)
+        config.stash[BENCH] = Bench.opened(settings, config.stash[LIMIT], ends, mine.get("part", 0), mine.get("parts", 1))
     return config.stash[BENCH]
 
 
@@ -244,23 +272,21 @@ def finish(item: pytest.Item, bench: Bench, player: Player, undo: list[check_tex
     since = max((at for at, it in enumerate(gateway.log) if it.mark.startswith(">")), default=-1)
     outcome.received = tuple(
         tuple(raw.decode("latin-1").splitlines())
-        for it in gateway.log[since + 1 :] if it.mark.startswith("<") for raw in wire_parts(it.data)
+        for it in gateway.log[since + 1:] if it.mark.startswith("<") for raw in mgcp.split(it.data)
     )
-    gateway.settle()
+    limit = gateway.limit
     try:
+        # (what undoes a check has some time also where that of the whole run is over)
+        gateway.limit = None if limit is None else max(limit, time.monotonic() + UNDOING)
+        gateway.settle()
         player.undo(undo)
         if "restart" in needs:
             bench.serves()
     except (Dead, OutOfTime):
         # (that shows in the checks behind)
         pass
-
-
-def wire_parts(data: bytes) -> list[bytes]:
-    """The messages of a datagram."""
-    from .mgcp import split
-
-    return split(data)
+    finally:
+        gateway.limit = limit
 
 
 @pytest.fixture
@@ -271,12 +297,12 @@ def gw(request: pytest.FixtureRequest) -> Generator[Dialogue, None, None]:
     if rule is None:
         raise pytest.UsageError(f"{item.name}: a check wants rgw_bench.dialogue.rfc")
     bench = ready(item, rule)
-    bench.begin("own" in rule.needs, "restart" in rule.needs)
-    dialogue = Dialogue(bench.gateway)
-    yield dialogue
-    mine = item.get_closest_marker("rfc").kwargs["undo"]
-    undo = undo_steps(mine) if mine else undo_steps("both")
-    finish(item, bench, dialogue.player, undo, rule.needs)
+    with workers.turn(item.config, rule.is_alone, bench.gateway.limit):
+        bench.begin("own" in rule.needs, "restart" in rule.needs)
+        dialogue = Dialogue(bench.gateway)
+        yield dialogue
+        undo = undo_steps(item.get_closest_marker("rfc").kwargs["undo"] or "both")
+        finish(item, bench, dialogue.player, undo, rule.needs)
 
 
 def failure(item: pytest.Item, rule: Rule, lines: list[str], message: str) -> ReprExceptionInfo:
@@ -310,7 +336,7 @@ def judge(item: pytest.Item, rule: Rule, kept: Outcome, report: pytest.TestRepor
     if fault is None:
         kept.result = "pass"
     elif isinstance(fault, (NotSupported, OutOfTime, Dead)):
-        why = f"not supported: {fault}" if isinstance(fault, NotSupported) else f"{UNPLAYED}{fault or 'the time for the whole run is over'}"
+        why = f"not supported: {fault}" if isinstance(fault, NotSupported) else f"{UNPLAYED}{fault or OVER}"
         kept.result = why.partition(":")[0]
         report.outcome, report.longrepr = "skipped", (str(path), line or 0, f"Skipped: {why}")
     elif isinstance(fault, pytest.skip.Exception):

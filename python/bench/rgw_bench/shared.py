@@ -17,7 +17,7 @@ from dataclasses import dataclass
 from pathlib import Path
 
 from . import mgcp
-from .gateway import OWN_IDS, Dead, OutOfTime
+from .gateway import EARLIER_IDS, OWN_IDS, Dead, OutOfTime
 from .mgcp import Message
 from .wire import Address, Arrival, Wire
 
@@ -27,8 +27,6 @@ _HEAD = struct.Struct("!16sB4sHd")
 _PASSED, _CLAIMED, _ANSWERED = range(3)
 # What a worker's check waits for: the number before its ids, whether it hears what is notified, and what is announced.
 _CLAIM = struct.Struct("!I??")
-# Ids of a worker are no farther from the number before its check's.
-_NEAR = 1_000_000
 # So often a worker tells the hub, a second each, before it takes it for gone.
 _MOST_CLAIMS = 10
 # The hub looks so often whether it is to end, in seconds, and a worker whether it is its turn.
@@ -121,12 +119,13 @@ class Hub(threading.Thread):
             self.link.send("link", _HEAD.pack(self.token, kind, *_packed(came.source), came.moment) + came.data, place)
 
     def _takers(self, message: Message | mgcp.NoMessage) -> list[Address]:
-        """Who takes a response: whose ids are nearest; all where that is nobody, and what is no message."""
-        if isinstance(message, Message):
-            near = min(((abs(message.id - worker.base), place) for place, worker in self.workers.items()), default=None)
-            if near and near[0] < _NEAR:
-                return [near[1]]
-        return list(self.workers)
+        """Who takes a response: whose check has its id; nobody where an earlier check had it; else all, and of what is no message, too."""
+        bases = [worker.base for worker in self.workers.values()]
+        if not isinstance(message, Message) or not bases:
+            return list(self.workers)
+        own = [place for place, worker in self.workers.items() if worker.base < message.id <= worker.base + OWN_IDS]
+        is_earlier = min(bases) - EARLIER_IDS <= message.id <= max(bases) + OWN_IDS
+        return own or ([] if is_earlier else list(self.workers))
 
     def close(self) -> None:
         """Ends it, and closes its sockets."""

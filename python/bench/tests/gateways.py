@@ -71,10 +71,11 @@ class Faulty:
         self.hooked.bind((self.host, PORTS["hook"]))
         threading.Thread(target=self.serve, daemon=True).start()
 
-    def words(self) -> list[str]:
+    def words(self, lines: int = 2) -> list[str]:
         """The words of a check of this gateway."""
         more = [word for line in range(2, LINES + 1) for word in ("--more-lines", f"aaln/{line}")]
-        return [self.address, "--domain", DOMAIN, "--line", "aaln/1", *more[:2], "--own", self.own, "--hook", self.hook, "--slow"]
+        named = ["--line", "aaln/1", *more[: 2 * (lines - 1)]]
+        return [self.address, "--domain", DOMAIN, *named, "--own", self.own, "--hook", self.hook, "--slow"]
 
     def start(self) -> None:
         """Starts the rgwd, in place of the one that runs."""
@@ -139,9 +140,10 @@ class Osmo:
         quiet: dict[str, Any] = dict.fromkeys(("stdin", "stdout", "stderr"), subprocess.DEVNULL)
         self.process = subprocess.Popen(["osmo-mgw", "-s", "-c", str(path)], **quiet)
 
-    def words(self) -> list[str]:
+    def words(self, lines: int = 2) -> list[str]:
         """The words of a check of this gateway."""
-        return [self.address, "--domain", "mgw", "--line", "rtpbridge/1", "--more-lines", "rtpbridge/2", "--own", self.own, "--slow"]
+        more = [word for line in range(2, lines + 1) for word in ("--more-lines", f"rtpbridge/{line}")]
+        return [self.address, "--domain", "mgw", "--line", "rtpbridge/1", *more, "--own", self.own, "--slow"]
 
     def close(self) -> None:
         """Ends it."""

@@ -191,7 +191,7 @@ def asked(given: argparse.Namespace, only: set[str] | None) -> list[str]:
             words += [f"--{word}", wire.written(getattr(given, word))]
     words += ["--slow"] if given.slow or only is not None else []
     words += ["--gateway-timeout", str(given.timeout)] if given.timeout else []
-    words += ["-p", "xdist.plugin", "-n", str(given.n)] if given.n else []
+    words += ["-p", "xdist.plugin", "-n", str(given.n)] if given.n > 1 else []
     return words + ([f"--junitxml={given.junit}", "-o", "junit_suite_name=rgw-check"] if given.junit else [])
 
 
