@@ -12,8 +12,8 @@ from .gateway import Dead, Ends, Gateway, NotMet, Places
 from .mgcp import Message
 from .wire import Address, Wire, written
 
-# So often the gateway is asked whether it serves, a second each; so often in vain.
-MOST_TRIES, MOST_SILENT = 10, 3
+# So often the gateway is asked whether it serves, a second each: by the call agent that it announces itself to, else; so often in vain.
+MOST_TRIES_OWN, MOST_TRIES, MOST_SILENT = 30, 10, 3
 # So long an act at an rgwd's telephone, and one by a program (`--hook`), may take, in seconds.
 LONGEST_ACT, LONGEST_HOOKED = 5.0, 30.0
 # A check's ids are the nine behind a number, which has at most seven digits: zeros may stand before it.
@@ -139,14 +139,18 @@ class Bench:
 
     def serves(self) -> None:
         """Waits until the gateway serves. Raises Dead where it doesn't answer, or refuses with 405."""
-        for _ in range(MOST_TRIES):
+        has_own = self.settings.has("own")
+        tries = MOST_TRIES_OWN if has_own else MOST_TRIES
+        for _ in range(tries):
             answer = self.asked("RQNT", self.gateway.line, X=1)
             if answer is None:
                 raise Dead(f"{written(self.settings.gateway)}: no answer{self._instead()}")
             if answer.code != 405:
                 return
             self.gateway.pump(time.monotonic() + 1)
-        raise Dead(f"{written(self.settings.gateway)}: 405, it waits for its call agent (--own answers for that)")
+        was_answered = "its announcement (RSIP) was answered" if self.gateway.announcements else f"no announcement (RSIP) in {tries} s"
+        why = was_answered if has_own else "--own answers for that"
+        raise Dead(f"{written(self.settings.gateway)}: 405, it waits for its call agent ({why})")
 
     def find(self) -> None:
         """Sees that the gateway serves, and that its lines are there and not in use. Raises Dead where that isn't so."""

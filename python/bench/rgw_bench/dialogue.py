@@ -20,12 +20,15 @@ from .mgcp import Message
 from .player import Player
 
 
-def rfc(*sections: str, needs: Collection[str] = (), is_open: bool = False, is_alone: bool = False, undo: str = "") -> pytest.MarkDecorator:
+def rfc(
+    *sections: str, needs: Collection[str] = (), is_open: bool = False, is_alone: bool = False, is_last: bool = False, undo: str = ""
+) -> pytest.MarkDecorator:
     """Marks a test as a check: the sections of RFC 3435 in which its rule, the docstring, stands.
 
     `needs`: what of `check_text.NEEDS` it needs; `is_open`: the RFC leaves open what is right; `is_alone`: nothing else may be played at
-    the gateway meanwhile; `undo`: what undoes it, one of `check_text.UNDO` or steps, a line each."""
-    return pytest.mark.rfc(*sections, needs=tuple(needs), is_open=is_open, is_alone=is_alone, undo=undo)
+    the gateway meanwhile; `is_last`: it judges what came during all others; `undo`: what undoes it, one of `check_text.UNDO` or steps, a
+    line each."""
+    return pytest.mark.rfc(*sections, needs=tuple(needs), is_open=is_open, is_alone=is_alone, is_last=is_last, undo=undo)
 
 
 def undo_steps(text: str) -> list[Step]:

@@ -21,8 +21,8 @@ ANSWER, LONGEST_ANSWER = 2.0, 30.0
 LATE = 1.5
 # So long what a gateway says by itself is waited for, and each time that it comes again.
 UNASKED = 4.0
-# So long after an answer what it answers may still come again: the two cross.
-CROSSING = 0.2
+# So long after an answer what it answers may still come again: the two cross, the later the slower the machine.
+CROSSING = 1.0
 # More than this no check asks for; what a flood brings beyond is dropped.
 MOST_KEPT, MOST_LOGGED = 256, 1024
 # A check has so many transaction ids and request identifiers of its own; answers of the thousand before are those of checks before.
@@ -150,7 +150,7 @@ class Gateway:
         self.dropped = 0
         # The id of what was sent last, when it was, by id; and the responses among it.
         self.sent: dict[int, float] = {}
-        self.responded: set[int] = set()
+        self.responded: dict[int, float] = {}
         self.last_sent, self.last_port, self.last_moment = b"", "here", self.began
         self.last: Message | None = None
         self.current: Came | None = None
@@ -276,7 +276,7 @@ class Gateway:
             self.sent[int(found[1])] = self.last_moment
         for message in mgcp.messages(data):
             if isinstance(message, Message) and message.is_response:
-                self.responded.add(message.id)
+                self.responded[message.id] = self.last_moment
 
     def _destination(self, data: bytes) -> Address:
         """Where a datagram goes: a response to whoever sent the command (3.5), all else to the gateway."""
@@ -371,8 +371,12 @@ class Gateway:
     def _is_copy(self, came: Came) -> bool:
         return any(it.is_asked and it is not came and it.is_same(came) for it in self.unasked)
 
+    def _crosses(self, came: Came, begun: float) -> bool:
+        """Whether it is a copy of what a step asked for that was perhaps sent before the response to that arrived."""
+        return self._is_copy(came) and came.moment <= self.responded.get(came.message.id, begun) + CROSSING
+
     def find_unasked(
-        self, due: str, is_meant: Callable[[Message], bool], is_right: Callable[[Message], bool], port: str = "here", within: float = UNASKED
+        self, due: str, is_meant: Callable[[Message], bool], is_right: Callable[[Message], bool], port: str, within: float = UNASKED
     ) -> Message:
         """What the gateway says by itself that is meant: it comes within so many seconds, and is right. Raises NotMet where not so."""
 
@@ -427,7 +431,7 @@ class Gateway:
         begun = time.monotonic()
 
         def loud() -> list[Came]:
-            return [it for it in self.unasked if not it.is_asked and not (self._is_copy(it) and it.moment <= begun + CROSSING)]
+            return [it for it in self.unasked if not it.is_asked and not self._crosses(it, begun)]
 
         self.pump(begun + ms / 1000, loud)
         self.due(f"quiet {ms}", not loud(), *(mgcp.shown(it.message.raw, 200) for it in loud()))
@@ -445,7 +449,7 @@ class Gateway:
         self.ends.claim(self.base, False, False)
         for came in reversed(self.unasked):
             if came.message.id not in self.responded:
-                self.responded.add(came.message.id)
+                self.responded[came.message.id] = time.monotonic()
                 self.ends.send(came.port, mgcp.response(200, came.message.id), came.source)
 
     def close(self) -> None:

@@ -87,7 +87,7 @@ class Player:
     def _judge(self, step: Step, code: str, is_met: object) -> None:
         """A step about a parameter of the last answer is met, or tells what that has."""
         values = self.gateway.last.values(code) if self.gateway.last else []
-        came = " and ".join(f"{code}: {it}".rstrip() for it in values)
+        came = " and ".join(f"{code}: {printed(it)}".rstrip(" ") for it in values)
         self.gateway.due(str(step), is_met, came or f"no {code}")
 
     def _once(self, step: Step) -> None:

@@ -244,6 +244,17 @@ def tell_dead(config: pytest.Config, why: str) -> None:
         config.hook.pytest_runtest_logreport(report=report)
 
 
+def is_last(item: pytest.Item) -> bool:
+    """Whether a check is one that judges what came during all others."""
+    found = item.get_closest_marker("rfc")
+    return found is not None and bool(found.kwargs.get("is_last"))
+
+
+def pytest_collection_modifyitems(items: list[pytest.Item]) -> None:
+    """Checks that judge what came during all others go last."""
+    items.sort(key=is_last)
+
+
 def bench_of(config: pytest.Config) -> Bench:
     """The one bench of a session. Raises Dead where there is no socket."""
     if BENCH not in config.stash:
