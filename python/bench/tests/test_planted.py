@@ -1,0 +1,62 @@
+"""Each planted fault is found by the check that its row names, whose failure says what was sent, what came and what was due."""
+from __future__ import annotations
+
+import os
+import re
+import subprocess
+import sys
+from collections.abc import Iterable
+from pathlib import Path
+
+import pytest
+from gateways import DOMAIN
+
+from planted.rows import Row
+from planted.site import LINES, Site
+from planted.table import ROWS
+
+pytestmark = pytest.mark.live
+CHECKS = Path(__file__).parents[1] / "rgw_bench" / "checks"
+# So long pytest may take, in s.
+LONGEST = 600.0
+
+
+def played(site: Site, checks: Iterable[str]) -> subprocess.CompletedProcess[str]:
+    """pytest's report of these checks at the site's gateway."""
+    places = {"--gateway": site.gateway, "--own": site.own, "--hook": site.hook}
+    words = [it for name, (host, port) in places.items() for it in (name, f"{host}:{port}")]
+    words += ["--domain", DOMAIN, "--line", LINES[0], "--more-lines", LINES[1], "--slow"]
+    return subprocess.run(
+        [sys.executable, "-m", "pytest", "-p", "no:cacheprovider", "-p", "rgw_bench.plugin", "-q", *words, *(CHECKS / it for it in checks)],
+        capture_output=True, text=True, timeout=LONGEST, cwd=CHECKS, env={**os.environ, "PYTHONPATH": str(CHECKS.parents[1])},
+    )
+
+
+@pytest.mark.parametrize("row", ROWS, ids=[row.name for row in ROWS])
+def test_found(row: Row, tmp_path: Path) -> None:
+    """The check fails, and its failure tells it"""
+    with Site(tmp_path) as site:
+        if not row.is_new:
+            site.answer_announcement()
+        site.proxy.fault = row.made()
+        ended = played(site, [row.check])
+    report = ended.stdout + ended.stderr
+    assert ended.returncode == 1, report
+    lines = [line.strip() for line in ended.stdout.splitlines()]
+    assert any(re.match(r"-?[0-9.]+ [>@]", line) for line in lines), f"what was sent or done\n{report}"
+    for begin, said in (("! due: ", row.due), ("! came: ", row.came)):
+        assert any(line.startswith(begin) and said in line for line in lines), f"{begin}{said}\n{report}"
+
+
+def test_none_found_without_a_fault(tmp_path: Path) -> None:
+    """What finds a fault passes at a gateway that has none"""
+    checks = sorted({row.check for row in ROWS})
+    with Site(tmp_path) as site:
+        ended = played(site, checks)
+    assert ended.returncode == 0, ended.stdout + ended.stderr
+    assert re.search(rf"(?m)^{len(checks)} passed in ", ended.stdout), ended.stdout
+
+
+def test_rows_differ() -> None:
+    """Each row has a name of its own"""
+    assert len({row.name for row in ROWS}) == len(ROWS)
