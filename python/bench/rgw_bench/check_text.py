@@ -142,8 +142,8 @@ class Check:
 
     @property
     def is_alone(self) -> bool:
-        """Whether nothing else may be played at the gateway meanwhile: it is started anew, the check speaks of all lines or any, or it wants
-        no answer at all, whose id might be anyone's."""
+        """Whether nothing else may be played at the gateway meanwhile: it is started anew, the check speaks of all lines or any, or it
+        wants no answer at all, whose id might be anyone's."""
         return self._has("restart", "silence") or any(re.search(r"[*$]@", it.rest) for it in self.steps if it.word.startswith(">"))
 
     @property

@@ -244,7 +244,7 @@ class Gateway:
     def _keep_announcement(self, came: Arrival, message: Message) -> None:
         if message.verb == "RSIP":
             self._keep(self.announcements, Came(came.port, came.moment, message, came.source))
-            self.announcements_answered.setdefault(message.id, time.monotonic())
+            self.announcements_answered.setdefault(message.id, came.moment if came.is_answered else time.monotonic())
 
     def _keep(self, kept: list[Came], came: Came) -> None:
         if len(kept) < MOST_KEPT:

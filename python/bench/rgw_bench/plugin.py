@@ -222,7 +222,7 @@ def pytest_collection(session: pytest.Session) -> None:
         tell_dead(config, why)
         pytest.exit(why, returncode=3)
     if several:
-        several.begin()
+        several.begin(bench.gateway.announcements)
     else:
         config.stash[BENCH] = bench
 

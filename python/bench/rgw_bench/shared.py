@@ -17,7 +17,7 @@ from dataclasses import dataclass
 from pathlib import Path
 
 from . import mgcp
-from .gateway import EARLIER_IDS, OWN_IDS, Dead, OutOfTime
+from .gateway import EARLIER_IDS, MOST_KEPT, OWN_IDS, Dead, OutOfTime
 from .mgcp import Message
 from .wire import Address, Arrival, Wire
 
@@ -68,6 +68,8 @@ class Hub(threading.Thread):
         self.wire, self.gateway = wire, gateway
         self.link, self.token = Wire({"link": ("127.0.0.1", 0)}), secrets.token_bytes(16)
         self.workers: dict[Address, Worker] = {}
+        # What the gateway announced and was answered: each worker gets it, also one that comes later.
+        self.announced: list[Arrival] = []
         self._is_open = True
 
     @property
@@ -97,8 +99,13 @@ class Hub(threading.Thread):
         if kind == _PASSED:
             self.wire.send("here", data, _unpacked(host, port))
         elif len(data) == _CLAIM.size:
+            for early in self.announced if came.source not in self.workers else []:
+                self._pass(early, came.source, _ANSWERED)
             self.workers[came.source] = Worker(*_CLAIM.unpack(data))
             self.link.send("link", came.data, came.source)
+
+    def _pass(self, came: Arrival, to: Address, kind: int) -> None:
+        self.link.send("link", _HEAD.pack(self.token, kind, *_packed(came.source), came.moment) + came.data, to)
 
     def _from_gateway(self, came: Arrival) -> None:
         if came.source[0] != self.gateway[0]:
@@ -109,14 +116,15 @@ class Hub(threading.Thread):
                 wanted = [place for place, worker in self.workers.items() if worker.wants(message)]
                 takers.update(wanted)
                 answers += [] if wanted else [mgcp.response(200, message.id)]
-                has_announcement = has_announcement or message.verb == "RSIP"
+                has_announcement = has_announcement or (message.verb == "RSIP" and not wanted)
             else:
                 takers.update(self._takers(message))
         if answers:
             self.wire.send("here", mgcp.joined(answers), came.source)
+        if has_announcement and len(self.announced) < MOST_KEPT:
+            self.announced.append(came)
         for place in list(self.workers) if has_announcement else takers:
-            kind = _PASSED if place in takers else _ANSWERED
-            self.link.send("link", _HEAD.pack(self.token, kind, *_packed(came.source), came.moment) + came.data, place)
+            self._pass(came, place, _PASSED if place in takers else _ANSWERED)
 
     def _takers(self, message: Message | mgcp.NoMessage) -> list[Address]:
         """Who takes a response: whose check has its id; nobody where an earlier check had it; else all, and of what is no message, too."""

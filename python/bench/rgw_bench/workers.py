@@ -10,9 +10,9 @@ from typing import Any
 import pytest
 
 from .bench import Settings
-from .gateway import Dead
+from .gateway import Came, Dead
 from .shared import Hub, SharedWire, Turns
-from .wire import Wire, written
+from .wire import Arrival, Wire, written
 
 # What the controller gives to each worker, among its `workerinput`.
 KEY = "rgw_bench"
@@ -59,9 +59,10 @@ class Workers:
         lines = len(self.settings.lines)
         return f"{self.count} of {self.asked} workers: each has two lines, and {lines} are named" if self.count < self.asked else ""
 
-    def begin(self) -> None:
-        """The gateway can be checked: workers may begin."""
+    def begin(self, announced: list[Came]) -> None:
+        """The gateway can be checked, which announced this so far: workers may begin."""
         if self.hub:
+            self.hub.announced += [Arrival("here", it.message.raw, it.source, it.moment, True) for it in announced]
             self.hub.start()
 
     def check(self) -> None:
