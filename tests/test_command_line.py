@@ -1,6 +1,8 @@
 """The words of rgwd, and what --tell, --help and --version print."""
 import re
+import signal
 import subprocess
+from collections.abc import Callable
 from pathlib import Path
 
 import pytest
@@ -36,6 +38,17 @@ def test_version(name: str) -> None:
 def test_replay_wants_one_file(tmp_path: Path, count: int) -> None:
     status, out, said = ran([*command("rgwd"), "--replay", *count * [f"{tmp_path}/none"]])
     assert (status, out, said[:19]) == (2, "", "usage: rgwd CONFIG ")
+
+
+@pytest.mark.parametrize("words", [[], ["--replay"]], ids=["configuration", "trace"])
+def test_folder_in_place_of_a_file(tmp_path: Path, words: list[str]) -> None:
+    """A folder is opened, but can't be read."""
+    assert ran([*command("rgwd"), *words, str(tmp_path)]) == (3, "", f"{tmp_path}: read fault: is a directory\n")
+
+
+def test_missing_trace(tmp_path: Path) -> None:
+    path = f"{tmp_path}/none"
+    assert ran([*command("rgwd"), "--replay", path]) == (3, "", f"{path}: read fault: no such file or directory\n")
 
 
 def test_check_prints_the_gateway(bench: Bench) -> None:
@@ -108,14 +121,60 @@ def test_tell_takes_localhost(bench: Bench) -> None:
     assert status == 0 and [line.split()[1] for line in out.splitlines()] == ["1", "2"]
 
 
-def test_tell_escapes_control_bytes() -> None:
-    """--tell prints no byte that a terminal acts on."""
+def nothing(asker: subprocess.Popen[bytes]) -> None:
+    """Nothing is done to a program."""
+
+
+def stopped(asker: subprocess.Popen[bytes]) -> None:
+    """Stops a program that waits, and lets it go on."""
+
+    def is_in(state: str) -> bool:
+        return Path(f"/proc/{asker.pid}/stat").read_text().rpartition(")")[2].split()[0] == state
+
+    assert until(lambda: is_in("S"))
+    asker.send_signal(signal.SIGSTOP)
+    assert until(lambda: is_in("T"))
+    asker.send_signal(signal.SIGCONT)
+
+
+def answered(answer: bytes, before: Callable[[subprocess.Popen[bytes]], None] = nothing) -> tuple[int, bytes, bytes]:
+    """How rgwd --tell ends where the telephones answer this; before they do, this is done to it."""
     with client() as phones:
         words = [*command("rgwd"), "--tell", "127.0.0.1:%d" % phones.getsockname()[1], "show"]
         asker = subprocess.Popen(words, stdout=subprocess.PIPE, stderr=subprocess.PIPE)
-        phones.sendto(b"line 1 \x1b]0;mine\x07 on\r\nline 2 on\n", phones.recvfrom(65536)[1])
+        source = phones.recvfrom(65536)[1]
+        before(asker)
+        phones.sendto(answer, source)
         out, said = asker.communicate(timeout=20)
-    assert (asker.returncode, out, said) == (0, b"line 1 \\x1b]0;mine\\x07 on\\x0d\nline 2 on\n", b"")
+    return asker.returncode, out, said
+
+
+def test_tell_escapes_control_bytes() -> None:
+    """--tell prints no byte that a terminal acts on."""
+    ended = answered(b"line 1 \x1b]0;mine\x07 on\r\nline 2 on\n")
+    assert ended == (0, b"line 1 \\x1b]0;mine\\x07 on\\x0d\nline 2 on\n", b"")
+
+
+def test_tell_prints_96_lines() -> None:
+    shown = b"".join(b"line %d on signals - connections - lost 0\n" % line for line in range(1, 97))
+    assert answered(shown) == (0, shown, b"")
+
+
+def test_tell_that_is_stopped_meanwhile() -> None:
+    """A stop while it waits, as by a shell, isn't the end of its wait."""
+    assert answered(b"line 1 on\n", stopped) == (0, b"line 1 on\n", b"")
+
+
+@pytest.mark.parametrize("line", [[], [""], [" "]], ids=["none", "empty", "blank"])
+def test_tell_without_a_line(line: list[str]) -> None:
+    status, out, said = ran([*command("rgwd"), "--tell", "127.0.0.1:9", *line])
+    assert (status, out, said[:19]) == (2, "", "usage: rgwd CONFIG ")
+
+
+def test_tell_that_cant_be_sent() -> None:
+    """No datagram goes to all hosts of a network; --tell prints why."""
+    status, out, said = ran([*command("rgwd"), "--tell", "255.255.255.255:9", "show"])
+    assert (status, out) == (3, "") and said.startswith("--tell 255.255.255.255:9: no socket: ")
 
 
 def test_tell_without_an_answer() -> None:

@@ -173,6 +173,8 @@ WARNED: list[tuple[str, Changes, list[str], list[str]]] = [
     ("an agent elsewhere, media here", FAR, LISTENS, [f"media_address: 127.0.0.1, {APART}"]),
     ("an agent elsewhere, the socket here", {**FAR, "media_address": '"10.0.0.5"'}, [], [f"--listen: 127.0.0.1, {APART}"]),
     ("an agent elsewhere, nothing here", {**FAR, "media_address": '"10.0.0.5"'}, LISTENS, []),
+    ("the second address of an agent is elsewhere", {'"ca.example.net"': '["127.0.0.1", "10.0.0.9"]'}, LISTENS,
+        [f"media_address: 127.0.0.1, {APART}"]),
     ("media at the port of --listen", {"media_base": "2420"}, [], [
         "media_base: the ports of the lines cover that of --listen 127.0.0.1:2427",
         "media_base: the ports of the lines cover that of --phones 127.0.0.1:2428"]),

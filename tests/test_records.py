@@ -1,5 +1,6 @@
-"""The trace and the captures of rgwd, and how much it reads of a file."""
+"""The log, the trace and the captures of rgwd, and how much it reads of a file."""
 import os
+import re
 import shutil
 import stat
 import subprocess
@@ -17,6 +18,14 @@ def fill(bench: Bench, program: Program, count: int) -> None:
     for _ in range(count):
         bench.agent.sendto(LONG_RESPONSE, program.address)
         assert program.tell("show 1\n")
+
+
+def test_datagram_that_does_not_leave(bench: Bench) -> None:
+    """Nothing goes from the loopback to another host: the log notes that, and it is counted."""
+    path = Path(bench.config())
+    path.write_text(path.read_text().replace("ca@[127.0.0.1]", "ca@[192.0.2.1]"))
+    status, _, said = ran([*command("rgwd"), str(path), *FREE, "--first", "0", "--log", "--stop-after", "300"])
+    assert status == 0 and re.search(r"Z 192\.0\.2\.1:\d+ ! not sent\n", said) and "\nfaults receive 0 send 1\n" in said
 
 
 def test_capture_is_for_its_owner_alone(bench: Bench, tmp_path: Path) -> None:
@@ -72,6 +81,15 @@ def test_parted_capture(bench: Bench, tmp_path: Path) -> None:
     assert all(it[:4] == b"\xa1\xb2\xc3\xd4" and len(it) <= 1000000 for it in files)
     bench.gateway(*words).stop()
     assert captures(tmp_path) == ["calls.pcap.10", "calls.pcap.11", "calls.pcap.6.old"]
+
+
+def test_parted_capture_at_a_start(bench: Bench, tmp_path: Path) -> None:
+    """All files go that are older than the 2 that are kept. A name that is no text is no file of a capture."""
+    for end in ("3", "5", "7", "6.old"):
+        (tmp_path / f"calls.pcap.{end}").write_bytes(b"")
+    Path(os.fsdecode(os.fsencode(tmp_path) + b"/\xff")).write_bytes(b"")
+    bench.gateway("--capture", f"{tmp_path}/calls.pcap", "--capture-size", "1", "--capture-files", "2")
+    assert captures(tmp_path) == ["calls.pcap.6.old", "calls.pcap.7", "calls.pcap.8"]
 
 
 def test_capture_whose_file_is_there(bench: Bench, tmp_path: Path) -> None:
