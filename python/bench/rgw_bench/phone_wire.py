@@ -107,6 +107,10 @@ class Telephones:
     def close(self) -> None:
         """Ends the watch."""
         self.send(b"watch 0", self.place)
+        self.forget()
+
+    def forget(self) -> None:
+        """Closes sockets that wait for the next line."""
         for made in self.idle:
             made.close()
         self.idle = []

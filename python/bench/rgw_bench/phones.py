@@ -161,19 +161,21 @@ class Phone:
 
     def change(self, at: float, words: list[str]) -> None:
         """One thing changed, as rgwd's `watch` tells."""
-        with self.changed:
+        changed = self.changed
+        with changed:
             self.states.append(self.state.changed(at, words))
             self.phones.note(at, self, " ".join(words))
-            self.changed.notify_all()
+            changed.notify_all()
 
     def show(self, at: float, hook: str, signals: frozenset[str], modes: Mapping[str, str]) -> None:
         """It is so, as rgwd's `show` tells."""
         shown = State(at, hook, signals, tuple(modes.items()))
-        with self.changed:
+        changed = self.changed
+        with changed:
             if str(shown) != str(self.state):
                 self.states.append(shown)
                 self.phones.note(at, self, f"is shown: {shown}")
-                self.changed.notify_all()
+                changed.notify_all()
 
     # Acts
 

@@ -57,6 +57,7 @@ class StubExchange(threading.Thread):
         self.deaf = self.mute = self.cuts_off = False
         self.skip = 0
         self.refuses: set[str] = set()
+        self.counts = "notifications 7 repeated 2\n"
         self.watch_refusal = ""
         self.calls: list[str] = []
         self.start()
@@ -203,7 +204,7 @@ class StubExchange(threading.Thread):
             is_refused = what in self.refuses or (what in ("on", "off") and it.hooks[line] == what)
             return "! 5 PhoneState\n" if is_refused else "done\n"
         if words[:1] == ["counts"]:
-            return "notifications 7 repeated 2\nanswers 200 9 repeated 1\nstrangers 0 lost commands 0\n"
+            return self.counts
         return ""
 
     @staticmethod
