@@ -273,12 +273,18 @@ class Lines:
             self.idle += [call.a, call.b]
 
     def settle(self) -> None:
-        """Waits for calls under way, for their hold and 60 s at most, and puts back what is lifted then."""
+        """Waits for calls under way, for their hold and 60 s at most, and closes it."""
         end = time.monotonic() + self.load.hold + self.load.ring + LONGEST_END
         while self.under_way and time.monotonic() < end:
             time.sleep(0.05)
-        self.is_open = False
-        self.phones.put_back(1.0)
+        self.close()
+
+    def close(self) -> None:
+        """Puts back what is lifted of its own lines: those of another tester may talk."""
+        if self.is_open:
+            self.is_open = False
+            self.phones.put_back(1.0, [name for name in self.numbers if name in self.phones.phones])
+            self.phones.close()
 
     @property
     def clock_error(self) -> float:

@@ -122,8 +122,7 @@ def run(load: Load, exchange: Exchange, agent: Address) -> Ended:
             play(load, environment, lines, processors)
             sums = {name: count - before[name] for name, count in counted(lines).items()}
     finally:
-        lines.phones.put_back(0.0)
-        lines.phones.close()
+        lines.close()
     tally = lines.tally
     is_enough = tally.success is not None and tally.success >= load.success
     many = max(1, tally.attempts + tally.no_line_free)

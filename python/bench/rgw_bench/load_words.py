@@ -29,14 +29,14 @@ class Wanted:
 
     unit: str
     least: float
-    most: float
+    most: int
     decimals: int = 0
 
     def read(self, word: str, text: str) -> float:
         """The number that a text is. BadWords: it is none of these."""
         value = float(text) if NUMBER.fullmatch(text) else -1.0
         if not self.least <= value <= self.most or len(text.partition(".")[2]) > self.decimals:
-            raise BadWords(f"{word}: wanted {self.unit}, {self.least:g} to {self.most:.0f}")
+            raise BadWords(f"{word}: wanted {self.unit}, {self.least:g} to {self.most}")
         return value
 
 

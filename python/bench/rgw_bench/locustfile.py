@@ -109,7 +109,6 @@ def settle_here(runner: Any) -> None:
     lines, LINES = LINES, None
     if lines is not None:
         lines.settle()
-        lines.phones.close()
     if isinstance(runner, locust.runners.WorkerRunner):
         runner.send_message("settled")
 

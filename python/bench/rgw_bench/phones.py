@@ -18,7 +18,7 @@ import socket
 import threading
 import time
 from collections import deque
-from collections.abc import Callable, Iterator, Mapping
+from collections.abc import Callable, Iterable, Iterator, Mapping
 from dataclasses import dataclass
 from typing import Any
 
@@ -397,20 +397,22 @@ class Phones:
         self.log.clear()
         self.begun = time.monotonic()
 
-    def put_back(self, within: float = 10.0) -> list[str]:
-        """Puts every lifted handset back, and waits until all telephones are at rest, together `within` s: a line for each that isn't."""
+    def put_back(self, within: float = 10.0, names: Iterable[str] | None = None) -> list[str]:
+        """Puts every lifted handset back, of these telephones or of all, and waits until they are at rest, together `within` s: a line for
+        each that isn't."""
         faults: list[str] = []
-        for gateway in self.gateways.values():
+        phones = [self.phones[name] for name in names] if names is not None else list(self)
+        for gateway in {it.gateway.name: it.gateway for it in phones}.values():
             if not gateway.know(time.monotonic()):
                 faults.append(f"{gateway.name}: no answer from {written(gateway.place)}")
-        for phone in self:
+        for phone in phones:
             if phone.hook == "off":
                 try:
                     phone.on()
                 except Lost as fault:
                     faults.append(str(fault))
         end = time.monotonic() + within
-        for phone in self:
+        for phone in phones:
             with phone.changed:
                 if not phone.changed.wait_for(lambda: phone.state.is_at_rest, max(0.0, end - time.monotonic())):
                     faults.append(f"{phone.name} doesn't come to rest: {phone.since()}")

@@ -17,8 +17,9 @@ from typing import Any
 from .load_words import Exchange
 from .wire import Address, written
 
+PACKAGES = Path(__file__).resolve().parents[1]
 # Where a checkout has it; else $RGCA names it, or it is on the PATH.
-BUILT = Path(__file__).resolve().parents[3] / "crates" / "rgca" / "out" / "rgca"
+BUILT = PACKAGES.parents[1] / "crates" / "rgca" / "out" / "rgca"
 
 
 def rgca() -> list[str]:
@@ -51,7 +52,8 @@ def config_of(exchange: Exchange, own: Address, fronts: list[Address]) -> str:
 
 def begun(words: list[str], name: str) -> subprocess.Popen[str]:
     """A program that says in its first line on standard error where it listens. OSError: it ends before."""
-    program = subprocess.Popen(words, stdin=subprocess.DEVNULL, stdout=subprocess.DEVNULL, stderr=subprocess.PIPE, text=True)
+    env = {**os.environ, "PYTHONPATH": os.pathsep.join(filter(None, [str(PACKAGES), os.environ.get("PYTHONPATH", "")]))}
+    program = subprocess.Popen(words, stdin=subprocess.DEVNULL, stdout=subprocess.DEVNULL, stderr=subprocess.PIPE, text=True, env=env)
     assert program.stderr is not None
     said = program.stderr.readline()
     if not said.startswith(("listen ", "relay ")):

@@ -125,13 +125,16 @@ class StubExchange(threading.Thread):
             other.states[at] = "talks"
             self.tell(other, at, "ends G/rt", CONNECTION)
             if self.cuts_off:
-                self.tell(other, at, "connection A over", "begins L/ro until 9")
-                other.states[at] = "reorder"
+                threading.Timer(0.1, self.cut_off, (other, at)).start()
         else:
             it.states[line], it.keys[line] = "dials", ""
             self.tell(it, line, "off")
             time.sleep(self.dial_tone_after)
             self.tell(it, line, "begins L/dl until 9")
+
+    def cut_off(self, it: StubGateway, line: int) -> None:
+        it.states[line] = "reorder"
+        self.tell(it, line, "connection A over", "begins L/ro until 9")
 
     def on(self, it: StubGateway, line: int) -> None:
         was, peer = it.states[line], it.peers[line]
