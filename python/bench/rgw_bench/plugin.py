@@ -22,6 +22,7 @@ from .bench import Bench, Settings
 from .check_text import NEEDS, Check
 from .dialogue import Dialogue, undo_steps
 from .gateway import Dead, NotMet, NotSupported, OutOfTime
+from .phones_fixture import phones, telephones  # noqa: F401  (its fixtures are those of this plugin)
 from .player import Player
 
 BENCH = pytest.StashKey[Bench]()
