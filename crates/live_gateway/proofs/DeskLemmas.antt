@@ -10,11 +10,13 @@ use Rattle.surroundings.specs.Speaking.{Admitted}
 use Rattle.surroundings.proofs.TrafficLemmas.{grows_nothing, nothing_more, grows_on}
 use Rattle.gateway_core.specs.Wire.{counted}
 use Rattle.gateway_texts.specs.declared.outcome.TextOutcome.{TextOutcome}
+use Rattle.gateway_core.specs.Changing.{Changes}
 use Rattle.gateway_core.specs.Stands.{Stands}
 use Rattle.plain_machine.specs.declared.setup.Setup.{Setup}
 use Rattle.plain_machine.specs.Event.{GatewayEvent, datagram, tick}
 use Rattle.plain_machine.specs.declared.label.SentMessage.{SentMessage}
 use Rattle.plain_machine.specs.Lists.{plain}
+use Rattle.plain_machine.specs.Machine.{Endpoints, endpoint_at}
 use Rattle.gateway_rules.specs.declared.refusal.Refusal.{Refusal}
 use Rattle.rgw_scripts.specs.Moves.{give, ask, sends, refuses, told as answer_of}
 use Rattle.mg_bytes.specs.Lines.{is_line_feed}
@@ -447,3 +449,15 @@ written_off told traffic old new gateway script handed grows same kept = record 
   };
   admission = kept;
 }
+
+-- ---- at which lines something may have changed
+
+-- by whether it was taken, under another name
+pub changes_so : (taken done : Bool) (marks : List Bool) (was is : Endpoints) → taken ≡ done → Changes done marks was is → Changes taken marks was is
+changes_so taken done marks was is same changes = subst (λ (b : Bool). Changes b marks was is) (sym same) changes
+
+-- where a desk stands as it stood none changed
+pub changes_still : {S T : Type 0} (told : T → Option (List ℕ)) (traffic : S → Traffic) (was is : Desk S T) (marks : List Bool)
+    → at_desk told traffic is ≡ at_desk told traffic was
+    → Changes false marks was.play.gateway.value.machine.endpoints is.play.gateway.value.machine.endpoints
+changes_still told traffic was is marks same line off = ap (λ (s : Standing). endpoint_at s.live.gateway.machine.endpoints line) same

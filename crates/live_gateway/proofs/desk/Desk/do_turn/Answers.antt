@@ -8,7 +8,7 @@ use Rattle.live_outlets.specs.declared.now.Now.{Now}
 use Rattle.live_play.specs.Coming.{Came}
 use Rattle.live_gateway.specs.Desk.{at_desk}
 use Rattle.live_gateway.specs.Exchanging.{Waits}
-use Rattle.live_gateway.proofs.DeskLemmas.{standing_of, begun_live, begun_came, between, counted_by, ticks, stays_so, waited_same}
+use Rattle.live_gateway.proofs.DeskLemmas.{standing_of, changes_so, changes_still, begun_live, begun_came, between, counted_by, ticks, stays_so, waited_same}
 use Rattle.live_gateway.proofs.FrameLemmas.{made_of, heard_alone, heard_same, page_same, with_exchange, visit_same}
 use Rattle.live_gateway.proofs.OverLemmas.{same_now, taken_quietly, refused_quietly, noted_of, noted_now}
 use Rattle.live_gateway.proofs.TurningLemmas.{tries, takes_from, taken_from, refused_from, tries_begun}
@@ -224,3 +224,45 @@ returns-in-Note-clause-over g c = λ over. (refl, refl)
 
 pub returns-in-End-clause-over : goal.returns-in-End-clause-over
 returns-in-End-clause-over g c = λ over. (refl, refl)
+
+-- at which lines something may have changed
+
+pub returns-in-Tick-clause-changes : goal.returns-in-Tick-clause-changes
+returns-in-Tick-clause-changes g c = changes_so _ _ _ _ _ c.is_ok-is_taken.ensures.value c.tick-done.ensures.changes
+
+pub returns-in-Command-clause-changes : goal.returns-in-Command-clause-changes
+returns-in-Command-clause-changes g c = c.take_line-is_taken.ensures.changes
+
+pub returns-in-Datagram-clause-changes : goal.returns-in-Datagram-clause-changes
+returns-in-Datagram-clause-changes g c = c.datagram.ensures.changes
+
+pub returns-in-Visit-clause-changes : goal.returns-in-Visit-clause-changes
+returns-in-Visit-clause-changes g c =
+    changes_still g.T.Teller.told g.S.Surroundings.traffic _ _ _
+    (visit_same g.T.Teller.told g.S.Surroundings.traffic g.S.Surroundings.tells _ _ _ _ _ _ c.visit.ensures).0
+
+-- where none is taken
+
+pub returns-in-Look-clause-may : goal.returns-in-Look-clause-may
+returns-in-Look-clause-may g c = rw (c.in-Look.is) refl
+
+pub returns-in-Wait-clause-may : goal.returns-in-Wait-clause-may
+returns-in-Wait-clause-may g c = rw (c.in-Wait.is) refl
+
+pub returns-in-Visit-clause-may : goal.returns-in-Visit-clause-may
+returns-in-Visit-clause-may g c = rw (c.in-Visit.is) refl
+
+pub returns-in-Note-clause-may : goal.returns-in-Note-clause-may
+returns-in-Note-clause-may g c = rw (c.in-Note.is) refl
+
+pub returns-in-End-clause-may : goal.returns-in-End-clause-may
+returns-in-End-clause-may g c = rw (c.in-End.is) refl
+
+pub returns-in-Tick-clause-may : goal.returns-in-Tick-clause-may
+returns-in-Tick-clause-may g c = rw (c.in-Tick.is) tt
+
+pub returns-in-Command-clause-may : goal.returns-in-Command-clause-may
+returns-in-Command-clause-may g c = rw (c.in-Command.is) tt
+
+pub returns-in-Datagram-clause-may : goal.returns-in-Datagram-clause-may
+returns-in-Datagram-clause-may g c = rw (c.in-Datagram.is) tt

@@ -5,7 +5,7 @@ use Rattle.live_play.specs.Coming.{Came}
 use Rattle.live_telephones.specs.declared.telephones.TelephoneRequest.TheVariants.{Act as AsksAct, Show}
 use Rattle.live_gateway.specs.Desk.{at_desk}
 use Rattle.live_gateway.specs.Exchanging.{handed_by}
-use Rattle.live_gateway.proofs.DeskLemmas.{stays_so, stays, standing_of, counted_behind, acts, asks, untold_still}
+use Rattle.live_gateway.proofs.DeskLemmas.{stays_so, stays, changes_so, changes_still, standing_of, counted_behind, acts, asks, untold_still}
 use Rattle.live_gateway.proofs.LineLemmas.{taken_free}
 use Rattle.live_gateway.proofs.OverLemmas.{taken_quietly, refused_quietly, shown_so, told_so as only_told}
 use Rattle.live_gateway.proofs.AnsweringLemmas.{tries_act, asks_of}
@@ -158,3 +158,14 @@ returns-in_default-request_in-clause-play g c = stays_so g.T.Teller.told g.S.Sur
 
 pub returns-in_default-request_in-clause-schedule : goal.returns-in_default-request_in-clause-schedule
 returns-in_default-request_in-clause-schedule g c = c.answer_request.ensures.schedule
+
+-- at which lines something may have changed
+
+pub returns-in-Act-clause-changes : goal.returns-in-Act-clause-changes
+returns-in-Act-clause-changes g c = changes_so _ _ _ _ _ c.is_ok-is_taken.ensures.value c.act-done.ensures.changes
+
+pub returns-in-Show-clause-changes : goal.returns-in-Show-clause-changes
+returns-in-Show-clause-changes g c = λ line off. rw (c.ask-asked.ensures.gateway) refl
+
+pub returns-in_default-request_in-clause-changes : goal.returns-in_default-request_in-clause-changes
+returns-in_default-request_in-clause-changes g c = changes_still g.T.Teller.told g.S.Surroundings.traffic _ _ _ c.answer_request.ensures.play
