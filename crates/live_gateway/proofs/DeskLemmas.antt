@@ -11,6 +11,7 @@ use Rattle.surroundings.proofs.TrafficLemmas.{grows_nothing, nothing_more, grows
 use Rattle.gateway_core.specs.Wire.{counted}
 use Rattle.gateway_texts.specs.declared.outcome.TextOutcome.{TextOutcome}
 use Rattle.gateway_core.specs.Changing.{Changes}
+use Rattle.gateway_core.specs.GatewayState.{GatewayState}
 use Rattle.gateway_core.specs.Stands.{Stands}
 use Rattle.plain_machine.specs.declared.setup.Setup.{Setup}
 use Rattle.plain_machine.specs.Event.{GatewayEvent, datagram, tick}
@@ -461,3 +462,17 @@ pub changes_still : {S T : Type 0} (told : T → Option (List ℕ)) (traffic : S
     → at_desk told traffic is ≡ at_desk told traffic was
     → Changes false marks was.play.gateway.value.machine.endpoints is.play.gateway.value.machine.endpoints
 changes_still told traffic was is marks same line off = ap (λ (s : Standing). endpoint_at s.live.gateway.machine.endpoints line) same
+
+-- a question leaves the gateway, whether or not it is answered
+asked_still : {A B T : Type 0} (done : Result A B) (was is : LivePlay T) (before after : Live) (line : List ℕ) (number : ℕ) (text : List ℕ)
+    → before.gateway ≡ was.gateway.value → after.gateway ≡ is.gateway.value → OnOk done (Asked before line number text after)
+    → OnErr done (is ≡ record was { printed = is.printed }) → is.gateway.value ≡ was.gateway.value
+asked_still (Ok a) was is before after line number text from to asked unasked = sym to ∙ asked.gateway ∙ from
+asked_still {A} {B} {T} (Err b) was is before after line number text from to asked unasked = ap (λ (p : LivePlay T). p.gateway.value) unasked
+
+pub changes_asked : {A B T : Type 0} (done : Result A B) (was is : LivePlay T) (before after : Live) (line : List ℕ) (number : ℕ) (text : List ℕ)
+    (marks : List Bool) → before.gateway ≡ was.gateway.value → after.gateway ≡ is.gateway.value → OnOk done (Asked before line number text after)
+    → OnErr done (is ≡ record was { printed = is.printed })
+    → Changes false marks was.gateway.value.machine.endpoints is.gateway.value.machine.endpoints
+changes_asked done was is before after line number text marks from to asked unasked number_of off =
+    ap (λ (g : GatewayState). endpoint_at g.machine.endpoints number_of) (asked_still done was is before after line number text from to asked unasked)

@@ -286,7 +286,6 @@ impl<T: Teller + Drop> LivePlay<T> {
             (live self.old.gateway.value self.old.script (T.told self.old.teller) handed) text.now line self.new.printed.items
             (live self.new.gateway.value self.new.script (T.told self.new.teller) handed)) }
         ensures unanswered { OnErr result (self.new ≡ record self.old { printed = self.new.printed }) }
-        ensures gateway { self.new.gateway ≡ self.old.gateway }
     {
         put_answer(self.alloc, &self.gateway, line, &mut self.printed)?;
         let printed = self.printed.as_slice();

@@ -39,6 +39,3 @@ returns-in-Err-clause-ends g c = λ before stands possible.
 
 pub returns-in-Err-clause-unheard : goal.returns-in-Err-clause-unheard
 returns-in-Err-clause-unheard g c = told_nothing c.args.text.now c.refuse.new.printed.items c.in-Err.refusal c.refuse.result _ _ _ _ c.refuse.ensures
-
-pub returns-in-Ok-clause-changes : goal.returns-in-Ok-clause-changes
-returns-in-Ok-clause-changes g c = rw (c.hand_out.ensures.gateway) c.in-Ok.ensures.changes

@@ -20,6 +20,3 @@ returns-in-Ok-clause-ran g c = goes_on_by (λ (input : Input). input ≡ passed 
 
 pub returns-in-Err-clause-refused : goal.returns-in-Err-clause-refused
 returns-in-Err-clause-refused g c = ran_nothing _ _ c.in-Err.ensures.err refl refl refl
-
-pub returns-in-Ok-clause-changes : goal.returns-in-Ok-clause-changes
-returns-in-Ok-clause-changes g c = rw (c.hand_out.ensures.gateway) c.in-Ok.ensures.changes
