@@ -22,21 +22,21 @@ IS_UNPROVED = LIBRARY is not None and b"\0rgw_unproved\0" in LIBRARY.read_bytes(
 class WithLibrary(build_py):
     """The package with the library in it."""
 
-    def run(self):
+    def run(self) -> None:
         super().run()
         if LIBRARY is None:
             raise SystemExit(f"there is no {OUT}/librgw.so.1: ./build makes it, and `tools/unproved library` an unproved one in minutes")
         copy(LIBRARY, Path(self.build_lib, "rgw"))
 
 
-class OfPlatform(bdist_wheel):
+class OfPlatform(bdist_wheel):  # type: ignore[misc]
     """A wheel of this platform, in which nothing is compiled for one Python."""
 
-    def finalize_options(self):
+    def finalize_options(self) -> None:
         super().finalize_options()
         self.root_is_pure = False
 
-    def get_tag(self):
+    def get_tag(self) -> tuple[str, str, str]:
         return "py3", "none", super().get_tag()[2]
 
 

@@ -3,16 +3,19 @@
 import threading
 from ctypes import byref, c_size_t, c_uint16, c_uint32, c_uint64, create_string_buffer
 from dataclasses import dataclass
-from socket import inet_aton, inet_ntoa
+from socket import AF_INET, inet_aton, inet_ntoa, inet_pton
 from types import TracebackType
 from typing import NamedTuple, cast
 
 from rgw.codes import WORDS
 from rgw.library import CALLS, ConnectionInfo, GivenUpInfo, Handle, MessageInfo, OutcomeInfo, OutputInfo, SignalInfo
-from rgw.numbers import Closed, ConfigFault, Number, RgwError, raised
+from rgw.numbers import HIDDEN, BadValue, Closed, ConfigFault, EventRefused, Number, raised, whole
 
-# The acts that are no key, by the words of scripts.
+__tracebackhide__ = HIDDEN
+
+# The acts that are no key, by the words of scripts, and the keys.
 ACTS = {"off": 1, "on": 2, "flash": 3}
+KEYS = "0123456789*#ABCD"
 SIGNALS = ("", "L/dl", "L/bz", "L/ro", "L/rg", "L/rs", "L/vmwi", "G/rt", "G/cg", "G/cf")
 MODES = ("", "sendonly", "recvonly", "sendrecv", "confrnce", "inactive")
 VERBS = ("", "EPCF", "RQNT", "NTFY", "CRCX", "MDCX", "DLCX", "AUEP", "AUCX", "RSIP")
@@ -32,6 +35,9 @@ LARGEST_DATAGRAM = 4000
 PLACES = 4
 # The longest tick, in ms.
 LONGEST_TICK = 1000
+# The greatest number with which ids may begin.
+MOST_FIRST = 9_999_998
+MOST_PORT = 65_535
 # So long a datagram that is sent may be before it is asked for twice.
 ROOM = 4096
 
@@ -130,11 +136,13 @@ class Connection:
 
 
 def address_of(source: str | tuple[str, int]) -> Address:
-    """The address that a text, as "10.0.0.1:2727", or a pair says."""
-    if not isinstance(source, str):
-        return Address(*source)
-    host, _, port = source.rpartition(":")
-    return Address(host, int(port))
+    """The address that a text, as "10.0.0.1:2727", or a pair says; `localhost` is 127.0.0.1. ValueError where it says none."""
+    try:
+        host, port = source if isinstance(source, tuple) else (source.rpartition(":")[0], int(source.rpartition(":")[2]))
+        inet_pton(AF_INET, "127.0.0.1" if host == "localhost" else host)
+    except (AttributeError, OSError, TypeError, ValueError):
+        raise ValueError(f"address {source!r}: a.b.c.d:port, as 127.0.0.1:2727") from None
+    return Address("127.0.0.1" if host == "localhost" else host, whole("port", port, 0, MOST_PORT))
 
 
 def _host(number: int) -> str:
@@ -142,8 +150,11 @@ def _host(number: int) -> str:
 
 
 def act_number(act: str) -> int:
-    """The number of an act: `off`, `on`, `flash` or a key. 0, which is none, of any other word."""
-    return ACTS.get(act) or (ord(act) if len(act) == 1 else 0)
+    """The number of an act: `off`, `on`, `flash` or a key; BadValue where there is no such act."""
+    number = ACTS.get(act) or (ord(act) if isinstance(act, str) and len(act) == 1 and act in KEYS else 0)
+    if number == 0:
+        raise BadValue(Number.BAD_ACT, f"act {act!r}: off, on, flash or a key, one of {KEYS}")
+    return number
 
 
 def flaw_of(config: bytes) -> str:
@@ -166,6 +177,14 @@ class Line:
 
     def __init__(self, gateway: "Gateway", number: int) -> None:
         self._gateway, self.number = gateway, number
+
+    def __repr__(self) -> str:
+        try:
+            signals = ",".join(signal.name for signal in self.signals) or "-"
+            held = ",".join(f"{it.number:X}:{it.mode}" for it in self.connections if it is not None) or "-"
+            return f"<rgw.Line {self.number} {self.hook} signals {signals} connections {held} lost {self.lost}>"
+        except Closed:
+            return f"<rgw.Line {self.number} of a closed gateway>"
 
     @property
     def hook(self) -> str:
@@ -215,8 +234,8 @@ class Gateway:
         self._at = byref(self._handle)
         self._thread = threading.get_ident()
         self._buffer, self._needed, self._count = create_string_buffer(ROOM), c_size_t(), c_size_t()
-        if not 0 <= first < 1 << 32:
-            raise RgwError(Number.BAD_FIRST)
+        if not isinstance(first, int) or not 0 <= first <= MOST_FIRST:
+            raise BadValue(Number.BAD_FIRST, f"first = {first!r}: a whole number from 0 to {MOST_FIRST}")
         number = CALLS["open"](self._at, self.config, len(self.config), first)
         if Number.BAD_DOMAIN <= number <= Number.TOO_LONG:
             raise ConfigFault(Number(number), flaw_of(self.config))
@@ -227,6 +246,12 @@ class Gateway:
         """Frees what it has. Each call afterwards but this one raises `Closed`."""
         if self._handle.inner:
             CALLS["close"](self._at)
+
+    def __repr__(self) -> str:
+        try:
+            return f"<rgw.Gateway of {self.lines} lines at {self.now} ms>"
+        except Closed:
+            return "<rgw.Gateway, closed>"
 
     def __enter__(self) -> "Gateway":
         return self
@@ -262,18 +287,21 @@ class Gateway:
     def datagram(self, source: str | tuple[str, int], data: bytes) -> list[Output]:
         """A datagram came from this address. What is sent because of it."""
         host, port = address_of(source)
+        if not isinstance(data, bytes):
+            raise ValueError(f"data = {data!r}: bytes")
         self._ask("datagram", int.from_bytes(inet_aton(host), "big"), port, data, len(data))
         return self.outputs
 
     def phone(self, line: int, act: str) -> list[Output]:
         """An act at the telephone of a line: `off`, `on`, `flash`, or a key. What is sent because of it."""
-        if not 0 <= line < 1 << 16:
-            raise raised(Number.NO_SUCH_LINE)
-        self._ask("phone", line, act_number(act))
+        number = act_number(act)
+        self._ask("phone", self.line(line).number, number)
         return self.outputs
 
     def tick(self, moment: int) -> list[Output]:
         """The clock: it is this moment, at most 1,000 ms past now. What is sent up to it."""
+        if not isinstance(moment, int):
+            raise ValueError(f"moment = {moment!r}: a whole number, from {self.now} to {self.now + LONGEST_TICK}")
         if not 0 <= moment < 1 << 64:
             raise raised(Number.TICK_TOO_FAR if moment > 0 else Number.CLOCK_BACK)
         self._ask("tick", moment)
@@ -281,7 +309,7 @@ class Gateway:
 
     def wait(self, by: int) -> list[Output]:
         """The clock goes on by so many ms, in ticks of 1,000 and one of the rest. What is sent up to then."""
-        end, sent = self.now + by, []
+        end, sent = self.now + whole("by", by), []
         while self.now < end:
             sent += self.tick(min(end, self.now + LONGEST_TICK))
         return sent
@@ -307,9 +335,11 @@ class Gateway:
         return lines.value
 
     def line(self, number: int) -> Line:
-        """One of its lines, from 1."""
+        """One of its lines, from 1; EventRefused where there is no such line."""
+        if not isinstance(number, int):
+            raise ValueError(f"line = {number!r}: a whole number from 1 to {self.lines}")
         if not 1 <= number <= self.lines:
-            raise raised(Number.NO_SUCH_LINE)
+            raise EventRefused(Number.NO_SUCH_LINE, f"line = {number}: from 1 to {self.lines}")
         return Line(self, number)
 
     @property

@@ -1,6 +1,7 @@
 """The numbers that the library answers, and the exceptions that they are. `include/rgw.h` says when each comes."""
 
 from enum import IntEnum
+from operator import methodcaller
 
 
 class Number(IntEnum):
@@ -56,8 +57,24 @@ class ConfigFault(RgwError):
         self.flaw = flaw
 
 
+# In a module that has this as its `__tracebackhide__` pytest shows no frame, where the test fails or gave what can't be.
+HIDDEN = methodcaller("errisinstance", (AssertionError, RgwError, ValueError))
+__tracebackhide__ = HIDDEN
+
+
+class BadValue(RgwError, ValueError):
+    """A value is out of its bounds; the words say what may stand there."""
+
+
 class Closed(RgwError):
     """The gateway was closed, or is used on another thread than the one that opened it."""
+
+
+def whole(name: str, value: object, least: int = 0, most: int | None = None) -> int:
+    """The value itself, where it is a whole number between these bounds; else ValueError, which says what may stand there."""
+    if isinstance(value, int) and value >= least and (most is None or value <= most):
+        return value
+    raise ValueError(f"{name} = {value!r}: a whole number from {least}" + ("" if most is None else f" to {most}"))
 
 
 def raised(number: int) -> RgwError:

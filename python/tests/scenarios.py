@@ -13,7 +13,7 @@ from collections import Counter
 from dataclasses import dataclass, field
 from pathlib import Path
 
-from rgw import ConfigFault, EventRefused, Gateway, Output, RgwError
+from rgw import ConfigFault, Gateway, Output, RgwError
 
 AGENT = "127.0.0.1:2727"
 SETTINGS = [

@@ -15,7 +15,7 @@ FATES = st.lists(st.lists(st.sampled_from([0, 1, 150, 700, 2500]), max_size=2), 
 def call(agent: CarelessAgent, fates: list[list[int]]) -> None:
     """A call is dialled while the network does this to the datagrams, and nothing to those behind them."""
     rest = iter(fates)
-    with World(Gateway(CONFIG), agent, lambda: next(rest, [0])) as world:
+    with World(Gateway(CONFIG), agent, lambda direction, data, moment: next(rest, [0])) as world:
         world.run(20_000)
         for act in ("off", "2", "0", "3", "on"):
             world.phone(1, act)

@@ -2,6 +2,7 @@
 
 import gc
 import threading
+from collections.abc import Callable
 
 import pytest
 
@@ -84,14 +85,15 @@ def test_what_is_given_up_is_told(alone: Gateway) -> None:
 
 def test_refusals_change_nothing(alone: Gateway) -> None:
     before = alone.tick(2), alone.messages
-    for call, number in [
+    calls: list[tuple[Callable[[], object], Number]] = [
         (lambda: alone.phone(1, "5"), Number.PHONE_STATE),
         (lambda: alone.phone(5, "off"), Number.NO_SUCH_LINE),
         (lambda: alone.phone(0, "off"), Number.NO_SUCH_LINE),
         (lambda: alone.phone(1, "hook"), Number.BAD_ACT),
         (lambda: alone.tick(1003), Number.TICK_TOO_FAR),
         (lambda: alone.tick(1), Number.CLOCK_BACK),
-    ]:
+    ]
+    for call, number in calls:
         with pytest.raises(RgwError) as refused:
             call()
         assert (refused.value.number, refused.value.name) == (number, number.name)
@@ -142,7 +144,10 @@ def test_a_closed_gateway_raises(alone: Gateway) -> None:
     line = alone.line(1)
     alone.close()
     alone.close()
-    for call in (lambda: alone.tick(3), lambda: alone.outputs, lambda: line.hook, lambda: line.connections, lambda: alone.next_due):
+    calls: list[Callable[[], object]] = [
+        lambda: alone.tick(3), lambda: alone.outputs, lambda: line.hook, lambda: line.connections, lambda: alone.next_due,
+    ]
+    for call in calls:
         with pytest.raises(Closed):
             call()
 

@@ -3,9 +3,7 @@
 import os
 import re
 import shlex
-import socket
 import subprocess
-import threading
 from collections.abc import Callable
 from pathlib import Path
 
@@ -151,22 +149,6 @@ def test_what_fails_is_told(pytester: pytest.Pytester) -> None:
     result = pytester.runpytest("-p", "rgw.pytest_plugin")
     result.assert_outcomes(failed=1)
     result.stdout.fnmatch_lines(["*line 1 hasn't L/dl within 2000 ms*", "*127.0.0.2:2727 < RSIP 1 * RM: restart", "%%", "phone 1 off"])
-
-
-def test_an_agent_may_be_in_another_process(gateway: World) -> None:
-    with socket.socket(socket.AF_INET, socket.SOCK_DGRAM) as other:
-        other.bind(("127.0.0.1", 0))
-
-        def answer() -> None:
-            data, source = other.recvfrom(65536)
-            other.sendto(b"200 %s OK\r\n" % data.split()[1], source)
-
-        thread = threading.Thread(target=answer)
-        thread.start()
-        gateway.agent = f"127.0.0.1:{other.getsockname()[1]}"
-        gateway.run(10)
-        thread.join()
-    assert [line.split()[2:] for line in gateway.conversation] == [["<", "RSIP", "1", "*", "RM:", "restart"], [">", "200", "1", "OK", "+0", "ms"]]
 
 
 def test_a_line_shows_no_raw_byte() -> None:
