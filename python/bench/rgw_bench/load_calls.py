@@ -40,12 +40,12 @@ class Failed(Exception):
 
 def talks(state: State) -> bool:
     """It hears the other end, and no signal."""
-    return not state.signals - SILENT and any(mode == "sendrecv" for _, mode in state.modes)
+    return not state.signals - SILENT and "sendrecv" in state.modes
 
 
 def is_at_rest(state: State) -> bool:
     """The handset is on hook, and nothing is left of a call."""
-    return state.hook == "on" and not state.signals - SILENT and not state.modes
+    return state.hook == "on" and not state.signals - SILENT and not state.held
 
 
 def see_no_refusal(*phones: Phone) -> None:

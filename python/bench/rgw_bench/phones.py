@@ -20,12 +20,12 @@ import time
 from collections import deque
 from collections.abc import Callable, Iterable, Iterator, Mapping
 from dataclasses import dataclass
-from typing import Any
+from typing import Any, NamedTuple
 
 from .phone_wire import Lost, Telephones, place_of
 from .wire import Address, written
 
-__all__ = ["Lost", "Phone", "Phones", "State", "Unexpected", "side_by_side"]
+__all__ = ["Connection", "Lost", "Phone", "Phones", "State", "Unexpected", "side_by_side"]
 
 MODES = frozenset("sendonly recvonly sendrecv confrnce inactive loopback conttest netwloop netwtest".split())
 KEYS = frozenset("0123456789ABCD*#")
@@ -49,20 +49,33 @@ class Unexpected(AssertionError):
         self.due, self.history = due, history
 
 
+class Connection(NamedTuple):
+    """A connection of a line: its mode, and where its media come in and go, as `127.0.0.1:20000`; `-` where that isn't known."""
+
+    mode: str
+    local: str = "-"
+    remote: str = "-"
+
+
 @dataclass(frozen=True)
 class State:
-    """A telephone since the moment `at`, in s: its handset, `on` or `off`, the signals that are active, as `L/dl`, and the mode of each
-    connection by its name."""
+    """A telephone since the moment `at`, in s: its handset, `on` or `off`, the signals that are active, as `L/dl`, and its connections,
+    each with its name."""
 
     at: float
     hook: str = "on"
     signals: frozenset[str] = frozenset()
-    modes: tuple[tuple[str, str], ...] = ()
+    held: tuple[tuple[str, Connection], ...] = ()
+
+    @property
+    def modes(self) -> list[str]:
+        """The modes of its connections."""
+        return [it.mode for _, it in self.held]
 
     @property
     def is_silent(self) -> bool:
         """No signal is active, and there is no connection."""
-        return not self.signals and not self.modes
+        return not self.signals and not self.held
 
     @property
     def is_at_rest(self) -> bool:
@@ -71,24 +84,24 @@ class State:
 
     def changed(self, at: float, words: list[str]) -> State:
         """The state after one change, in the words of rgwd's `watch`. ValueError, IndexError: there is no such change."""
-        signals, modes, hook = self.signals, dict(self.modes), self.hook
+        signals, held, hook = self.signals, dict(self.held), self.hook
         what = words[0]
         if what == "begins":
             signals = signals | {words[1]}
         elif what == "ends":
             signals = signals - {words[1]}
         elif what == "connection" and words[2] == "over":
-            modes.pop(words[1], None)
+            held.pop(words[1], None)
         elif what == "connection":
-            modes[words[1]] = words[2]
+            held[words[1]] = Connection(words[2], words[3], words[5])
         elif what in ("on", "off"):
             hook = what
         else:
             raise ValueError(what)
-        return State(at, hook, signals, tuple(modes.items()))
+        return State(at, hook, signals, tuple(held.items()))
 
     def __str__(self) -> str:
-        signals, modes = ", ".join(sorted(self.signals)), ", ".join(mode for _, mode in self.modes)
+        signals, modes = ", ".join(sorted(self.signals)), ", ".join(self.modes)
         return f"{self.hook}, {signals or 'no signal'}, {modes or 'no connection'}"
 
 
@@ -101,7 +114,7 @@ def meaning_of_word(word: str) -> Test:
     if word == "silent":
         return lambda state: state.is_silent
     if word in MODES:
-        return lambda state: any(mode == word for _, mode in state.modes)
+        return lambda state: word in state.modes
     if SIGNAL.fullmatch(word):
         return lambda state: word in state.signals
     raise ValueError(f"{word!r}: wanted a signal as L/dl, a mode as sendrecv, silent, on or off")
@@ -153,9 +166,14 @@ class Phone:
         return self.state.signals
 
     @property
-    def connections(self) -> dict[str, str]:
-        """The mode of each connection, by its name."""
-        return dict(self.state.modes)
+    def connections(self) -> dict[str, Connection]:
+        """Its connections, by their names."""
+        return dict(self.state.held)
+
+    def meets(self, other: Phone) -> bool:
+        """Whether each of the two has one connection, which receives where the other's sends."""
+        its, others = list(self.connections.values()), list(other.connections.values())
+        return len(its) == len(others) == 1 and (its[0].local, its[0].remote) == (others[0].remote, others[0].local) and "-" not in its[0]
 
     # What is told of it
 
@@ -169,7 +187,9 @@ class Phone:
 
     def show(self, at: float, hook: str, signals: frozenset[str], modes: Mapping[str, str]) -> None:
         """It is so, as rgwd's `show` tells."""
-        shown = State(at, hook, signals, tuple(modes.items()))
+        known = self.connections
+        held = {name: known.get(name, Connection(mode))._replace(mode=mode) for name, mode in modes.items()}
+        shown = State(at, hook, signals, tuple(held.items()))
         changed = self.changed
         with changed:
             if str(shown) != str(self.state):

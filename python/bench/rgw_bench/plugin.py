@@ -22,8 +22,10 @@ from .bench import Bench, Settings
 from .check_text import NEEDS, Check
 from .dialogue import Dialogue, undo_steps
 from .gateway import Dead, NotMet, NotSupported, OutOfTime
-from .phones_fixture import phones, telephones  # noqa: F401  (its fixtures are those of this plugin)
 from .player import Player
+
+# (the fixtures of telephones)
+pytest_plugins = ["rgw_bench.phones_fixture"]
 
 BENCH = pytest.StashKey[Bench]()
 LIMIT = pytest.StashKey[float | None]()

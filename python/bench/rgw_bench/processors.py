@@ -134,10 +134,12 @@ def limit_of(
 ) -> Limit | None:
     """Which end was the limit of a load of which `late` and `no_line`, of 1, of all attempts began late, or found no line idle; none where
     enough calls came to rest, each in time and at a line."""
+    tester = shares["tester"].busiest if "tester" in shares else 0.0
+    if tester >= FULL:
+        return Limit("tester", f"it took {tester:.2f} of a processor")
     if late > 0.01:
-        return Limit("tester", f"{late:.1%} of the attempts began more than 100 ms late")
-    if "tester" in shares and shares["tester"].busiest >= FULL:
-        return Limit("tester", f"it took {shares['tester'].busiest:.2f} of a processor")
+        is_machine = machine >= FULL_MACHINE
+        return Limit("machine" if is_machine else "tester", f"{late:.1%} of the attempts began more than 100 ms late")
     if no_line > 0.01:
         return Limit("lines", f"{no_line:.1%} of the attempts found fewer than two lines idle")
     if is_enough:

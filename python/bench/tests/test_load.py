@@ -290,11 +290,12 @@ IDLE = {"tester": Share(0.3, 0.3), "agent": Share(0.5, 0.5), "gateways": Share(2
 
 
 @pytest.mark.parametrize("end, more", [
-    ("none", {"is_enough": True}), ("tester", {"late": 0.02, "is_enough": True}), ("lines", {"no_line": 0.02, "is_enough": True}),
+    ("none", {"is_enough": True}), ("tester", {"late": 0.02, "is_enough": True}),
+    ("machine", {"late": 0.02, "machine": 0.97}), ("lines", {"no_line": 0.02, "is_enough": True}),
     ("gateways", {"lost_commands": 3}), ("tester", {"shares": {**IDLE, "tester": Share(0.95, 0.95)}, "is_enough": True}),
     ("agent", {"shares": {**IDLE, "agent": Share(1.9, 0.97)}}), ("gateways", {"shares": {**IDLE, "gateways": Share(2.0, 0.99)}}),
     ("machine", {"machine": 0.99}), ("unknown", {}), ("unknown", {"shares": {"tester": Share(0.1, 0.1)}}),
-], ids=range(10))
+], ids=range(11))
 def test_which_end_was_the_limit(end: str, more: dict[str, Any]) -> None:
     usual: dict[str, Any] = {"shares": IDLE, "machine": 0.5, "late": 0.0, "no_line": 0.0, "lost_commands": 0, "is_enough": False}
     limit = limit_of(**{**usual, **more})

@@ -1,9 +1,13 @@
 """Telephones, at a stub of gateways: what is expected, what a failure tells, and what is left behind a test."""
 from __future__ import annotations
 
+import os
+import subprocess
+import sys
 import threading
 import time
 from collections.abc import Iterator
+from pathlib import Path
 
 import pytest
 from hypothesis import given, settings
@@ -11,9 +15,10 @@ from hypothesis import strategies as st
 from stubs import WORKER, StubExchange
 
 from rgw_bench.phone_wire import Telephones, place_of
-from rgw_bench.phones import Lost, Phone, Phones, State, Unexpected, side_by_side, meaning_of
+from rgw_bench.phones import Connection, Lost, Phone, Phones, State, Unexpected, side_by_side, meaning_of
 from rgw_bench.phones_fixture import places_of
 
+BENCH = Path(__file__).resolve().parent.parent
 HOST, PORT = f"127.101.{WORKER}.1", 24100
 
 
@@ -39,12 +44,25 @@ def test_a_call_from_rest_to_rest(exchange: StubExchange, phones: Phones) -> Non
     a.off().expect("L/dl", within=2).dial(number(exchange, b), gap=0.01)
     b.expect("L/rg", within=2).off()
     side_by_side(lambda: a.expect("sendrecv", within=2), lambda: b.expect("sendrecv", within=2))
-    assert (a.hook, a.signals, a.connections) == ("off", frozenset(), {"A": "sendrecv"})
+    assert (a.hook, a.signals, a.connections) == ("off", frozenset(), {"A": Connection("sendrecv", "127.0.0.1:20000", "127.0.0.2:20002")})
     a.on()
     b.expect("L/ro", within=2).on()
     for phone in (a, b):
         phone.expect("silent", within=2).expect("on")
     assert a.state.is_at_rest and b.met_at >= a.met_at - 1
+
+
+def test_each_receives_where_the_other_sends(exchange: StubExchange, phones: Phones) -> None:
+    a, b = phones["gw1:1"], phones["gw2:1"]
+    first, second = exchange.gateways
+    assert not a.meets(b)
+    exchange.tell(first, 1, "connection A sendrecv 127.0.0.1:1 to 127.0.0.2:2 PCMU 20")
+    exchange.tell(second, 1, "connection B sendrecv 127.0.0.2:2 to - PCMU 20")
+    b.expect("sendrecv", within=1)
+    assert not a.expect("sendrecv", within=1).meets(b)
+    exchange.tell(second, 1, "connection B inactive 127.0.0.2:2 to 127.0.0.1:1 PCMU 20")
+    b.expect("inactive", within=1)
+    assert a.meets(b) and b.meets(a) and not a.meets(phones["gw1:2"])
 
 
 def test_names_of_telephones(phones: Phones) -> None:
@@ -276,4 +294,32 @@ class Deaf:
 
 def test_a_state_by_words() -> None:
     assert meaning_of("L/dl|silent")(State(0.0)) and not meaning_of("off")(State(0.0))
-    assert str(State(0.0, "off", frozenset({"L/dl", "L/wt"}), (("A", "inactive"),))) == "off, L/dl, L/wt, inactive"
+    assert str(State(0.0, "off", frozenset({"L/dl", "L/wt"}), (("A", Connection("inactive")),))) == "off, L/dl, L/wt, inactive"
+
+
+TESTS = """
+def test_fails(phones):
+    phones["gw1:1"].off().expect("L/bz", within=0.1)
+
+def test_comes_behind(phones):
+    assert [it.hook for it in phones] == ["on"] * 4
+    phones["b:2"].off()
+
+def test_asks_for_none(request):
+    assert request.config.getoption("--phones")
+"""
+
+
+def test_the_fixture_leaves_no_handset_lifted(exchange: StubExchange, tmp_path: Path) -> None:
+    (tmp_path / "test_calls.py").write_text(TESTS)
+    first, second = (it.place for it in exchange.gateways)
+    words = ["--phones", f"{first[0]}:{first[1]}", "--phones", f"b={second[0]}:{second[1]}", f"--junitxml={tmp_path}/report.xml"]
+    asked = [sys.executable, "-m", "pytest", "-q", "-p", "no:cacheprovider", "-p", "rgw_bench.plugin", str(tmp_path), *words]
+    ran = subprocess.run(asked, capture_output=True, text=True, timeout=60, env={**os.environ, "PYTHONPATH": str(BENCH)}, cwd=tmp_path)
+    assert ran.returncode == 1 and "1 failed, 2 passed" in ran.stdout, ran.stdout
+    assert "expected gw1:1 L/bz within 0.1 s; since" in ran.stdout and "gw1:1 @ off" in (tmp_path / "report.xml").read_text()
+    assert exchange.gateways[0].hooks[1:] == exchange.gateways[1].hooks[1:] == ["on", "on"]
+    words[1] = f"{HOST}:24190"
+    asked = [sys.executable, "-m", "pytest", "-q", "-p", "no:cacheprovider", "-p", "rgw_bench.plugin", str(tmp_path), *words[:2]]
+    ran = subprocess.run(asked, capture_output=True, text=True, timeout=60, env={**os.environ, "PYTHONPATH": str(BENCH)}, cwd=tmp_path)
+    assert f"--phones: {HOST}:24190: no answer" in ran.stdout and "1 passed, 2 errors" in ran.stdout, ran.stdout
