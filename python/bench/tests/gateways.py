@@ -21,7 +21,7 @@ PORTS = {"front": 22427, "gateway": 22428, "phones": 22429, "home": 22728, "agen
 DOMAIN = "rgw.example.net"
 LINES = 8
 # So long a program has to say where it listens, in seconds.
-SOON = 10.0
+SOON = 60.0
 
 
 def rgwd() -> list[str]:
