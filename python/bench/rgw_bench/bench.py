@@ -109,7 +109,7 @@ class Bench:
         lines = settings.lines[2 * part : 2 * part + 2]
         place = settings.hook or settings.phones
         telephones = Worked(place, bool(settings.hook)) if place else None
-        places = Places(settings.gateway, settings.domain, lines[0], lines[1] if len(lines) > 1 else "")
+        places = Places(settings.gateway, settings.domain, lines[0], lines[1] if len(lines) > 1 else "", settings.lines)
         # By the time of day in ms, so that no session of the last two hours began with them.
         row = int(time.time() * 1000) % MOST_IDS // IDS
         first = FIRST_ID + IDS * (row - row % parts + part)

@@ -102,12 +102,14 @@ class Entry:
 
 @dataclass
 class Places:
-    """Where a check is played: the gateway's address, the domain of its endpoints, and the local names of a line and another one."""
+    """Where a check is played: the gateway's address, the domain of its endpoints, and the local names of a line and another one; and
+    those of all lines that are checked, by others too."""
 
     gateway: Address
     domain: str
     local: str
     other_local: str = ""
+    locals: tuple[str, ...] = ()
 
 
 class Gateway:
@@ -164,6 +166,11 @@ class Gateway:
     def other(self) -> str:
         """That of the other line."""
         return f"{self.places.other_local}@{self.places.domain}"
+
+    @property
+    def lines(self) -> list[str]:
+        """Those of all lines that are checked."""
+        return [f"{it}@{self.places.domain}" for it in self.places.locals or (self.places.local,)]
 
     @property
     def call(self) -> str:

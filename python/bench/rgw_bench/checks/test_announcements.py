@@ -21,7 +21,7 @@ def names(endpoint: str, line: str) -> bool:
 
 def due_for_lines(gw: Dialogue, endpoints: list[str]) -> None:
     """Announcements for these endpoints are for each line that is checked."""
-    for line in [gw.line] + ([gw.other] if gw.gateway.places.other_local else []):
+    for line in gw.gateway.lines:
         gw.due(f"RSIP for {line}", any(names(it, line) for it in endpoints), f"RSIP for {', '.join(endpoints)}")
 
 

@@ -59,13 +59,13 @@ def answered(verbs: str, made: Callable[[str], Iterable[Out]]) -> Fault:
     return Fault(answers=answers)
 
 
-def unsaid(verbs: str, pattern: str = "") -> Fault:
-    """Commands of the gateway's own with these verbs, in which `pattern` is found, never go out; the gateway takes them for answered."""
+def unsaid(verbs: str, pattern: str = "", is_answered: bool = True) -> Fault:
+    """Commands of the gateway's own with these verbs, in which `pattern` is found, never go out. It takes them for answered, or waits."""
 
     def says(command: str) -> Iterable[Out]:
-        if is_command(command, verbs) and re.search(pattern, command, re.M | re.I):
-            return (Out(f"200 {number(command)} OK\r\n", To.GATEWAY),)
-        return (Out(command),)
+        if not is_command(command, verbs) or not re.search(pattern, command, re.M | re.I):
+            return (Out(command),)
+        return (Out(f"200 {number(command)} OK\r\n", To.GATEWAY),) if is_answered else ()
 
     return Fault(says=says)
 

@@ -60,13 +60,13 @@ class Site:
         return self.folder / "gateway.toml"
 
     def start(self) -> None:
-        """Starts the gateway; RuntimeError where it doesn't say within 10 s where it listens."""
+        """Starts the gateway; RuntimeError where it doesn't say within `SOON` where it listens."""
         places = [f"{host}:{port}" for host, port in (self.place, self.phones)]
         words = [*rgwd(), str(self.configuration()), "--listen", places[0], "--phones", places[1]]
         self.running = begun(words, self.folder / "rgwd.log")
 
     def answer_announcement(self) -> None:
-        """Answers the gateway's announcement in the call agent's place, so that it serves; TimeoutError where none comes within 10 s."""
+        """Answers the gateway's announcement in the call agent's place, so that it serves; TimeoutError where none comes within `SOON`."""
         with bound(self.own) as agent:
             agent.settimeout(SOON)
             datagram, source = agent.recvfrom(65536)
