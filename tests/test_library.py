@@ -6,12 +6,14 @@ import functools
 import re
 import shutil
 import signal
+import socket
 import subprocess
+import threading
 import time
 from pathlib import Path
 
 import pytest
-from running import TOP, command, free_ports, ran, until
+from running import TOP, client, command, free_ports, ran, until
 
 WARNINGS = ["-Wall", "-Wextra", "-Wpedantic", "-Werror"]
 SANITIZERS = ["-g", "-fsanitize=address,undefined", "-fno-sanitize-recover=all"]
@@ -82,6 +84,13 @@ class Running:
         return self.process.wait(60)
 
 
+def compiled(folder: Path, *flags: str) -> str:
+    """The path of the firmware, which is compiled without a warning."""
+    words = ["cc", "-std=c99", *WARNINGS, *flags, f"-I{TOP}/include", f"{TOP}/examples/firmware/main.c", f"{library()}/librgw.a"]
+    assert ran([*words, "-o", f"{folder}/firmware"]) == (0, "", "")
+    return f"{folder}/firmware"
+
+
 def call(firmware: Running, agent: Running) -> None:
     """A call from line 1 to line 2, from dial tone to busy tone."""
     firmware.act(1, "off")
@@ -106,9 +115,7 @@ def test_firmware(tmp_path: Path, flags: list[str], before: list[str]) -> None:
     """It serves a call; SIGHUP starts it anew, but not where its configuration has a fault by then; SIGTERM ends it in order."""
     if before and not shutil.which(before[0]):
         pytest.skip(f"there is no {before[0]}")
-    program, config = f"{tmp_path}/firmware", tmp_path / "gateway.toml"
-    words = ["cc", "-std=c99", *WARNINGS, *flags, f"-I{TOP}/include", f"{TOP}/examples/firmware/main.c", f"{library()}/librgw.a"]
-    assert ran([*words, "-o", program]) == (0, "", "")
+    program, config = compiled(tmp_path, *flags), tmp_path / "gateway.toml"
     own, port = free_ports(2)
     config.write_text(GATEWAY % (2, own))
     (tmp_path / "agent.toml").write_text(f'own = "127.0.0.1:{own}"\ndigit_map = "(2xx|0)"\n[gateways."gw1.example.net"]\n'
@@ -133,3 +140,32 @@ def test_firmware(tmp_path: Path, flags: list[str], before: list[str]) -> None:
         for it in (firmware, agent):
             it.process.kill()
             it.process.wait()
+
+
+def work(hook: socket.socket, firmware: Running) -> None:
+    """Works the telephones by the console for rgw-check, and starts the gateway anew."""
+    while True:
+        text, source = hook.recvfrom(2000)
+        words = text.decode().split()
+        if words[0] == "act":
+            firmware.act(int(words[1]), words[2])
+        else:
+            firmware.process.send_signal(signal.SIGHUP)
+        # (until poll has seen it)
+        time.sleep(0.05)
+        hook.sendto(b"done\n", source)
+
+
+@pytest.mark.live
+def test_checks_of_the_firmware(tmp_path: Path) -> None:
+    """rgw-check finds no fault with it; the console works the telephones."""
+    own, port = free_ports(2)
+    (tmp_path / "gateway.toml").write_text(GATEWAY % (2, own))
+    firmware = Running([compiled(tmp_path), f"{tmp_path}/gateway.toml", "127.0.0.1", str(port)], tmp_path / "firmware.log")
+    with client(seconds=600) as hook:
+        threading.Thread(target=work, args=(hook, firmware), daemon=True).start()
+        words = ["--domain", "gw1.example.net", "--line", "aaln/1", "--more-lines", "aaln/2", "--own", f"127.0.0.1:{own}"]
+        words += ["--hook", "127.0.0.1:%d" % hook.getsockname()[1]]
+        ended = ran([f"{TOP}/python/bench/bin/rgw-check", f"127.0.0.1:{port}", *words])
+    assert ended[0] == 0, ended
+    assert firmware.end() == 0
