@@ -453,10 +453,6 @@ written_off told traffic old new gateway script handed grows same kept = record 
 
 -- ---- at which lines something may have changed
 
--- by whether it was taken, under another name
-pub changes_so : (taken done : Bool) (marks : List Bool) (was is : Endpoints) → taken ≡ done → Changes done marks was is → Changes taken marks was is
-changes_so taken done marks was is same changes = subst (λ (b : Bool). Changes b marks was is) (sym same) changes
-
 -- where a desk stands as it stood none changed
 pub changes_still : {S T : Type 0} (told : T → Option (List ℕ)) (traffic : S → Traffic) (was is : Desk S T) (marks : List Bool)
     → at_desk told traffic is ≡ at_desk told traffic was

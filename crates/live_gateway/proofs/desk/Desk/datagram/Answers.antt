@@ -3,7 +3,7 @@ use Rattle.std.specs.Prelude.{is_ok}
 use Rattle.surroundings.specs.Speaking.{admitted_by}
 use Rattle.live_play.specs.Coming.{Came}
 use Rattle.live_gateway.specs.Desk.{Standing, at_desk}
-use Rattle.live_gateway.proofs.DeskLemmas.{standing_of, changes_so, counted_in, hears_nobody, hears}
+use Rattle.live_gateway.proofs.DeskLemmas.{standing_of, counted_in, hears_nobody, hears}
 use Rattle.live_gateway.proofs.HearingLemmas.{heard_still}
 use Rattle.live_gateway.proofs.OverLemmas.{taken_in, refused_in}
 use Rattle.live_gateway.proofs.TurningLemmas.{tries}
@@ -75,4 +75,4 @@ returns-clause-looked g c =
     }
 
 pub returns-clause-changes : goal.returns-clause-changes
-returns-clause-changes g c = changes_so _ _ _ _ _ c.is_ok-is_taken.ensures.value c.datagram-done.ensures.changes
+returns-clause-changes g c = rw (c.is_ok-is_taken.ensures.value) c.datagram-done.ensures.changes

@@ -1,4 +1,4 @@
-use Rattle.std.proofs.Common.{◌≡◌, ℕ, false, refl, ◌∙◌, ap, subst, sym}
+use Rattle.std.proofs.Common.{◌≡◌, ℕ, [], false, refl, ◌∙◌, ap, subst, sym}
 use Rattle.std.specs.Prelude.{not}
 use Rattle.gateway_core.specs.GatewayState.{GatewayState}
 use Rattle.plain_machine.specs.Event.{tick}
@@ -8,7 +8,7 @@ use Rattle.live_outlets.specs.declared.now.Now.{Now}
 use Rattle.live_play.specs.Coming.{Came}
 use Rattle.live_gateway.specs.Desk.{at_desk}
 use Rattle.live_gateway.specs.Exchanging.{Waits}
-use Rattle.live_gateway.proofs.DeskLemmas.{standing_of, changes_so, changes_still, begun_live, begun_came, between, counted_by, ticks, stays_so, waited_same}
+use Rattle.live_gateway.proofs.DeskLemmas.{standing_of, changes_still, begun_live, begun_came, between, counted_by, ticks, stays_so, waited_same}
 use Rattle.live_gateway.proofs.FrameLemmas.{made_of, heard_alone, heard_same, page_same, with_exchange, visit_same}
 use Rattle.live_gateway.proofs.OverLemmas.{same_now, taken_quietly, refused_quietly, noted_of, noted_now}
 use Rattle.live_gateway.proofs.TurningLemmas.{tries, takes_from, taken_from, refused_from, tries_begun}
@@ -228,7 +228,7 @@ returns-in-End-clause-over g c = λ over. (refl, refl)
 -- at which lines something may have changed
 
 pub returns-in-Tick-clause-changes : goal.returns-in-Tick-clause-changes
-returns-in-Tick-clause-changes g c = changes_so _ _ _ _ _ c.is_ok-is_taken.ensures.value c.tick-done.ensures.changes
+returns-in-Tick-clause-changes g c = rw (c.is_ok-is_taken.ensures.value) c.tick-done.ensures.changes
 
 pub returns-in-Command-clause-changes : goal.returns-in-Command-clause-changes
 returns-in-Command-clause-changes g c = c.take_line-is_taken.ensures.changes
@@ -238,7 +238,7 @@ returns-in-Datagram-clause-changes g c = c.datagram.ensures.changes
 
 pub returns-in-Visit-clause-changes : goal.returns-in-Visit-clause-changes
 returns-in-Visit-clause-changes g c =
-    changes_still g.T.Teller.told g.S.Surroundings.traffic _ _ _
+    changes_still g.T.Teller.told g.S.Surroundings.traffic c.args.self.now c.visit.new.self []
     (visit_same g.T.Teller.told g.S.Surroundings.traffic g.S.Surroundings.tells _ _ _ _ _ _ c.visit.ensures).0
 
 -- where none is taken

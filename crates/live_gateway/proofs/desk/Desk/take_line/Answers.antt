@@ -1,11 +1,11 @@
-use Rattle.std.proofs.Common.{◌≡◌, inr, refl, ap}
+use Rattle.std.proofs.Common.{◌≡◌, [], inr, refl, ap}
 use Rattle.plain_machine.specs.Event.{phone}
 use Rattle.surroundings.specs.Speaking.{admitted_by}
 use Rattle.live_play.specs.Coming.{Came}
 use Rattle.live_telephones.specs.declared.telephones.TelephoneRequest.TheVariants.{Act as AsksAct, Show}
 use Rattle.live_gateway.specs.Desk.{at_desk}
 use Rattle.live_gateway.specs.Exchanging.{handed_by}
-use Rattle.live_gateway.proofs.DeskLemmas.{stays_so, stays, changes_so, changes_still, changes_asked, standing_of, counted_behind, acts, asks, untold_still}
+use Rattle.live_gateway.proofs.DeskLemmas.{stays_so, stays, changes_still, changes_asked, standing_of, counted_behind, acts, asks, untold_still}
 use Rattle.live_gateway.proofs.LineLemmas.{taken_free}
 use Rattle.live_gateway.proofs.OverLemmas.{taken_quietly, refused_quietly, shown_so, told_so as only_told}
 use Rattle.live_gateway.proofs.AnsweringLemmas.{tries_act, asks_of}
@@ -162,13 +162,13 @@ returns-in_default-request_in-clause-schedule g c = c.answer_request.ensures.sch
 -- at which lines something may have changed
 
 pub returns-in-Act-clause-changes : goal.returns-in-Act-clause-changes
-returns-in-Act-clause-changes g c = changes_so _ _ _ _ _ c.is_ok-is_taken.ensures.value c.act-done.ensures.changes
+returns-in-Act-clause-changes g c = rw (c.is_ok-is_taken.ensures.value) c.act-done.ensures.changes
 
 pub returns-in-Show-clause-changes : goal.returns-in-Show-clause-changes
 returns-in-Show-clause-changes g c =
     let handed = handed_by c.args.self.now.exchange.network (g.S.Surroundings.traffic c.args.self.now.exchange.around).sent in
-    changes_asked c.ask-asked.result c.args.self.now.play c.ask-asked.new.self _ _ c.in-Some.text.now c.in-Show.line c.ask-asked.new.self.printed.items _
+    changes_asked c.ask-asked.result c.args.self.now.play c.ask-asked.new.self _ _ c.in-Some.text.now c.in-Show.line c.ask-asked.new.self.printed.items []
     refl refl (c.ask-asked.ensures.answered handed) c.ask-asked.ensures.unanswered
 
 pub returns-in_default-request_in-clause-changes : goal.returns-in_default-request_in-clause-changes
-returns-in_default-request_in-clause-changes g c = changes_still g.T.Teller.told g.S.Surroundings.traffic _ _ _ c.answer_request.ensures.play
+returns-in_default-request_in-clause-changes g c = changes_still g.T.Teller.told g.S.Surroundings.traffic c.args.self.now c.answer_request.new.self [] c.answer_request.ensures.play

@@ -25,8 +25,8 @@ returns-clause-play g c =
     (rw (c.tell.ensures.traffic) refl)
     refl
 
-pub do_turn-requires : goal.do_turn-requires
-do_turn-requires g c =
+pub do_turn-is_taken-requires : goal.do_turn-is_taken-requires
+do_turn-is_taken-requires g c =
     let here : (events : List GatewayEvent) → Stands c.args.self.now.play.gateway.value events
     → c.now-ticked.result ≡ (plain c.args.self.now.play.gateway.value.setup events).now =
     subst (λ (gateway : GatewayState). (events : List GatewayEvent) → Stands gateway events → c.now-ticked.result ≡ (plain gateway.setup events).now)
