@@ -25,7 +25,8 @@ def lines(draw: st.DrawFn) -> str:
         return " ".join(draw(st.lists(words, max_size=6)))
     if kind == 1:
         return f"{draw(codes)}: {draw(words)}"
-    return draw(st.sampled_from(["200 1 OK", "NTFY 7 aaln/1@gw MGCP 1.0", "RSIP 8 *@gw MGCP 1.0", "RM: restart", "O: L/hd", "v=0", "", "."]))
+    usual = ["200 1 OK", "NTFY 7 aaln/1@gw MGCP 1.0", "RSIP 8 *@gw MGCP 1.0", "RM: restart", "O: L/hd", "v=0", "", "."]
+    return draw(st.sampled_from(usual))
 
 
 @st.composite
@@ -90,9 +91,11 @@ def test_a_response_has_its_parts() -> None:
 
 
 @pytest.mark.parametrize("raw, why", [
-    (b"", "nothing in it"), (b"\r\n", "nothing in it"), (b"hello", "no header: hello"), (b"NTFY x a MGCP 1.0", "no header: NTFY x a MGCP 1.0"),
+    (b"", "nothing in it"), (b"\r\n", "nothing in it"), (b"hello", "no header: hello"),
+    (b"NTFY x a MGCP 1.0", "no header: NTFY x a MGCP 1.0"),
     (b"AUEP 1 a", "no header: AUEP 1 a"), (b"200 1 OK\r\nnothing", "no parameter: nothing"), (b"20 1 OK", "no header: 20 1 OK"),
-    (b"NTFY 1234567890 a MGCP 1.0", "no header: NTFY 1234567890 a MGCP 1.0"), ("NTFY ² a MGCP 1.0".encode("latin-1"), r"no header: NTFY \xb2 a MGCP 1.0"),
+    (b"NTFY 1234567890 a MGCP 1.0", "no header: NTFY 1234567890 a MGCP 1.0"),
+    ("NTFY ² a MGCP 1.0".encode("latin-1"), r"no header: NTFY \xb2 a MGCP 1.0"),
 ])
 def test_what_is_no_message_says_why(raw: bytes, why: str) -> None:
     """The text is for people."""
@@ -121,8 +124,8 @@ def test_ids_begin_anew_behind_the_greatest() -> None:
 
 
 @pytest.mark.parametrize("data", [
-    b"\r\n" * 32_000, b"\n \n" * 21_000, b".\r\n" * 21_000, b"200 1 OK\r\n" + b"a:b\r\n" * 13_000, b" " * 65_000, b"NTFY 1 a MGCP 1.0\r\n" + b"\n\t" * 30_000,
-    b"200 1 OK\r\n.\r\n" * 4_600,
+    b"\r\n" * 32_000, b"\n \n" * 21_000, b".\r\n" * 21_000, b"200 1 OK\r\n" + b"a:b\r\n" * 13_000, b" " * 65_000,
+    b"NTFY 1 a MGCP 1.0\r\n" + b"\n\t" * 30_000, b"200 1 OK\r\n.\r\n" * 4_600,
 ], ids=["line ends", "blanks", "dots", "parameters", "a blank line", "descriptions", "responses"])
 def test_a_great_datagram_takes_little_time(data: bytes) -> None:
     """No more than a quarter of a second."""

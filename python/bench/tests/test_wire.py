@@ -17,13 +17,17 @@ def ends() -> Generator[wire.Wire, None, None]:
     made.close()
 
 
-@pytest.mark.parametrize("text, place", [("127.0.0.1:2427", ("127.0.0.1", 2427)), ("localhost:0", ("127.0.0.1", 0)), ("10.0.0.7:65535", ("10.0.0.7", 65535))])
+@pytest.mark.parametrize("text, place", [
+    ("127.0.0.1:2427", ("127.0.0.1", 2427)), ("localhost:0", ("127.0.0.1", 0)), ("10.0.0.7:65535", ("10.0.0.7", 65535)),
+])
 def test_addresses(text: str, place: wire.Address) -> None:
     """a.b.c.d:port, or localhost:port."""
     assert wire.address(text) == place
 
 
-@pytest.mark.parametrize("text", ["", "127.0.0.1", "localhost", "127.0.0.1:", ":1", "127.0.0.1:65536", "127.0.0.1:+1", "127.0.0.1:²", "b:1", "1.2.3:1", "127.0.0.256:1"])
+@pytest.mark.parametrize("text", [
+    "", "127.0.0.1", "localhost", "127.0.0.1:", ":1", "127.0.0.1:65536", "127.0.0.1:+1", "127.0.0.1:²", "b:1", "1.2.3:1", "127.0.0.256:1",
+])
 def test_what_is_no_address(text: str) -> None:
     """It is named."""
     with pytest.raises(ValueError, match="not an address"):
