@@ -175,6 +175,12 @@ class Phone:
         its, others = list(self.connections.values()), list(other.connections.values())
         return len(its) == len(others) == 1 and (its[0].local, its[0].remote) == (others[0].remote, others[0].local) and "-" not in its[0]
 
+    def forget(self) -> None:
+        """Forgets all states but the one that it is in: what was heard before doesn't count."""
+        with self.changed:
+            while len(self.states) > 1:
+                self.states.popleft()
+
     # What is told of it
 
     def change(self, at: float, words: list[str]) -> None:
