@@ -7,9 +7,12 @@ import socket
 import threading
 import time
 
-# The number of a worker of xdist: each has hosts of its own.
-WORKER = int(os.environ.get("PYTEST_XDIST_WORKER", "gw0")[2:])
 CONNECTION = "connection A sendrecv 127.0.0.1:20000 to 127.0.0.2:20002 PCMU 20"
+
+
+def host(number: int) -> str:
+    """A loopback address of this process alone, so that several may test side by side."""
+    return f"127.{100 + number}.{os.getpid() // 250 % 250 + 1}.{os.getpid() % 250 + 1}"
 
 
 class StubGateway:

@@ -4,6 +4,7 @@ from __future__ import annotations
 import json
 import os
 import re
+import socket
 import subprocess
 import sys
 import threading
@@ -16,7 +17,7 @@ from typing import Any
 import pytest
 from hypothesis import given, settings
 from hypothesis import strategies as st
-from stubs import WORKER, StubExchange
+from stubs import StubExchange, host
 
 from rgw_bench import load_calls
 from rgw_bench.load_calls import Failed, Lines, Tally
@@ -26,7 +27,7 @@ from rgw_bench.phones import Lost
 from rgw_bench.processors import Share, limit_of, processes_at, seconds_of
 from rgw_bench.routed import config_of
 
-HOST, PORT = f"127.101.{WORKER}.3", 24300
+HOST, PORT = host(3), 24300
 BENCH = Path(__file__).resolve().parent.parent
 LOAD = [sys.executable, "-m", "rgw_bench.commands.load"]
 LOCUST = [sys.executable, "-m", "locust", "-f", str(BENCH / "rgw_bench" / "locustfile.py")]
@@ -372,7 +373,9 @@ def begun(folder: Path, *words: str) -> subprocess.Popen[str]:
 
 
 def test_a_master_and_two_workers_share_the_lines(exchange: StubExchange, config: str, tmp_path: Path) -> None:
-    port = str(24390 + WORKER)
+    with socket.socket() as made:
+        made.bind(("127.0.0.1", 0))
+        port = str(made.getsockname()[1])
     asked = ["--exchange", config, "--hold", "300", "--parts", "2"]
     workers = [begun(tmp_path, *asked, "--worker", "--master-port", port) for _ in (1, 2)]
     words = "--headless --only-summary --expect-workers 2 -u 4 -r 100 -t 4s --success 50 --master --master-bind-port".split()

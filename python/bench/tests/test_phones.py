@@ -12,14 +12,14 @@ from pathlib import Path
 import pytest
 from hypothesis import given, settings
 from hypothesis import strategies as st
-from stubs import WORKER, StubExchange
+from stubs import StubExchange, host
 
 from rgw_bench.phone_wire import Telephones, place_of
 from rgw_bench.phones import Connection, Lost, Phone, Phones, State, Unexpected, side_by_side, meaning_of
 from rgw_bench.phones_fixture import places_of
 
 BENCH = Path(__file__).resolve().parent.parent
-HOST, PORT = f"127.101.{WORKER}.1", 24100
+HOST, PORT = host(1), 24100
 
 
 @pytest.fixture
@@ -172,8 +172,8 @@ def test_words_that_name_telephones() -> None:
 
 def test_a_gateway_that_is_not_there() -> None:
     began = time.monotonic()
-    with pytest.raises(Lost, match="^127.101.0.9:24199: no answer$"):
-        Phones({"gw1": "127.101.0.9:24199"}, within=0.3)
+    with pytest.raises(Lost, match=f"^{HOST}:24199: no answer$"):
+        Phones({"gw1": f"{HOST}:24199"}, within=0.3)
     assert time.monotonic() - began < 2
     with pytest.raises(ValueError, match="one gateway at least"):
         Phones({})

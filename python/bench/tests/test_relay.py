@@ -15,14 +15,14 @@ from pathlib import Path
 import pytest
 from hypothesis import given, settings
 from hypothesis import strategies as st
-from stubs import WORKER
+from stubs import host
 
 from rgw_bench import mgcp
 from rgw_bench.answers import Answers, heads
 from rgw_bench.relay import Fate, Relay, clean, spoilt
 from rgw_bench.times import Times, bucket_of
 
-HOST = f"127.101.{WORKER}.2"
+HOST = host(2)
 FRONT, GATEWAY, HOME, AGENT = ((HOST, port) for port in (24201, 24202, 24203, 24204))
 SECOND_FRONT, SECOND_GATEWAY = (HOST, 24205), (HOST, 24206)
 RELAY = [sys.executable, "-m", "rgw_bench.commands.relay"]
