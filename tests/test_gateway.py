@@ -57,6 +57,17 @@ def test_talk(bench: Bench, tmp_path: Path) -> None:
     assert_plays_again(tmp_path / "trace")
 
 
+@pytest.mark.live
+def test_tone_ends_on_time(bench: Bench) -> None:
+    """Within 30 ms."""
+    program = bench.gateway()
+    assert program.tell("phone 1 off\n") == "done\n" and heard(bench.agent).startswith(b"NTFY 10000000 ")
+    bench.agent.sendto(b"200 10000000 OK\r\n", program.address)
+    began = time.monotonic()
+    assert ask(bench, program, b"RQNT 104 aaln/1@rgw.example.net MGCP 1.0\r\nX: 2\r\nR: L/oc(N)\r\nS: L/dl(to=2000)\r\n")[:8] == b"200 104 "
+    assert b"O: L/oc" in heard(bench.agent) and abs(time.monotonic() - began - 2) < 0.03
+
+
 def test_stop_is_answered_once_all_is_written(bench: Bench, tmp_path: Path) -> None:
     """Nothing is done or written after it."""
     trace, capture = tmp_path / "trace", tmp_path / "stopped.pcap"
