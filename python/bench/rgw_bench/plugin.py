@@ -350,7 +350,7 @@ def judge(item: pytest.Item, rule: Rule, kept: Outcome, report: pytest.TestRepor
     if fault is None:
         kept.result = "pass"
     elif isinstance(fault, (NotSupported, OutOfTime, Dead)):
-        why = f"not supported: {fault}" if isinstance(fault, NotSupported) else f"{UNPLAYED}{fault or OVER}"
+        why = f"not supported: {fault}" if isinstance(fault, NotSupported) else f"{UNPLAYED}{str(fault) or OVER}"
         kept.result = why.partition(":")[0]
         report.outcome, report.longrepr = "skipped", (str(path), line or 0, f"Skipped: {why}")
     elif isinstance(fault, pytest.skip.Exception):
