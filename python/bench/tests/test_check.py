@@ -149,19 +149,23 @@ def test_an_address_that_is_taken(stub: Stub) -> None:
 
 def test_a_slow_gateway_costs_no_more_than_the_limit() -> None:
     """It says 100 for ever; what isn't played by then is not played, and the status isn't 0."""
-    stub = Stub()
+    stub, ended = Stub(), None
     audits = 0
 
     def slowly(message: Message) -> list[bytes]:
         nonlocal audits
         audits += message.verb == "AUEP"
-        return [mgcp.response(100 if audits > 3 and message.verb == "AUEP" else 200, message.id)]
+        while audits > 3 and message.verb == "AUEP" and not ended:
+            stub.say(mgcp.response(100, message.id))
+            time.sleep(0.3)
+        return [] if message.is_response else [mgcp.response(200, message.id)]
 
     stub.answers = slowly
     began = time.monotonic()
     try:
-        ended = check(*at(stub, "--only", "endpoint-case,two-in-one,extension", "--timeout", "6"))
+        ended = check(*at(stub, "--only", "endpoint-case,two-in-one,extension", "--timeout", "8"))
     finally:
+        ended = ended or run("-c", "")
         stub.close()
     assert ended.returncode == 3 and time.monotonic() - began < 60
     assert ended.stdout.splitlines()[-1] == "0 pass, 0 fail, 0 left open, 0 not supported, 3 not played"

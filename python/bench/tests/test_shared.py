@@ -3,6 +3,7 @@
 import multiprocessing
 import time
 from collections.abc import Generator
+from multiprocessing.synchronize import Event
 from pathlib import Path
 
 import pytest
@@ -80,22 +81,25 @@ def test_nobody_else_speaks_for_the_hub(site: Site) -> None:
     assert len(hub.workers) == 2 and not stub.heard
 
 
-def hold(folder: Path, is_alone: bool, seconds: float, began: "multiprocessing.Event") -> None:  # type: ignore[valid-type]
+def hold(folder: Path, is_alone: bool, seconds: float, began: Event, ends: Event) -> None:
     """Has a turn for so long."""
     with Turns(folder).turn(is_alone):
-        began.set()  # type: ignore[attr-defined]
+        began.set()
         time.sleep(seconds)
+        ends.set()
 
 
-@pytest.mark.parametrize("first, second, is_waited_for", [(False, False, False), (True, False, True), (False, True, True), (True, True, True)])
+@pytest.mark.parametrize("first, second, is_waited_for", [
+    (False, False, False), (True, False, True), (False, True, True), (True, True, True),
+])
 def test_turns(first: bool, second: bool, is_waited_for: bool, tmp_path: Path) -> None:
     """Who is alone is waited for, and waits for others."""
-    began = multiprocessing.Event()
-    other = multiprocessing.Process(target=hold, args=(tmp_path, first, 3, began))
+    began, ends = multiprocessing.Event(), multiprocessing.Event()
+    other = multiprocessing.Process(target=hold, args=(tmp_path, first, 3, began, ends))
     other.start()
     assert began.wait(60)
     with Turns(tmp_path).turn(second):
-        assert other.is_alive() is not is_waited_for
+        assert ends.is_set() is is_waited_for
     other.kill()
     other.join()
 

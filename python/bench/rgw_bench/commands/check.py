@@ -222,6 +222,9 @@ def main(words: Sequence[str] | None = None) -> NoReturn:
         only = {it.strip() for it in given.only.split(",")}
         if not only <= set(listed()):
             end(2, "--only: no check has this name; rgw-check --list has them", given.junit)
+    pairs = max(1, len(lines) // 2)
+    if given.n > pairs:
+        print(f"-n {given.n}: {pairs} play, since each has two lines and {len(lines)} are named", file=sys.stderr)
     reporter = Reporter(given.json, only)
     status = play(asked(given, only), reporter)
     if reporter.dead:
