@@ -450,8 +450,8 @@ class Phones:
         self.log.append((at, phone.name, what))
 
     def moment(self, at: float) -> str:
-        """A moment, in s since the test began."""
-        return f"{at - self.begun:.3f} s"
+        """A moment, in s since the test began; or that it was before."""
+        return f"{at - self.begun:.3f} s" if at >= self.begun else "before the test"
 
     def history(self) -> str:
         """What each telephone of the test did (`@`) and heard, in its order, and what each is now."""

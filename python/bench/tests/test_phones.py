@@ -76,6 +76,9 @@ def test_names_of_telephones(phones: Phones) -> None:
 
 def test_a_failure_tells_what_each_telephone_heard(exchange: StubExchange, phones: Phones) -> None:
     a, b = phones["gw1:1"], phones["gw2:1"]
+    phones.begin()
+    with pytest.raises(Unexpected, match="^expected gw1:1 off within 0 s; since before the test it is on, no signal, no connection\nno "):
+        a.expect("off")
     a.off().expect("L/dl", within=1).dial(number(exchange, b), gap=0)
     b.expect("L/rg", within=1)
     with pytest.raises(Unexpected) as caught:
