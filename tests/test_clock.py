@@ -1,11 +1,29 @@
 """The clock of rgwd, and the time of day."""
 import datetime
+import os
 import re
+import subprocess
 import time
+from pathlib import Path
 
-from running import FREE, LONG, Bench, Program, command, ran
+import pytest
+from running import FREE, LONG, Bench, Program, command, ran, until
 
 LOG_LINE = re.compile(r"(?m)^(\d{4}-\d\d-\d\dT\d\d:\d\d:\d\d\.\d{3})Z ")
+# The system's clocks; where the file SET_ON is, the time of day is an hour on.
+CLOCKS = """#define _GNU_SOURCE
+#include <stdlib.h>
+#include <sys/syscall.h>
+#include <time.h>
+#include <unistd.h>
+int clock_gettime(clockid_t id, struct timespec *now) {
+    int failed = (int)syscall(SYS_clock_gettime, id, now);
+    if (id == CLOCK_REALTIME && access(getenv("SET_ON"), F_OK) == 0) now->tv_sec += 3600;
+    return failed;
+}
+"""
+# What stands in a log before the line of a command that came.
+NOTED = r"Z ! the time of day was set on by 3(599|600)\d{3} ms\n\S+ 127\.0\.0\.1:\d+ > "
 
 
 def utc() -> datetime.datetime:
@@ -77,3 +95,28 @@ def test_no_processor_is_used_where_nothing_comes(bench: Bench) -> None:
     before = program.spent()
     time.sleep(1)
     assert program.spent() - before < 0.3
+
+
+@pytest.fixture
+def clocks(tmp_path: Path) -> dict[str, str]:
+    """An environment in which a program's time of day is an hour on as soon as the file SET_ON is there."""
+    (tmp_path / "clocks.c").write_text(CLOCKS)
+    subprocess.run(["cc", "-shared", "-fPIC", "-o", "clocks.so", "clocks.c"], cwd=tmp_path, check=True)
+    return {**os.environ, "LD_PRELOAD": f"{tmp_path}/clocks.so", "SET_ON": f"{tmp_path}/on"}
+
+
+def test_log_notes_that_the_time_of_day_was_set(bench: Bench, clocks: dict[str, str]) -> None:
+    program = bench.gateway("--log", env=clocks)
+    assert until(lambda: "> 200 1 OK" in program.logged())
+    Path(clocks["SET_ON"]).touch()
+    assert bench.audit(program) and re.search(NOTED + "AUEP 7 ", program.stop()[1])
+
+
+def test_log_of_an_agent_notes_that_the_time_of_day_was_set(bench: Bench, clocks: dict[str, str]) -> None:
+    config = bench.agent_config(bench.agent.getsockname()[1])
+    program = bench.start([*command("rgca"), config, "--listen", "127.0.0.1:0", "--control", "127.0.0.1:0", "--log"], env=clocks)
+    for number in (1, 2):
+        bench.agent.sendto(f"NTFY {number} aaln/1@gw1.example.net MGCP 1.0\r\nX: 1\r\nO: D/1\r\n".encode(), program.address)
+        assert until(lambda: f"> NTFY {number} " in program.logged())
+        Path(clocks["SET_ON"]).touch()
+    assert re.search(NOTED + "NTFY 2 ", program.stop()[1])
