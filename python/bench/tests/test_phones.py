@@ -48,7 +48,7 @@ def test_a_call_from_rest_to_rest(exchange: StubExchange, phones: Phones) -> Non
     a.on()
     b.expect("L/ro", within=2).on()
     for phone in (a, b):
-        phone.expect("silent", within=2).expect("on")
+        phone.expect("silent", within=2).expect("on", within=2)
     assert a.state.is_at_rest and b.met_at >= a.met_at - 1
 
 
@@ -116,6 +116,7 @@ def test_what_was_so_for_a_moment_only_counts(exchange: StubExchange, phones: Ph
     thread.start()
     a.expect("L/rg", within=1)
     thread.join()
+    a.expect("silent", within=1)
     with pytest.raises(Unexpected):
         a.expect("L/rg", within=0.1)
 
