@@ -92,6 +92,7 @@ def pytest_load_initial_conftests(parser: pytest.Parser, args: list[str]) -> Non
     group.addoption("--hook", type=_address, metavar="ADDRESS", help="a program that works its telephones, and starts it anew")
     group.addoption("--slow", action="store_true", help="checks that wait for half a minute, too")
     group.addoption("--gateway-timeout", type=float, metavar="SECONDS", help="the time for the whole run")
+    group.addoption("--gateway-only", metavar="NAME,..", help="these checks alone")
 
 
 def pytest_configure(config: pytest.Config) -> None:
@@ -253,8 +254,11 @@ def is_last(item: pytest.Item) -> bool:
     return found is not None and bool(found.kwargs.get("is_last"))
 
 
-def pytest_collection_modifyitems(items: list[pytest.Item]) -> None:
-    """Checks that judge what came during all others go last."""
+def pytest_collection_modifyitems(config: pytest.Config, items: list[pytest.Item]) -> None:
+    """Leaves the checks that are asked for by their names; those that judge what came during all others go last."""
+    names = getattr(config.option, "gateway_only", None)
+    if names:
+        items[:] = [it for it in items if (rule := rule_of(it)) and rule.name in names.split(",")]
     items.sort(key=is_last)
 
 

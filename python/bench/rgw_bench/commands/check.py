@@ -117,15 +117,10 @@ def end(status: int, why: str = "", junit: str | None = None) -> NoReturn:
 class Reporter:
     """Prints what came of each check, for people or as JSON, and counts."""
 
-    def __init__(self, is_json: bool, only: set[str] | None = None) -> None:
-        self.is_json, self.only = is_json, only
+    def __init__(self, is_json: bool) -> None:
+        self.is_json = is_json
         self.counts = dict.fromkeys(COUNTS, 0)
         self.dead = ""
-
-    def pytest_collection_modifyitems(self, items: list[pytest.Item]) -> None:
-        """Leaves the checks that are asked for."""
-        if self.only is not None:
-            items[:] = [it for it in items if (rule := rule_of(it)) and rule.name in self.only]
 
     def pytest_runtest_logreport(self, report: pytest.TestReport) -> None:
         """Prints a check's report."""
@@ -181,7 +176,7 @@ def listed() -> dict[str, str]:
     return lister.rows
 
 
-def asked(given: argparse.Namespace, only: set[str] | None) -> list[str]:
+def asked(given: argparse.Namespace, only: set[str]) -> list[str]:
     """The words of pytest that ask for this."""
     words = ["--gateway", wire.written(given.address), "--domain", given.domain, "--line", given.line]
     for other in given.more_lines:
@@ -189,7 +184,8 @@ def asked(given: argparse.Namespace, only: set[str] | None) -> list[str]:
     for word in ("own", "phones", "hook"):
         if getattr(given, word):
             words += [f"--{word}", wire.written(getattr(given, word))]
-    words += ["--slow"] if given.slow or only is not None else []
+    words += ["--slow"] if given.slow or only else []
+    words += ["--gateway-only", ",".join(only)] if only else []
     words += ["--gateway-timeout", str(given.timeout)] if given.timeout else []
     words += ["-p", "xdist.plugin", "-n", str(given.n)] if given.n > 1 else []
     return words + ([f"--junitxml={given.junit}", "-o", "junit_suite_name=rgw-check"] if given.junit else [])
@@ -217,15 +213,13 @@ def main(words: Sequence[str] | None = None) -> NoReturn:
     lines = [it.lower() for it in (given.line, *given.more_lines)]
     if len(set(lines)) != len(lines):
         read.error("--more-lines: the same line as --line, or twice the same")
-    only = None
-    if given.only is not None:
-        only = {it.strip() for it in given.only.split(",")}
-        if not only <= set(listed()):
-            end(2, "--only: no check has this name; rgw-check --list has them", given.junit)
+    only = set() if given.only is None else {it.strip() for it in given.only.split(",")}
+    if only and not only <= set(listed()):
+        end(2, "--only: no check has this name; rgw-check --list has them", given.junit)
     pairs = max(1, len(lines) // 2)
     if given.n > pairs:
         print(f"-n {given.n}: {pairs} play, since each has two lines and {len(lines)} are named", file=sys.stderr)
-    reporter = Reporter(given.json, only)
+    reporter = Reporter(given.json)
     status = play(asked(given, only), reporter)
     if reporter.dead:
         if given.json:
