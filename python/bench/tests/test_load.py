@@ -173,7 +173,7 @@ def called(config: str, many: int = 1, late: float = 0.0, **more: Any) -> tuple[
     lines = Lines(read_exchange(config), load, told)
     for number in range(1, many + 1):
         lines.attempt(late, in_thread)
-        end = time.monotonic() + 10
+        end = time.monotonic() + 30
         while (lines.under_way or len(told.named("call")) < number) and time.monotonic() < end:
             time.sleep(0.01)
     lines.settle()
@@ -323,7 +323,7 @@ def test_the_configuration_of_an_exchange_behind_a_relay(config: str, tmp_path: 
 
 
 def ran(*words: str, **more: Any) -> subprocess.CompletedProcess[str]:
-    return subprocess.run([*LOAD, *words], capture_output=True, text=True, cwd=BENCH, timeout=60, **more)
+    return subprocess.run([*LOAD, *words], capture_output=True, text=True, cwd=BENCH, timeout=120, **more)
 
 
 def test_the_program_makes_a_load(exchange: StubExchange, config: str, tmp_path: Path) -> None:
@@ -380,7 +380,7 @@ def test_a_master_and_two_workers_share_the_lines(exchange: StubExchange, config
     workers = [begun(tmp_path, *asked, "--worker", "--master-port", port) for _ in (1, 2)]
     words = "--headless --only-summary --expect-workers 2 -u 4 -r 100 -t 4s --success 50 --master --master-bind-port".split()
     programs = [begun(tmp_path, *asked, *words, port), *workers]
-    said = [it.communicate(timeout=60)[0] for it in programs]
+    said = [it.communicate(timeout=120)[0] for it in programs]
     assert [it.returncode for it in programs] == [0, 0, 0], said
     rows = re.findall(r"(?m)^call +(\S.*?) +(\d+) +(\d+)\(", said[0])
     requests = {name: int(count) for name, count, _ in rows}

@@ -295,7 +295,7 @@ def test_the_program_relays_and_reports(agent: socket.socket, echo: Echo, tmp_pa
     time.sleep(1.1)
     assert json.loads(report.read_text())["verbs"]["AUEP"]["count"] == 1
     program.send_signal(signal.SIGTERM)
-    out, said = program.communicate(timeout=5)
+    out, said = program.communicate(timeout=60)
     told = json.loads(out)
     assert program.returncode == 0 and told["out"]["late"] == 1 and told["verbs"]["AUEP"]["codes"] == {"200": 1}
     assert json.loads(report.read_text())["verbs"] == told["verbs"]
@@ -315,6 +315,6 @@ def test_the_program_relays_and_reports(agent: socket.socket, echo: Echo, tmp_pa
 ], ids=("none", "bad-address", "no-gateway", "bad-fate", "front-twice", "taken-address", "bad-file", "stop-after", "help"))
 def test_the_programs_words(words: str, status: int, said: str) -> None:
     program = begun(*words.split())
-    out, err = program.communicate(timeout=10)
+    out, err = program.communicate(timeout=60)
     assert (program.returncode, said in err) == (status, True), (out, err)
     assert out.startswith("usage: rgw-relay FRONT=GATEWAY") if words == "--help" else bool(out) == (status == 0)
