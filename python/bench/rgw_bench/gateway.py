@@ -217,7 +217,7 @@ class Gateway:
         """Takes a datagram."""
         if came.source[0] != self.places.gateway[0]:
             return
-        if came.is_answered:
+        if came.answered:
             return self._announced(came)
         is_elsewhere = came.source != self.places.gateway
         mark = "<" if came.port == "here" else "<<"
@@ -251,7 +251,7 @@ class Gateway:
     def _keep_announcement(self, came: Arrival, message: Message) -> None:
         if message.verb == "RSIP":
             self._keep(self.announcements, Came(came.port, came.moment, message, came.source))
-            self.announcements_answered.setdefault(message.id, came.moment if came.is_answered else time.monotonic())
+            self.announcements_answered.setdefault(message.id, came.answered or time.monotonic())
 
     def _keep(self, kept: list[Came], came: Came) -> None:
         if len(kept) < MOST_KEPT:

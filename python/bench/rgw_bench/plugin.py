@@ -226,7 +226,7 @@ def pytest_collection(session: pytest.Session) -> None:
         tell_dead(config, why)
         pytest.exit(why, returncode=3)
     if several:
-        several.begin(bench.gateway.announcements)
+        several.begin(bench.gateway.announcements, bench.gateway.announcements_answered)
     else:
         config.stash[BENCH] = bench
 

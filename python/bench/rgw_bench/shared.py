@@ -21,8 +21,9 @@ from .gateway import EARLIER_IDS, MOST_KEPT, OWN_IDS, Dead, OutOfTime
 from .mgcp import Message
 from .wire import Address, Arrival, Wire
 
-# What stands before a datagram between hub and worker: a token, what it is, who it is from or to, and when it came.
-_HEAD = struct.Struct("!16sB4sHd")
+# What stands before a datagram between hub and worker: a token, what it is, who it is from or to, when it came, and when the hub
+# answered it.
+_HEAD = struct.Struct("!16sB4sHdd")
 # A datagram; what a worker's check waits for, and that the hub knows; one of the gateway's that the hub has answered.
 _PASSED, _CLAIMED, _ANSWERED = range(3)
 # What a worker's check waits for: the number before its ids, whether it hears what is notified, and what is announced.
@@ -92,7 +93,7 @@ class Hub(threading.Thread):
     def _from_worker(self, came: Arrival) -> None:
         if len(came.data) < _HEAD.size or came.source[0] != "127.0.0.1":
             return
-        token, kind, host, port, _ = _HEAD.unpack(came.data[: _HEAD.size])
+        token, kind, host, port, *_ = _HEAD.unpack(came.data[: _HEAD.size])
         data = came.data[_HEAD.size :]
         if not secrets.compare_digest(token, self.token):
             return
@@ -105,7 +106,7 @@ class Hub(threading.Thread):
             self.link.send("link", came.data, came.source)
 
     def _pass(self, came: Arrival, to: Address, kind: int) -> None:
-        self.link.send("link", _HEAD.pack(self.token, kind, *_packed(came.source), came.moment) + came.data, to)
+        self.link.send("link", _HEAD.pack(self.token, kind, *_packed(came.source), came.moment, came.answered) + came.data, to)
 
     def _from_gateway(self, came: Arrival) -> None:
         if came.source[0] != self.gateway[0]:
@@ -121,6 +122,7 @@ class Hub(threading.Thread):
                 takers.update(self._takers(message))
         if answers:
             self.wire.send("here", mgcp.joined(answers), came.source)
+        came = came._replace(answered=time.monotonic())
         if has_announcement and len(self.announced) < MOST_KEPT:
             self.announced.append(came)
         for place in list(self.workers) if has_announcement else takers:
@@ -166,7 +168,7 @@ class SharedWire:
         return self.wire.send("link", self._head(_PASSED, to) + data, self.hub)
 
     def _head(self, kind: int, to: Address) -> bytes:
-        return _HEAD.pack(self.token, kind, *_packed(to), 0.0)
+        return _HEAD.pack(self.token, kind, *_packed(to), 0.0, 0.0)
 
     def claim(self, base: int, hears: bool, announces: bool) -> None:
         """Tells what the check waits for that begins, and waits until the hub knows. Raises Dead where there is none."""
@@ -190,11 +192,11 @@ class SharedWire:
             return [came]
         if came.source != self.hub or len(came.data) < _HEAD.size:
             return []
-        _, kind, host, port, moment = _HEAD.unpack(came.data[: _HEAD.size])
+        _, kind, host, port, moment, answered = _HEAD.unpack(came.data[: _HEAD.size])
         if kind == _CLAIMED:
             self._is_claimed = True
             return []
-        return [Arrival("here", came.data[_HEAD.size :], _unpacked(host, port), moment, kind == _ANSWERED)]
+        return [Arrival("here", came.data[_HEAD.size :], _unpacked(host, port), moment, answered if kind == _ANSWERED else 0.0)]
 
     def close(self) -> None:
         """Closes the sockets."""

@@ -32,13 +32,13 @@ _STAMP = struct.Struct("qq")
 class Arrival(NamedTuple):
     """A datagram: the name of the socket to which it came, its bytes, who sent it, and when it came, in seconds of `time.monotonic`.
 
-    `is_answered`: its commands have been answered already, by another process."""
+    `answered`: when another process has answered its commands; 0.0 where none has."""
 
     port: str
     data: bytes
     source: Address
     moment: float
-    is_answered: bool = False
+    answered: float = 0.0
 
 
 def address(text: str) -> Address:

@@ -59,10 +59,10 @@ class Workers:
         lines = len(self.settings.lines)
         return f"{self.count} of {self.asked} workers: each has two lines, and {lines} are named" if self.count < self.asked else ""
 
-    def begin(self, announced: list[Came]) -> None:
-        """The gateway can be checked, which announced this so far: workers may begin."""
+    def begin(self, announced: list[Came], answered: dict[int, float]) -> None:
+        """The gateway can be checked, which announced this so far, answered at these moments by their ids: workers may begin."""
         if self.hub:
-            self.hub.announced += [Arrival("here", it.message.raw, it.source, it.moment, True) for it in announced]
+            self.hub.announced += [Arrival("here", it.message.raw, it.source, it.moment, answered[it.message.id]) for it in announced]
             self.hub.start()
 
     def check(self) -> None:
