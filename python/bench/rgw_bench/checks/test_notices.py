@@ -18,7 +18,7 @@ def notified(gw: Dialogue) -> mgcp.Message:
 
 
 @rfc("2.3.4", "3.2.1.2", needs=("own",))
-def test_notification(gw: Dialogue) -> None:
+def test_notification_form(gw: Dialogue) -> None:
     """A notification has a transaction id from 1 to 999999999, the request's identifier and the events, each once"""
     told = notified(gw)
     gw.respond(told)

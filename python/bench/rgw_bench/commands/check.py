@@ -17,7 +17,7 @@ from xml.sax.saxutils import quoteattr
 import pytest
 
 from .. import __version__, bench, wire
-from ..plugin import CHECKS, rule_of
+from ..plugin import CHECKS, Rule, rule_of
 
 # What is counted, by the word of a verdict; and the names of the counts in JSON.
 COUNTS = {"pass": "passed", "FAIL": "failed", "left open": "left_open", "not supported": "not_supported", "not played": "not_played"}
@@ -148,12 +148,11 @@ class Lister:
     """Keeps the checks that there are."""
 
     def __init__(self) -> None:
-        self.rows: dict[str, str] = {}
+        self.rules: list[Rule] = []
 
     def pytest_collection_finish(self, session: pytest.Session) -> None:
         """Keeps them."""
-        rules = [rule for it in session.items if (rule := rule_of(it))]
-        self.rows = {it.name: f"{it.name} ({', '.join(it.sections)}): {it.text}" for it in rules}
+        self.rules = [rule for it in session.items if (rule := rule_of(it))]
 
 
 def say(text: str) -> None:
@@ -169,11 +168,11 @@ def play(words: Sequence[str], plugin: object) -> int:
     return int(pytest.main([*fixed, f"--rootdir={CHECKS}", str(CHECKS), *words], plugins=[plugin]))
 
 
-def listed() -> dict[str, str]:
-    """All checks, a line each, by their names."""
+def listed() -> list[Rule]:
+    """All checks."""
     lister = Lister()
     play(["--collect-only", "-q"], lister)
-    return lister.rows
+    return lister.rules
 
 
 def asked(given: argparse.Namespace, only: set[str]) -> list[str]:
@@ -205,7 +204,7 @@ def main(words: Sequence[str] | None = None) -> NoReturn:
     """The program."""
     words = sys.argv[1:] if words is None else words
     if list(words) == ["--list"]:
-        print("\n".join(listed().values()))
+        print("\n".join(f"{it.name} ({', '.join(it.sections)}): {it.text}" for it in listed()))
         end(0)
     read = parser()
     read.junit = junit_in(words)
@@ -214,7 +213,7 @@ def main(words: Sequence[str] | None = None) -> NoReturn:
     if len(set(lines)) != len(lines):
         read.error("--more-lines: the same line as --line, or twice the same")
     only = set() if given.only is None else {it.strip() for it in given.only.split(",")}
-    if only and not only <= set(listed()):
+    if only and not only <= {it.name for it in listed()}:
         end(2, "--only: no check has this name; rgw-check --list has them", given.junit)
     pairs = max(1, len(lines) // 2)
     if given.n > pairs:
