@@ -147,6 +147,7 @@ def test_an_address_that_is_taken(stub: Stub) -> None:
     assert ended.returncode == 3 and "no socket: Address already in use" in ended.stderr
 
 
+@pytest.mark.live
 def test_a_slow_gateway_costs_no_more_than_the_limit() -> None:
     """It says 100 for ever; what isn't played by then is not played, and the status isn't 0."""
     stub, ended = Stub(), None
@@ -171,6 +172,7 @@ def test_a_slow_gateway_costs_no_more_than_the_limit() -> None:
     assert ended.stdout.splitlines()[-1] == "0 pass, 0 fail, 0 left open, 0 not supported, 3 not played"
 
 
+@pytest.mark.live
 def test_two_workers_play_side_by_side(stub: Stub) -> None:
     """Each at lines of its own, from the agent's one address, and every check once."""
     pytest.importorskip("xdist")

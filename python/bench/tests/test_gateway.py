@@ -85,6 +85,7 @@ def test_another_port_is_told(made: Made) -> None:
 def test_a_late_answer_is_told(made: Made, monkeypatch: pytest.MonkeyPatch) -> None:
     """By what was sent when, and came when."""
     monkeypatch.setattr(gateways, "ANSWER", 0.2)
+    monkeypatch.setattr(gateways, "LATE", 30)
 
     def late(message: Message) -> list[bytes]:
         time.sleep(0.6)
@@ -92,15 +93,15 @@ def test_a_late_answer_is_told(made: Made, monkeypatch: pytest.MonkeyPatch) -> N
 
     _, gateway = made(late)
     due, came = failed(gateway, "> AUEP {1} {line} MGCP 1.0\n< 200 {1}\n")
-    assert due == "! due: < 200 1001" and came.startswith("! came: 200 1001 OK 0.") and came.endswith(" s later")
+    assert due == "! due: < 200 1001" and came.startswith("! came: 200 1001 OK ") and came.endswith(" s later")
 
 
 def test_a_late_reader_fails_nobody(made: Made, monkeypatch: pytest.MonkeyPatch) -> None:
     """An answer that came in time counts, however late it is read."""
-    monkeypatch.setattr(gateways, "ANSWER", 0.5)
+    monkeypatch.setattr(gateways, "ANSWER", 1.5)
     _, gateway = made()
     gateway.send(mgcp.command("AUEP", 1001, gateway.line))
-    time.sleep(1)
+    time.sleep(2)
     assert gateway.answer(200, 1001).code == 200
 
 
@@ -122,12 +123,12 @@ def test_what_is_optional_may_be_refused(made: Made) -> None:
 
 def test_a_provisional_response_prolongs(made: Made, monkeypatch: pytest.MonkeyPatch) -> None:
     """The final one is due so long after it."""
-    monkeypatch.setattr(gateways, "ANSWER", 0.4)
+    monkeypatch.setattr(gateways, "ANSWER", 1.5)
     stub, gateway = made(answering())
 
     def slowly(message: Message) -> list[bytes]:
         for _ in range(3):
-            time.sleep(0.25)
+            time.sleep(0.6)
             stub.say(mgcp.response(100, message.id))
         return [mgcp.response(200, message.id)]
 
@@ -152,8 +153,8 @@ def test_a_notification_is_for_the_check(made: Made) -> None:
     stub.say(b"NTFY 7 aaln/1@gw MGCP 1.0\r\nX: 5\r\nO: L/hu\r\n")
     stub.say(b"NTFY 8 aaln/1@gw MGCP 1.0\r\nX: 1001\r\nO: L/hd\r\n")
     play(gateway, "notified told {line} {1} L/hd|hd\n> 200 {told} OK\nquiet 50\n")
-    responses = [it.id for it in stub.heard if it.is_response]
-    assert responses == [7, 8]
+    gateway.pump(time.monotonic() + 10, lambda: len([it for it in stub.heard if it.is_response]) == 2)
+    assert [it.id for it in stub.heard if it.is_response] == [7, 8]
 
 
 def test_a_notification_that_says_otherwise_is_told(made: Made) -> None:
@@ -211,5 +212,5 @@ def test_what_is_left_is_answered(made: Made) -> None:
     stub.say(b"NTFY 9 aaln/1@gw MGCP 1.0\r\nX: 1001\r\nO: L/hd\r\n")
     play(gateway, "notified told * * *\n> 200 {told} OK\n")
     gateway.settle()
-    time.sleep(0.3)
+    gateway.pump(time.monotonic() + 10, lambda: len([it for it in stub.heard if it.is_response]) == 2)
     assert sorted(it.id for it in stub.heard if it.is_response) == [8, 9]

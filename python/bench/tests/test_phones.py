@@ -114,9 +114,9 @@ def test_what_was_so_for_a_moment_only_counts(exchange: StubExchange, phones: Ph
 
     thread = threading.Thread(target=briefly)
     thread.start()
-    a.expect("L/rg", within=1)
+    a.expect("L/rg", within=30)
     thread.join()
-    a.expect("silent", within=1)
+    a.expect("silent", within=30)
     with pytest.raises(Unexpected):
         a.expect("L/rg", within=0.1)
 

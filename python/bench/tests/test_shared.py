@@ -51,7 +51,7 @@ def test_each_hears_its_own_notifications(site: Site) -> None:
     stub.say(b"NTFY 7 aaln/3@gw MGCP 1.0\r\nX: 1011\r\nO: L/hd\r\n", own)
     stub.say(b"NTFY 8 aaln/1@gw MGCP 1.0\r\nX: 5\r\nO: L/hd\r\n", own)
     assert two.notified("aaln/3@gw", "1011", "L/hd").id == 7
-    one.pump(time.monotonic() + 0.3)
+    one.pump(time.monotonic() + 10, lambda: [it for it in stub.heard if it.is_response])
     assert not one.unasked
     assert [it.id for it in stub.heard if it.is_response] == [8]
 
@@ -62,7 +62,7 @@ def test_an_announcement_is_answered_and_told_to_all(site: Site) -> None:
     own = hub.wire.address("here")
     stub.say(b"RSIP 7 *@gw MGCP 1.0\r\nRM: restart\r\n", own)
     for gateway in (one, two):
-        gateway.pump(time.monotonic() + 0.3)
+        gateway.pump(time.monotonic() + 10, lambda: gateway.announcements and [it for it in stub.heard if it.is_response])
         assert [it.message.id for it in gateway.announcements] == [7]
     two.begin(1030, hears=True, announces=True)
     stub.say(b"RSIP 9 *@gw MGCP 1.0\r\nRM: restart\r\n", own)
