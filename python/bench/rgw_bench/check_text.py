@@ -142,9 +142,10 @@ class Check:
 
     @property
     def is_alone(self) -> bool:
-        """Whether nothing else may be played at the gateway meanwhile: it is started anew, the check speaks of all lines or any, or it
-        wants no answer at all, whose id might be anyone's."""
-        return self._has("restart", "silence") or any(re.search(r"[*$]@", it.rest) for it in self.steps if it.word.startswith(">"))
+        """Whether nothing else may be played at the gateway meanwhile: it is started anew, it announces what might be anyone's, the
+        check speaks of all lines or any, or it wants no answer at all, whose id might be anyone's."""
+        is_of_all = any(re.search(r"[*$]@", it.rest) for it in self.steps if it.word.startswith(">"))
+        return is_of_all or self._has("restart", "silence", "announced", "announced-there")
 
     @property
     def needs(self) -> tuple[str, ...]:

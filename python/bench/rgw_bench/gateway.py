@@ -237,7 +237,7 @@ class Gateway:
             self._keep(self.answers, Came(came.port, came.moment, message, came.source))
         elif not message.is_response and self._is_for_check(message):
             self._keep(self.unasked, Came(came.port, came.moment, message, came.source))
-        elif not message.is_response:
+        elif not message.is_response and not came.is_shared:
             self._keep_announcement(came, message)
             return mgcp.response(200, message.id)
         return b""

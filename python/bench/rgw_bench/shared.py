@@ -196,7 +196,7 @@ class SharedWire:
         if kind == _CLAIMED:
             self._is_claimed = True
             return []
-        return [Arrival("here", came.data[_HEAD.size :], _unpacked(host, port), moment, answered if kind == _ANSWERED else 0.0)]
+        return [Arrival("here", came.data[_HEAD.size :], _unpacked(host, port), moment, answered if kind == _ANSWERED else 0.0, True)]
 
     def close(self) -> None:
         """Closes the sockets."""

@@ -32,13 +32,15 @@ _STAMP = struct.Struct("qq")
 class Arrival(NamedTuple):
     """A datagram: the name of the socket to which it came, its bytes, who sent it, and when it came, in seconds of `time.monotonic`.
 
-    `answered`: when another process has answered its commands; 0.0 where none has."""
+    `answered`: when another process has answered its commands; 0.0 where none has. `is_shared`: another process answers what of its
+    commands nobody waits for."""
 
     port: str
     data: bytes
     source: Address
     moment: float
     answered: float = 0.0
+    is_shared: bool = False
 
 
 def address(text: str) -> Address:

@@ -56,6 +56,18 @@ def test_each_hears_its_own_notifications(site: Site) -> None:
     assert [it.id for it in stub.heard if it.is_response] == [8]
 
 
+def test_two_in_one_datagram_are_two_workers(site: Site) -> None:
+    """Notifications of two lines that come in one datagram: neither worker answers that of the other"""
+    stub, hub, (one, two) = site
+    own = hub.wire.address("here")
+    notices = [f"NTFY {id} aaln/{line}@gw MGCP 1.0\r\nX: {x}\r\nO: L/hd\r\n" for id, line, x in ((7, 1, 1001), (8, 3, 1011))]
+    stub.say(".\r\n".join(notices).encode(), own)
+    assert one.notified("aaln/1@gw", "1001", "L/hd").id == 7
+    assert two.notified("aaln/3@gw", "1011", "L/hd").id == 8
+    one.pump(time.monotonic() + 0.3)
+    assert not [it for it in stub.heard if it.is_response]
+
+
 def test_an_announcement_is_answered_and_told_to_all(site: Site) -> None:
     """Also while no check is played; but not in the place of a check that wants it."""
     stub, hub, (one, two) = site
