@@ -74,7 +74,7 @@ def test_an_announcement_is_answered_and_told_to_all(site: Site) -> None:
     own = hub.wire.address("here")
     stub.say(b"RSIP 7 *@gw MGCP 1.0\r\nRM: restart\r\n", own)
     for gateway in (one, two):
-        gateway.pump(time.monotonic() + 10, lambda: gateway.announcements and [it for it in stub.heard if it.is_response])
+        gateway.pump(time.monotonic() + 10, lambda: gateway.announcements and any(heard.is_response for heard in stub.heard))
         assert [it.message.id for it in gateway.announcements] == [7]
     two.begin(1030, hears=True, announces=True)
     stub.say(b"RSIP 9 *@gw MGCP 1.0\r\nRM: restart\r\n", own)
