@@ -13,7 +13,6 @@ from __future__ import annotations
 
 import contextlib
 import math
-import re
 import socket
 import threading
 import time
@@ -29,7 +28,8 @@ __all__ = ["Connection", "Lost", "Phone", "Phones", "State", "Unexpected", "side
 
 MODES = frozenset("sendonly recvonly sendrecv confrnce inactive loopback conttest netwloop netwtest".split())
 KEYS = frozenset("0123456789ABCD*#")
-SIGNAL = re.compile(r"[A-Za-z][A-Za-z0-9-]*/[A-Za-z0-9]+")
+# The signals of rgwd's lines, by package and name.
+SIGNALS = frozenset({"L/dl", "L/bz", "L/ro", "L/rg", "L/rs", "L/vmwi", "G/rt", "G/cg", "G/cf"})
 # So many states of a telephone, and changes of all, are kept; a failure tells so many of these.
 KEPT_STATES, KEPT_CHANGES, TOLD = 256, 4000, 60
 # Gateways are asked to go on telling so many times a second, together; one each second at most.
@@ -115,9 +115,9 @@ def meaning_of_word(word: str) -> Test:
         return lambda state: state.is_silent
     if word in MODES:
         return lambda state: word in state.modes
-    if SIGNAL.fullmatch(word):
+    if word in SIGNALS:
         return lambda state: word in state.signals
-    raise ValueError(f"{word!r}: wanted a signal as L/dl, a mode as sendrecv, silent, on or off")
+    raise ValueError(f"{word!r}: wanted a signal of {', '.join(sorted(SIGNALS))}, a mode as sendrecv, silent, on or off")
 
 
 def meaning_of(what: str) -> Test:

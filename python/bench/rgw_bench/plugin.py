@@ -273,8 +273,6 @@ def bench_of(config: pytest.Config) -> Bench:
 
 def ready(item: pytest.Item, rule: Rule) -> Bench:
     """The bench, where what this check needs is there; else it is skipped."""
-    if not item.config.option.gateway:
-        pytest.skip(f"{UNPLAYED}no --gateway")
     bench = bench_of(item.config)
     lacking = [NEEDS[it] for it in rule.needs if not bench.settings.has(it)]
     if lacking:

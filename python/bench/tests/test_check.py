@@ -196,6 +196,9 @@ def test_pytest_plays_checks_by_name_and_section(stub: Stub, tmp_path: Path) -> 
     assert "FAILED answers.check::unknown-endpoint - due: < 500" in ended.stdout and "PASSED answers.check::endpoint-case" in ended.stdout
     ended = run(*words, "-m", "3.2.1.4 and profile", "--collect-only", "-q")
     assert ended.stdout.splitlines()[0] == "answers.check::profile-name"
+    # (a job that forgets the gateway isn't green)
+    ended = run(*words[:-len(["--gateway", *at(stub)])], "-k", "unknown-endpoint", "-q")
+    assert ended.returncode == 1 and "no --gateway" in ended.stdout
 
 
 def test_a_check_in_python(stub: Stub, tmp_path: Path) -> None:
@@ -219,3 +222,10 @@ def test_a_fault_in_a_file_of_checks_is_told(stub: Stub, tmp_path: Path) -> None
     (tmp_path / "mine.check").write_text("= a | 1 | b\nhello\n")
     ended = run("-m", "pytest", "-p", "rgw_bench.plugin", "-p", "no:cacheprovider", str(tmp_path), "--gateway", *at(stub), "-q")
     assert ended.returncode == 2 and "mine.check: line 2: no step: hello" in ended.stdout
+
+
+def test_a_file_that_cannot_be_written_is_told_before_anything_is_played(tmp_path: Path) -> None:
+    (tmp_path / "file").touch()
+    ended = check("127.0.0.1:1", "--domain", "d", "--line", "aaln/1", "--junit", str(tmp_path / "file" / "x.xml"))
+    assert ended.returncode == 3
+    assert ended.stderr.endswith("x.xml: write fault: Not a directory\n") and ended.stdout == ""

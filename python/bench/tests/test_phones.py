@@ -141,7 +141,7 @@ def test_one_of_several(exchange: StubExchange, phones: Phones) -> None:
 
 @pytest.mark.parametrize("what", ["", "L", "dialtone", "L/dl ; L/rg", "ON", "L/", "sendRecv", "L/dl|"])
 def test_what_can_not_be_expected_is_refused(phones: Phones, what: str) -> None:
-    with pytest.raises(ValueError, match="wanted a signal as L/dl, a mode as sendrecv, silent, on or off"):
+    with pytest.raises(ValueError, match="wanted a signal of .*L/dl.*, a mode as sendrecv, silent, on or off"):
         phones["1"].expect(what)
     with pytest.raises(ValueError):
         phones["1"].expect_none(what or "x", during=0)
@@ -327,3 +327,8 @@ def test_the_fixture_leaves_no_handset_lifted(exchange: StubExchange, tmp_path: 
     asked = [sys.executable, "-m", "pytest", "-q", "-p", "no:cacheprovider", "-p", "rgw_bench.plugin", str(tmp_path), *words[:2]]
     ran = subprocess.run(asked, capture_output=True, text=True, timeout=60, env={**os.environ, "PYTHONPATH": str(BENCH)}, cwd=tmp_path)
     assert f"--phones: {HOST}:24190: no answer" in ran.stdout and "1 passed, 2 errors" in ran.stdout, ran.stdout
+
+
+def test_a_signal_that_there_is_not_is_refused(phones: Phones) -> None:
+    with pytest.raises(ValueError, match="L/dal.*wanted a signal of G/cf, .*L/dl"):
+        phones["gw1:1"].expect_none("L/dal", during=0)

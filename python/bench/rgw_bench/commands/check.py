@@ -84,7 +84,7 @@ def parser() -> Words:
     worked.add_argument("--phones", type=address, metavar="ADDRESS", help="of the telephones of an rgwd")
     worked.add_argument("--hook", type=address, metavar="ADDRESS",
                         help="of a program that works them: it is sent `act 1 off` or `restart`, and answers `done`")
-    made.add_argument("--slow", action="store_true", help="checks that wait for half a minute too")
+    made.add_argument("--slow", action="store_true", help="checks that wait for 10 s or longer too")
     made.add_argument("--only", metavar="NAME,..", help="these checks alone, slow ones too")
     made.add_argument("--timeout", type=seconds, metavar="SECONDS", help="the time for the whole run; what comes later isn't played")
     made.add_argument("-n", type=int, default=0, metavar="WORKERS", help="so many play side by side, by pytest-xdist, two lines each")
@@ -200,6 +200,15 @@ def junit_in(words: Sequence[str]) -> str | None:
     return None
 
 
+def try_to_write(file: str) -> None:
+    """Ends the program where a file can't be written, before anything is played."""
+    try:
+        with open(file, "a", encoding="utf-8"):
+            pass
+    except OSError as fault:
+        end(3, f"{file}: write fault: {fault.strerror}")
+
+
 def main(words: Sequence[str] | None = None) -> NoReturn:
     """The program."""
     words = sys.argv[1:] if words is None else words
@@ -218,6 +227,8 @@ def main(words: Sequence[str] | None = None) -> NoReturn:
     pairs = max(1, len(lines) // 2)
     if given.n > pairs:
         print(f"-n {given.n}: {pairs} play, since each has two lines and {len(lines)} are named", file=sys.stderr)
+    if given.junit:
+        try_to_write(given.junit)
     reporter = Reporter(given.json)
     status = play(asked(given, only), reporter)
     if reporter.dead:
