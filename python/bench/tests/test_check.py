@@ -12,6 +12,7 @@ from pathlib import Path
 import pytest
 
 from rgw_bench import mgcp
+from rgw_bench.commands.check import asked, parser
 from rgw_bench.mgcp import Message
 from stub import Stub
 
@@ -72,6 +73,19 @@ def test_other_words_end_it_with_status_2(words: list[str], why: str, tmp_path: 
     case, = cases(tmp_path / "report.xml")
     error = case.find("error")
     assert error is not None and why in error.get("message", "")
+
+
+@pytest.mark.parametrize("given, only, words", [
+    ("", (), ""), ("--phones 127.0.0.1:2", ("repeat",), "--phones 127.0.0.1:2 --slow --gateway-only repeat"),
+    ("--more-lines b --own 127.0.0.1:2 --hook localhost:3 --slow --timeout 5 -n 3 --junit r.xml", (),
+     "--more-lines b --own 127.0.0.1:2 --hook 127.0.0.1:3 --slow --gateway-timeout 5.0 -p xdist.plugin -n 3 --junitxml=r.xml "
+     "-o junit_suite_name=rgw-check"),
+], ids=["least", "only", "all"])
+def test_the_words_reach_pytest(given: str, only: tuple[str, ...], words: str) -> None:
+    """None is left out."""
+    least = "127.0.0.1:1 --domain d --line a"
+    came = asked(parser().parse_args([*least.split(), *given.split()]), set(only))
+    assert " ".join(came) == f"--gateway {least} {words}".rstrip(" ")
 
 
 def test_no_check_failed(stub: Stub, tmp_path: Path) -> None:
@@ -182,7 +196,7 @@ def test_two_workers_play_side_by_side(stub: Stub) -> None:
     names = "endpoint-case,two-in-one,extension,response,confirmed-range,other-version,all-lines-configuration"
     ended = check(*at(stub, *more, "--own", own, "-n", "2", "--only", names, "--json"))
     told = {it["name"]: it["result"] for it in map(json.loads, ended.stdout.splitlines()) if "name" in it}
-    assert set(told) == set(names.split(",")), ended.stderr
+    assert ended.returncode == 1 and set(told) == set(names.split(",")), ended.stderr
     assert told["endpoint-case"] == told["two-in-one"] == told["extension"] == told["response"] == "pass"
     assert told["other-version"] == told["confirmed-range"] == "FAIL"
     assert {it.endpoint for it in stub.heard if it.verb == "AUEP"} >= {"aaln/1@gw", "aaln/3@gw"}
