@@ -116,9 +116,17 @@ def test_what_was_so_for_a_moment_only_counts(exchange: StubExchange, phones: Ph
     thread.start()
     a.expect("L/rg", within=30)
     thread.join()
+    # (the gateway's clock is known to some ms)
+    time.sleep(0.1)
     a.expect("silent", within=30)
     with pytest.raises(Unexpected):
         a.expect("L/rg", within=0.1)
+
+
+def test_what_comes_meanwhile_is_heard(exchange: StubExchange, phones: Phones) -> None:
+    threading.Timer(0.2, exchange.tell, (exchange.gateways[0], 1, "begins L/rg until -")).start()
+    with pytest.raises(Unexpected, match="expected none of L/rg at gw1:1 for 5 s"):
+        phones["gw1:1"].expect_none("L/rg", during=5)
 
 
 def test_none_of_these_is_heard(exchange: StubExchange, phones: Phones) -> None:
