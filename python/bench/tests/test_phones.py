@@ -262,6 +262,8 @@ def test_what_is_over_by_then_is_not_so_now(exchange: StubExchange, phones: Phon
 
     monkeypatch.setattr(a.gateway, "hear", late)
     a.key("1")
+    # (the gateway has taken it, and what it told of that isn't read yet)
+    time.sleep(0.1)
     with pytest.raises(Unexpected):
         a.expect("L/dl")
 
