@@ -6,6 +6,7 @@ for anew (`show *`). Moments are in seconds of `time.monotonic`. Whatever a gate
 from __future__ import annotations
 
 import math
+import re
 import socket
 import threading
 import time
@@ -21,6 +22,8 @@ WATCH = 60
 MOST_LINES = 1000
 # A gateway that doesn't answer is asked again after so long, and one whose clock is behind, in s.
 ASK_AGAIN, BEHIND = 1.0, 0.01
+# What no line of text has.
+CONTROL = re.compile(r"[^\t\n\r -~]")
 
 
 class Lost(Exception):
@@ -33,6 +36,11 @@ def place_of(given: str | Address) -> Address:
     if not place[1]:
         raise ValueError(f"{written(place)}: wanted a port, 1 to 65535")
     return place
+
+
+def text_of(data: bytes) -> str:
+    """What a datagram says, in printable ASCII, tabs and line ends; `\\x1b` for another byte."""
+    return CONTROL.sub(lambda found: f"\\x{ord(found[0]):02x}", data.decode("ascii", "backslashreplace"))
 
 
 class Line(Protocol):
@@ -77,7 +85,7 @@ class Telephones:
         try:
             made.settimeout(timeout)
             made.send(text.encode())
-            answer = made.recv(65536).decode("ascii", "backslashreplace").strip()
+            answer = text_of(made.recv(65536)).strip()
         except (TimeoutError, ConnectionError):
             # (so what comes late answers nothing else)
             made.close()
@@ -119,7 +127,7 @@ class Telephones:
 
     def hear(self, data: bytes, moment: float) -> None:
         """Takes a datagram that came at this moment."""
-        for row in data.decode("ascii", "backslashreplace").splitlines():
+        for row in text_of(data).splitlines():
             words = row.split()
             try:
                 self.take(words, moment)

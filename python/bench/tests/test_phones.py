@@ -197,6 +197,12 @@ def test_a_gateway_that_tells_nobody_more(exchange: StubExchange) -> None:
         Phones(exchange.places(), within=1)
 
 
+def test_what_telephones_tell_does_nothing_to_a_terminal(exchange: StubExchange) -> None:
+    exchange.watch_refusal = "! 8 watch \x1b[2J\x7f\n"
+    with pytest.raises(Lost, match=r"! 8 watch \\x1b\[2J\\x7f$"):
+        Phones(exchange.places(), within=1)
+
+
 def test_lost_changes_are_told_and_asked_for(exchange: StubExchange, phones: Phones) -> None:
     a = phones["gw1:1"]
     exchange.mute = True

@@ -7,6 +7,7 @@ from collections.abc import Generator
 import pytest
 
 from rgw_bench import gateway as gateways
+from rgw_bench import mgcp
 from rgw_bench.check_text import read, step_of
 from rgw_bench.gateway import Gateway, NotMet, Places
 from rgw_bench.mgcp import Message
@@ -133,3 +134,30 @@ def test_all_that_undoes_a_check_is_played(made: Made) -> None:
     stub, gateway = made
     Player(gateway).undo([step_of(it) for it in ("has Q", "> DLCX {8} {line} MGCP 1.0", "< 200 {8}")])
     assert [it.verb for it in stub.heard] == ["AUEP", "DLCX"]
+
+
+def test_a_gateway_that_needs_longer_for_ever(made: Made, monkeypatch: pytest.MonkeyPatch) -> None:
+    """A provisional response prolongs no more than to the longest time for an answer."""
+    for name, seconds in (("ANSWER", 30.0), ("LONGEST_ANSWER", 0.5), ("LATE", 0.1)):
+        monkeypatch.setattr(gateways, name, seconds)
+    stub, gateway = made
+    stub.answers = lambda it: [mgcp.response(100, it.id)]
+    began = time.monotonic()
+    assert due(gateway, "> AUEP {2} {line} MGCP 1.0\n< 200 {2}") == "< 200 1002"
+    assert time.monotonic() - began < 20
+
+
+def test_an_answer_at_another_port_is_none(made: Made, monkeypatch: pytest.MonkeyPatch) -> None:
+    """It comes to the socket from which the command went out."""
+    monkeypatch.setattr(gateways, "ANSWER", 0.5)
+    monkeypatch.setattr(gateways, "LATE", 0.1)
+    stub, gateway = made
+
+    def elsewhere(message: Message) -> list[bytes]:
+        stub.say(mgcp.response(200, message.id), gateway.ends.address("there"))
+        return []
+
+    stub.answers = elsewhere
+    with pytest.raises(NotMet) as fault:
+        play(gateway, "> AUEP {2} {line} MGCP 1.0\n< 200 {2}")
+    assert fault.value.came[0].endswith(" (another port than it was asked from)")
