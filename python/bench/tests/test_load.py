@@ -198,7 +198,7 @@ def test_an_unanswered_call_rings_and_is_given_up(exchange: StubExchange, config
 
 def test_shares_of_calls_are_unanswered(exchange: StubExchange, config: str, quick: None) -> None:
     lines, _ = called(config, many=12, hold=0.0, unanswered=50.0)
-    assert lines.tally.at_rest == 12 and 2 <= lines.tally.unanswered <= 10 and lines.tally.connected == 12 - lines.tally.unanswered
+    assert lines.tally.rung == 12 and 2 <= lines.tally.unanswered <= 10 and lines.tally.connected == 12 - lines.tally.unanswered
 
 
 def broken(exchange: StubExchange, how: str) -> None:

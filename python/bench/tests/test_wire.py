@@ -36,12 +36,17 @@ def test_what_is_no_address(text: str) -> None:
 
 def test_a_late_reader_has_the_moment_at_which_a_datagram_came(ends: wire.Wire) -> None:
     """By the kernel's clock, so within some ms of when it was sent."""
-    before, sent = time.monotonic(), ends.send("there", b"a", ends.address("here"))
-    assert sent is not None
-    time.sleep(0.3)
-    came, = ends.wait(time.monotonic())
-    assert came.port == "here" and came.source == ends.address("there")
-    assert before - 0.1 < came.moment < sent + 0.1
+    # (Linux begins to stamp some time after the first socket asked for it)
+    for _ in range(10):
+        before, sent = time.monotonic(), ends.send("there", b"a", ends.address("here"))
+        assert sent is not None
+        time.sleep(0.3)
+        came, = ends.wait(time.monotonic())
+        assert came.port == "here" and came.source == ends.address("there") and before - 0.1 < came.moment
+        if came.moment < sent + 0.1:
+            break
+    else:
+        pytest.fail("the moment is that of the reader")
 
 
 def test_what_came_before_the_end_is_read(ends: wire.Wire) -> None:
