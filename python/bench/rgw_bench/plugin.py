@@ -166,6 +166,11 @@ class CheckItem(pytest.Item):
         """Where it stands, and what it is called in a report."""
         return self.path, self.check.line - 1, f"{self.name} ({', '.join(self.check.sections)})"
 
+    def repr_failure(self, excinfo: pytest.ExceptionInfo[BaseException], style: Any = None) -> Any:
+        """What the check says of it. A traceback, which takes pytest tenths of a second, is for other faults alone."""
+        fault = excinfo.value
+        return str(fault) if isinstance(fault, (NotMet, NotSupported, OutOfTime, Dead)) else super().repr_failure(excinfo, style)
+
     def runtest(self) -> None:
         """Plays it."""
         bench = ready(self, self.rule)
@@ -272,11 +277,13 @@ def bench_of(config: pytest.Config) -> Bench:
 
 
 def ready(item: pytest.Item, rule: Rule) -> Bench:
-    """The bench, where what this check needs is there; else it is skipped."""
+    """The bench, where what this check needs is there and the time isn't over; else it is skipped."""
     bench = bench_of(item.config)
     lacking = [NEEDS[it] for it in rule.needs if not bench.settings.has(it)]
     if lacking:
         pytest.skip(f"{UNPLAYED}needs {', '.join(lacking)}")
+    if bench.gateway.limit is not None and time.monotonic() >= bench.gateway.limit:
+        pytest.skip(f"{UNPLAYED}{OVER}")
     return bench
 
 

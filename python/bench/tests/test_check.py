@@ -161,6 +161,14 @@ def test_an_address_that_is_taken(stub: Stub) -> None:
     assert ended.returncode == 3 and "no socket: Address already in use" in ended.stderr
 
 
+def test_what_is_not_played_costs_no_time(stub: Stub) -> None:
+    """Some 200 checks are left when the time is over; a traceback for each took 25 s and more."""
+    began = time.monotonic()
+    ended = check(*at(stub, "--timeout", "1"))
+    many = int(ended.stdout.splitlines()[-1].rpartition(", ")[2].removesuffix(" not played"))
+    assert ended.returncode in (1, 3) and many > 100 and time.monotonic() - began < 15
+
+
 @pytest.mark.live
 def test_a_slow_gateway_costs_no_more_than_the_limit() -> None:
     """It says 100 for ever; what isn't played by then is not played, and the status isn't 0."""
