@@ -19,6 +19,7 @@ import time
 from collections import deque
 from collections.abc import Callable, Iterable, Iterator, Mapping
 from dataclasses import dataclass
+from datetime import datetime, timezone
 from typing import Any, NamedTuple
 
 from .phone_wire import Lost, Telephones, place_of
@@ -332,7 +333,7 @@ class Phones:
         self.is_strict = is_strict
         self.phones: dict[str, Phone] = {}
         self.log: deque[tuple[float, str, str]] = deque(maxlen=KEPT_CHANGES)
-        self.begun = time.monotonic()
+        self.begun, self.begun_at = time.monotonic(), datetime.now(timezone.utc)
         self.is_open = True
         self.socket = socket.socket(socket.AF_INET, socket.SOCK_DGRAM)
         self.socket.setsockopt(socket.SOL_SOCKET, socket.SO_RCVBUF, ROOM)
@@ -421,7 +422,7 @@ class Phones:
     def begin(self) -> None:
         """A test begins: what is told of a failure begins here."""
         self.log.clear()
-        self.begun = time.monotonic()
+        self.begun, self.begun_at = time.monotonic(), datetime.now(timezone.utc)
 
     def put_back(self, within: float = 10.0, names: Iterable[str] | None = None) -> list[str]:
         """Puts every lifted handset back, of these telephones or of all, and waits until they are at rest, together `within` s: a line for
@@ -460,7 +461,10 @@ class Phones:
         rows = [f"  {len(kept) - TOLD} earlier lines are left out"] if len(kept) > TOLD else []
         rows += [f"  {at - self.begun:8.3f}  {name} {what}" for at, name, what in kept[-TOLD:]]
         rows += [f"  {phone.name} now: {phone.state}" for phone in self if phone.name in involved]
-        return "\n".join(["s of the test, telephone, what it did (@) and heard:", *rows]) if rows else "no telephone did or heard anything"
+        begun = f"the test began at {self.begun_at:%H:%M:%S}.{self.begun_at.microsecond // 1000:03}Z"
+        if not rows:
+            return f"no telephone did or heard anything; {begun}"
+        return "\n".join([f"{begun}; `until` is in ms of the gateway's clock", "s of the test, telephone, what it did (@) and heard:", *rows])
 
 
 def side_by_side(*acts: Callable[[], Any]) -> None:

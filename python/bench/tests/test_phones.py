@@ -7,6 +7,7 @@ import sys
 import threading
 import time
 from collections.abc import Iterator
+from datetime import datetime, timedelta, timezone
 from pathlib import Path
 
 import pytest
@@ -76,6 +77,8 @@ def test_names_of_telephones(phones: Phones) -> None:
 
 def test_a_failure_tells_what_each_telephone_heard(exchange: StubExchange, phones: Phones) -> None:
     a, b = phones["gw1:1"], phones["gw2:1"]
+    time.sleep(0.1)
+    before = datetime.now(timezone.utc) - timedelta(milliseconds=1)
     phones.begin()
     with pytest.raises(Unexpected, match="^expected gw1:1 off within 0 s; since before the test it is on, no signal, no connection\nno "):
         a.expect("off")
@@ -85,6 +88,8 @@ def test_a_failure_tells_what_each_telephone_heard(exchange: StubExchange, phone
         a.expect("L/bz", within=0.2)
     lines = str(caught.value).splitlines()
     assert lines[0].startswith("expected gw1:1 L/bz within 0.2 s; since ") and lines[0].endswith(" it is off, G/rt, no connection")
+    told = datetime.strptime(lines[1], "the test began at %H:%M:%S.%fZ; `until` is in ms of the gateway's clock")
+    assert (told - before.replace(tzinfo=None)).seconds < 5 and len(lines[1].partition("Z")[0]) == len("the test began at 12:03:22.104")
     acts = [line.split(None, 1)[1] for line in lines if " @ " in line]
     assert acts == [f"gw1:1 @ {it}" for it in ["off", *number(exchange, b)]]
     assert any(line.endswith("gw2:1 begins L/rg until -") for line in lines)
