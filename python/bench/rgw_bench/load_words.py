@@ -115,21 +115,33 @@ class Load:
             count += draws.expovariate(1) if self.is_poisson else 1.0
 
 
+def misused(why: str) -> BadWords:
+    """The usage, and why the words aren't taken."""
+    return BadWords(f"usage: {USAGE}\nrgw-load: {why}")
+
+
+def options(words: list[str]) -> dict[str, str]:
+    """The value of each option that is given; of a flag it is empty. BadWords: there is no such option, or it has no value."""
+    given: dict[str, str] = {}
+    behind = iter(words)
+    for word in behind:
+        if word not in (*FLAGS, *FILES, *NUMBERS, "--rate"):
+            raise misused(f"{word!r}: no such option")
+        given[word] = "" if word in FLAGS else next(behind, "--")
+        if given[word].startswith("--"):
+            raise misused(f"{word}: it wants a value")
+    return given
+
+
 def read_words(words: list[str]) -> Load:
     """What the words behind rgw-load ask. BadWords: they ask for no load; where the usage says more, its text is that."""
-    usage = BadWords(f"usage: {USAGE}")
     if not words or words[0].startswith("-"):
-        raise usage
-    given: dict[str, str] = {}
-    behind = iter(words[1:])
-    for word in behind:
-        given[word] = "" if word in FLAGS else next(behind, "--")
-        if word not in (*FLAGS, *FILES, *NUMBERS, "--rate") or given[word].startswith("--"):
-            raise usage
+        raise misused("wanted CONFIG before the options")
+    given = options(words[1:])
     numbers = {word: NUMBERS[word].read(word, text) for word, text in given.items() if word in NUMBERS}
     ramp = ramp_of(given["--rate"]) if "--rate" in given else None
     if ramp is None or "--for" not in numbers:
-        raise usage
+        raise misused(f"missing: {'--for' if ramp else '--rate'}")
     return Load(
         words[0], ramp, numbers["--for"], numbers.get("--hold", 3000) / 1000, int(given.get("--seed", 1)), numbers.get("--success", 99.0),
         "--route" in given, "--poisson" in given, numbers.get("--unanswered", 0.0), numbers.get("--ring", 0) / 1000,

@@ -66,8 +66,19 @@ def test_words_that_are_refused(words: str, said: str) -> None:
     with pytest.raises(BadWords) as caught:
         read_words(["a.toml", *words.split()])
     assert str(caught.value).startswith(said)
-    with pytest.raises(BadWords, match="^usage: "):
+    with pytest.raises(BadWords, match="(?s)^usage: .*\nrgw-load: wanted CONFIG before the options$"):
         read_words(words.split())
+
+
+@pytest.mark.parametrize("words, said", [
+    ("--rate 1 --for 1 --unanswred 3", "'--unanswred': no such option"), ("--rate 1 --for 1 --hold", "--hold: it wants a value"),
+    ("--rate 1 --for 1 --csv --html x", "--csv: it wants a value"), ("--for 1", "missing: --rate"), ("--rate 1", "missing: --for"),
+    ("", "missing: --rate"),
+], ids=range(6))
+def test_the_wrong_word_is_named_after_the_usage(words: str, said: str) -> None:
+    with pytest.raises(BadWords) as caught:
+        read_words(["a.toml", *words.split()])
+    assert str(caught.value).splitlines()[-1] == f"rgw-load: {said}"
 
 
 def test_words_that_are_taken() -> None:
