@@ -156,10 +156,11 @@ class Bench:
         """Sees that the gateway serves, and that its lines are there and not in use. Raises Dead where that isn't so."""
         self.serves()
         for at, local in enumerate(self.settings.lines):
-            self.find_line("--line" if at == 0 else "--more-lines", f"{local}@{self.settings.domain}")
+            word = "--line" if at == 0 else "--more-lines"
+            self.find_line(f"{word} {local}", f"{local}@{self.settings.domain}")
 
     def find_line(self, word: str, line: str) -> None:
-        """Sees that a line is there and not in use. Raises Dead, with the word that named it, where it isn't."""
+        """Sees that a line is there and not in use. Raises Dead, with the words that named it, where it isn't."""
         known = self.asked("AUEP", line)
         if known is not None and known.code == 500:
             raise Dead(f"{word}: 500, no such line there, or not in --domain")

@@ -84,7 +84,7 @@ _WAITS = re.compile(r"(?:wait|pause|silence|quiet) ([0-9]+)|again [0-9]+ ([0-9]+
 LONGEST_WAIT = 10_000
 # What a check needs that a gateway's address, domain and line don't give, by its name; and how that is given.
 NEEDS = {
-    "slow": "half a minute (--slow)",
+    "slow": "10 s or longer (--slow)",
     "other_line": "another line (--more-lines)",
     "own": "the call agent's address (--own)",
     "telephone": "someone at the telephone (--phones or --hook)",

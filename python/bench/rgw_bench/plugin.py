@@ -90,7 +90,7 @@ def pytest_load_initial_conftests(parser: pytest.Parser, args: list[str]) -> Non
     group.addoption("--more-lines", action="append", default=[], metavar="NAME", help="of another one; with -n each worker has two lines")
     group.addoption("--own", type=_address, metavar="ADDRESS", help="the address of the call agent that the gateway is configured for")
     group.addoption("--hook", type=_address, metavar="ADDRESS", help="a program that works its telephones, and starts it anew")
-    group.addoption("--slow", action="store_true", help="checks that wait for half a minute, too")
+    group.addoption("--slow", action="store_true", help="checks that wait for 10 s or longer, too")
     group.addoption("--gateway-timeout", type=float, metavar="SECONDS", help="the time for the whole run")
     group.addoption("--gateway-only", metavar="NAME,..", help="these checks alone")
 
@@ -360,12 +360,18 @@ def judge(item: pytest.Item, rule: Rule, kept: Outcome, report: pytest.TestRepor
         kept.result = "pass"
     elif isinstance(fault, (NotSupported, OutOfTime, Dead)):
         why = f"not supported: {fault}" if isinstance(fault, NotSupported) else f"{UNPLAYED}{str(fault) or OVER}"
-        kept.result = why.partition(":")[0]
+        unplayed(kept, why)
         report.outcome, report.longrepr = "skipped", (str(path), line or 0, f"Skipped: {why}")
     elif isinstance(fault, pytest.skip.Exception):
-        kept.result = "not played"
+        unplayed(kept, str(fault))
     else:
         judge_fault(item, rule, kept, report, fault)
+
+
+def unplayed(kept: Outcome, why: str) -> None:
+    """Puts into an outcome that a check isn't played or supported, and the reason: `not played: needs ..`."""
+    kept.result, _, reason = why.partition(": ")
+    kept.said = (*kept.said, f"! {reason}")
 
 
 def judge_fault(item: pytest.Item, rule: Rule, kept: Outcome, report: pytest.TestReport, fault: BaseException) -> None:

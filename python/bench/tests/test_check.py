@@ -62,7 +62,7 @@ def test_each_check_is_listed_once() -> None:
     (["127.0.0.1:1", "--domain", "a", "--line", "b/*"], "not the name of one line, as aaln/1: 1 to 64 characters, no blank, *, $ or @"),
     (["127.0.0.1:1", "--domain", "a", "--line", "b/1", "--more-lines", "B/1"], "--more-lines: the same line as --line, or twice the same"),
     (["127.0.0.1:1", "--domain", "a", "--line", "b", "--phones", "127.0.0.1:1", "--hook", "127.0.0.1:1"], "not allowed with argument"),
-    (["127.0.0.1:1", "--domain", "a", "--line", "b", "--only", "nosuch"], "--only: no check has this name; rgw-check --list has them"),
+    (["127.0.0.1:1", "--domain", "a", "--line", "b", "--only", "repeat,nosuch"], "--only: no check has the name 'nosuch'; rgw-check --list has them"),
     (["127.0.0.1:1", "--domain", "a", "--line", "b", "--timeout", "0"], "wanted seconds, up to 1000000"),
     (["127.0.0.1:1", "--domain", "a", "--line", "b", "--fast"], "unrecognized arguments: --fast"),
 ], ids=["address", "line", "name", "same line", "two ways", "only", "timeout", "unknown"])
@@ -95,6 +95,7 @@ def test_no_check_failed(stub: Stub, tmp_path: Path) -> None:
     assert ended.stdout.splitlines()[-1] == "2 pass, 0 fail, 0 left open, 0 not supported, 1 not played"
     assert [it.get("name") for it in cases(tmp_path / "report.xml")] == ["two-in-one", "endpoint-case", "other-line"]
     assert cases(tmp_path / "report.xml")[2].find("skipped") is not None
+    assert ended.stdout.splitlines()[-2] == "    ! needs another line (--more-lines)"
 
 
 def test_a_check_failed(stub: Stub, tmp_path: Path) -> None:
@@ -145,8 +146,9 @@ def test_a_dead_gateway_ends_it_with_status_3(tmp_path: Path) -> None:
 
 
 @pytest.mark.parametrize("code, params, why", [
-    (500, {}, "--line: 500, no such line there, or not in --domain"), (200, {"I": "1"}, "--line: in use, off hook or with a connection"),
-    (200, {"ES": "L/hd"}, "--line: in use, off hook or with a connection"),
+    (500, {}, "--line aaln/1: 500, no such line there, or not in --domain"),
+    (200, {"I": "1"}, "--line aaln/1: in use, off hook or with a connection"),
+    (200, {"ES": "L/hd"}, "--line aaln/1: in use, off hook or with a connection"),
 ])
 def test_a_line_that_cant_be_checked(code: int, params: dict[str, str], why: str) -> None:
     """It isn't there, or is in use."""
@@ -167,6 +169,9 @@ def test_what_is_not_played_costs_no_time(stub: Stub) -> None:
     ended = check(*at(stub, "--timeout", "1"))
     many = int(ended.stdout.splitlines()[-1].rpartition(", ")[2].removesuffix(" not played"))
     assert ended.returncode in (1, 3) and many > 100 and time.monotonic() - began < 15
+    whys = {it["said"][-1] for it in map(json.loads, check(*at(stub, "--timeout", "0.5", "--json")).stdout.splitlines())
+            if it.get("result") == "not played"}
+    assert {"! the time for the whole run is over", "! needs 10 s or longer (--slow)"} <= whys
 
 
 @pytest.mark.live

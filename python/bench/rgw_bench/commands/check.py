@@ -222,8 +222,9 @@ def main(words: Sequence[str] | None = None) -> NoReturn:
     if len(set(lines)) != len(lines):
         read.error("--more-lines: the same line as --line, or twice the same")
     only = set() if given.only is None else {it.strip() for it in given.only.split(",")}
-    if only and not only <= {it.name for it in listed()}:
-        end(2, "--only: no check has this name; rgw-check --list has them", given.junit)
+    unknown = sorted(only - {it.name for it in listed()}) if only else []
+    if unknown:
+        end(2, f"--only: no check has the name {' or '.join(map(repr, unknown))}; rgw-check --list has them", given.junit)
     pairs = max(1, len(lines) // 2)
     if given.n > pairs:
         print(f"-n {given.n}: {pairs} play, since each has two lines and {len(lines)} are named", file=sys.stderr)
