@@ -464,7 +464,8 @@ class Phones:
         begun = f"the test began at {self.begun_at:%H:%M:%S}.{self.begun_at.microsecond // 1000:03}Z"
         if not rows:
             return f"no telephone did or heard anything; {begun}"
-        return "\n".join([f"{begun}; `until` is in ms of the gateway's clock", "s of the test, telephone, what it did (@) and heard:", *rows])
+        head = [f"{begun}; `until` is in ms of the gateway's clock", "s of the test, telephone, what it did (@) and heard:"]
+        return "\n".join([*head, *rows])
 
 
 def side_by_side(*acts: Callable[[], Any]) -> None:

@@ -62,7 +62,8 @@ def test_each_check_is_listed_once() -> None:
     (["127.0.0.1:1", "--domain", "a", "--line", "b/*"], "not the name of one line, as aaln/1: 1 to 64 characters, no blank, *, $ or @"),
     (["127.0.0.1:1", "--domain", "a", "--line", "b/1", "--more-lines", "B/1"], "--more-lines: the same line as --line, or twice the same"),
     (["127.0.0.1:1", "--domain", "a", "--line", "b", "--phones", "127.0.0.1:1", "--hook", "127.0.0.1:1"], "not allowed with argument"),
-    (["127.0.0.1:1", "--domain", "a", "--line", "b", "--only", "repeat,nosuch"], "--only: no check has the name 'nosuch'; rgw-check --list has them"),
+    (["127.0.0.1:1", "--domain", "a", "--line", "b", "--only", "repeat,nosuch"],
+     "--only: no check has the name 'nosuch'; rgw-check --list has them"),
     (["127.0.0.1:1", "--domain", "a", "--line", "b", "--timeout", "0"], "wanted seconds, up to 1000000"),
     (["127.0.0.1:1", "--domain", "a", "--line", "b", "--fast"], "unrecognized arguments: --fast"),
 ], ids=["address", "line", "name", "same line", "two ways", "only", "timeout", "unknown"])
