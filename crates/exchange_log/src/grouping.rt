@@ -1,10 +1,9 @@
 //! Numbers as people read them.
-ghost use Rattle.std.specs.Prelude.{◌≡◌, ◌++◌, OnOk};
+ghost use Rattle.std.specs.Prelude.{◌≡◌, ◌++◌};
 ghost use Rattle.exchange_log.specs.Grouping.{comma_before, grouped, number_shown};
 
 use itoa::Buffer;
-use mg_bytes::{Draft, OutOfMemory};
-use std::alloc::Global;
+use mg_bytes::Draft;
 
 fn put_comma(out: &mut Draft, rest: &[u8])
     ensures { out.new ≡ out.old ++ comma_before rest.now }
@@ -32,13 +31,4 @@ pub fn write_number(out: &mut Draft, number: u64)
 {
     let mut buffer = Buffer::new();
     put_grouped(out, buffer.format(number).as_bytes());
-}
-
-/// Puts a number as `write_number` does. Its only error is want of memory.
-pub fn put_number(alloc: Global, out: &mut Vec<u8>, number: u64) -> Result<(), OutOfMemory>
-    ensures { OnOk result (out.new.items ≡ out.old.items ++ number_shown number) }
-{
-    let mut draft = Draft::new(alloc);
-    write_number(&mut draft, number);
-    draft.append_to(out)
 }

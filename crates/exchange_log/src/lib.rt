@@ -36,9 +36,9 @@ mod time;
 
 pub use crate::escaping::{put_shown, write_shown};
 pub use crate::file::{put_head, put_packet};
-pub use crate::grouping::{put_number, write_number};
+pub use crate::grouping::write_number;
 pub use crate::host::{put_host, put_peer};
-pub use crate::logging::{peer_text, put_given_up, put_message, put_note, put_notice, put_refused};
+pub use crate::logging::{put_given_up, put_message, put_note, put_notice, put_refused};
 pub use crate::note::{Note, Notice};
 pub use crate::packet::Packet;
 pub use crate::pausing::put_pause;

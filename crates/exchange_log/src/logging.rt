@@ -1,6 +1,5 @@
 //! The lines of the log.
-ghost use Rattle.std.specs.Prelude.{◌≡◌, ◌++◌, string_bytes, IfOk, OnOk, OnErr};
-ghost use Rattle.std.specs.Net.Text.{socket_v4_text};
+ghost use Rattle.std.specs.Prelude.{◌≡◌, ◌++◌, OnOk, OnErr};
 ghost use Rattle.exchange_log.specs.Lines.{stamp_text, mark_of, waited_text, message_line, note_line, notice_line, given_up_line, refused_line};
 
 use crate::escaping::put_escaped;
@@ -12,16 +11,6 @@ use crate::time::put_date_and_time;
 use mg_bytes::{Draft, OutOfMemory};
 use mgcp_text::TransactionId;
 use std::alloc::Global;
-use std::net::SocketAddrV4;
-
-/// An address and a port as text: `10.0.0.7:2727`. Its only error is want of memory.
-pub fn peer_text(alloc: Global, peer: SocketAddrV4) -> Result<String, OutOfMemory>
-    ensures { IfOk result (λ text. string_bytes text ≡ socket_v4_text peer) }
-{
-    let mut text = String::new(alloc);
-    write!(text, "{peer}")?;
-    Ok(text)
-}
 
 // A line that has begun.
 #[tactic(auto, unfolding(crate::specs::Lines::stamp_text))]
