@@ -21,5 +21,5 @@ pub use crate::opening::{judged, key_at_fault, opening_list, opening_own};
 pub use crate::reporting::{answer_to_audit, name_alone};
 pub use crate::requesting::{deed_on_all, line_with_place, refused_by};
 pub use crate::responding::respond;
-pub use crate::rules::{Context, Occasion, acted_on, answer_with, same_endpoint, same_post, send};
+pub use crate::rules::{Context, Occasion, acted_on, answer_with, send};
 pub use crate::store::Store;
