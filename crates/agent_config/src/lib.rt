@@ -8,5 +8,5 @@ pub mod examples;
 mod text;
 
 pub use crate::config::{AgentConfig, GatewayConfig, read_config};
-pub use crate::config_fault::{ConfigRefusal, Place, missing, too_long};
+pub use crate::config_fault::{ConfigRefusal, too_long};
 pub use crate::text::copied;

@@ -6,4 +6,3 @@ pub mod SettlingLemmas
 pub mod TickingLemmas
 pub mod ServingLemmas
 pub mod DatagramLemmas
-pub mod TypedCommandLemmas

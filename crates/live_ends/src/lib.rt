@@ -34,7 +34,7 @@ pub use crate::files::read_file;
 pub use crate::live::{Live, SocketWanted};
 pub use crate::parting::{CaptureFiles, Parting};
 pub use crate::printing::put_printed;
-pub use crate::program::{Begun, OUT_OF_MEMORY, begin, end, open_capture, say_last};
+pub use crate::program::{Begun, begin, end, open_capture};
 pub use crate::readiness::{MOST_VISITORS, Readiness, Visit, may_have_more};
 pub use crate::waiting::longest_wait;
 pub use crate::wording::{put_around, put_pieces};

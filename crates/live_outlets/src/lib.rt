@@ -18,7 +18,7 @@ mod stream;
 mod written;
 
 pub use crate::answers::{DONE, NO_MEMORY, STOP_FROM_AFAR};
-pub use crate::backlog::{Backlog, MOST_KEPT, NOTE_ROOM, TEXT_ROOM, lines_ended};
+pub use crate::backlog::{Backlog, TEXT_ROOM};
 pub use crate::boxing::boxed;
 pub use crate::finisher::Finisher;
 pub use crate::now::Now;

@@ -13,9 +13,8 @@ mod laws;
 mod places;
 mod route;
 
-pub use crate::access::{is_known_host, is_same_origin};
 pub use crate::asked::Asked;
 pub use crate::asking::asked_of;
 pub use crate::host_names::HostNames;
-pub use crate::places::{MOST_OF_ONE_HOST, Seat, place_for};
+pub use crate::places::{Seat, place_for};
 pub use crate::route::Route;

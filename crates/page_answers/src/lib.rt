@@ -15,7 +15,6 @@ mod state;
 mod telling;
 mod told;
 
-pub use crate::acting::read_act;
 pub use crate::answers::{ActOutcome, act_on, events_of, state_of};
 pub use crate::state::state_text;
 pub use crate::telling::events_text;

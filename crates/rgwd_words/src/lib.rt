@@ -20,7 +20,6 @@ pub use crate::asked::asked_by;
 pub use crate::beginning::{begin_serving, say_setup};
 pub use crate::configuring::{Configured, configure};
 pub use crate::ending::{Ending, Said};
-pub use crate::help::USAGE;
 pub use crate::opening::{captured_at, open_sockets, page_names};
 pub use crate::starting::{Begun, Start};
 pub use crate::telling::answered_by;

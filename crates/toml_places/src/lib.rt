@@ -17,5 +17,5 @@ pub use crate::fault::{Reason, TomlFault, put_toml_fault, toml_fault};
 pub use crate::lines::line_at;
 pub use crate::nearest::put_nearest;
 pub use crate::places::{Dotted, Places};
-pub use crate::told::{MOST_TOLD, Told, named};
+pub use crate::told::{Told, named};
 pub use crate::words::{has, replaced, shown, written};

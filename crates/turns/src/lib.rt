@@ -13,5 +13,5 @@ mod turn;
 
 pub use crate::circle::{Ready, Source};
 pub use crate::schedule::Schedule;
-pub use crate::situation::{LONGEST_TICK, LONGEST_WAIT, Situation, earlier};
+pub use crate::situation::{LONGEST_TICK, Situation, earlier};
 pub use crate::turn::{Pause, Turn};
