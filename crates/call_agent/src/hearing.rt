@@ -16,7 +16,7 @@ use plain_machine::{OutDatagram, Refusal};
 use std::net::SocketAddrV4;
 use transmission::{Origin, hear, texts};
 
-// What is left to the agent at a text that it heard.
+// What is left to the agent at a text that it heard (`left_done`).
 fn handle(
     context: Context<'_>,
     state: &mut State,
@@ -41,7 +41,7 @@ fn handle(
     }
 }
 
-// A text, by what it was read as.
+// A text, by what it was read as (`handled`).
 #[tactic(auto, unfolding(crate::specs::Hearing::handled, crate::specs::Responding::responded))]
 fn take_read(
     context: Context<'_>,

@@ -89,6 +89,8 @@ fn attempt(context: Context<'_>, state: &mut State, event: Event<'_>) -> Result<
 }
 
 /// One event: what goes out. After a refusal all that the agent stands for stays.
+// `attempt` meets its clauses at the agent after a purge. These say the same of each agent that is alike, and follow from those at the
+// one call.
 pub(crate) fn step_state(
     context: Context<'_>,
     state: &mut State,

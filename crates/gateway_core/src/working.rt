@@ -131,6 +131,8 @@ fn attempt(
 
 /// One event, whose outputs go after those that there are. What its texts were is told, what it sent, what was given up, and
 /// at which lines it may have changed something, unless it is refused; after a refusal all that the gateway stands for stays.
+// `attempt` meets its clauses at the machine after a purge. These say the same of each machine that is alike, and follow from those at
+// the one call, and not at each way out of the work.
 pub(crate) fn step_state(
     context: Context<'_>,
     state: &mut State,

@@ -33,7 +33,8 @@ use std::net::SocketAddrV4;
 use transmission::{Origin, hear, keep_answer, spans_of, texts};
 
 // A new command whose K was read, and whose name reads as this line or as none, is executed: its answer goes out before what lines
-// send because of it. What it got.
+// send because of it. What it got. K is lent by `execute`, which owns it: four calls here can fail, and a value that is owned is let go
+// at each.
 fn execute_with_k(
     context: Context<'_>,
     state: &mut State,
@@ -112,7 +113,8 @@ fn execute(
     execute_with_k(context, state, origin, line, said, &confirms, out)
 }
 
-// What is left to the gateway at a text that it heard, and what the text was: where nothing is left, what it was passed over as.
+// What is left to the gateway at a text that it heard (`left_done`), and what the text was: where nothing is left, what it was passed
+// over as.
 fn handle(
     context: Context<'_>,
     state: &mut State,
@@ -160,7 +162,7 @@ fn handle(
     }
 }
 
-// A text, by what it was read as: what it was.
+// A text, by what it was read as (`handled`): what it was.
 fn take_read(
     context: Context<'_>,
     state: &mut State,
@@ -213,7 +215,8 @@ fn take(
     take_read(context, state, source, &read, out)
 }
 
-// The next text of a datagram, which is told of behind those before it.
+// The next text of a datagram, which is told of behind those before it. What fails is handed on here, and not in `take`,
+// which owns a message; `take_datagram` has one call a round.
 fn take_next(
     context: Context<'_>,
     state: &mut State,
