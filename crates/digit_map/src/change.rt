@@ -1,12 +1,11 @@
 //! What a request does with the digit map of a line.
 ghost use Rattle.std.specs.Prelude.{◌≡◌, option_map};
-ghost use Rattle.std.specs.List.{list_all};
-ghost use Rattle.mg_bytes.specs.Blanks.{is_blank};
 ghost use Rattle.digit_map.specs.Reading.{ReadsAs};
 ghost use Rattle.digit_map.specs.Change.{change_of, takes_memory, GivesUpForMemory};
 
 use crate::fault::MapFault;
 use crate::map_text::{MapText, read_map};
+use mg_bytes::all_blank;
 use std::alloc::Global;
 
 /// What a request does with the digit map of a line (RFC 3435, 2.3.3).
@@ -18,12 +17,6 @@ pub enum MapChange {
     Remove,
     /// This map replaces the one before.
     Replace(MapText),
-}
-
-fn all_blank(text: &[u8]) -> bool
-    ensures { result ≡ list_all is_blank text.now }
-{
-    text.iter().all(|byte| *byte == b' ' || *byte == b'\t')
 }
 
 /// What a request with this value of D, if it has one, does with the digit map of a line (RFC 3435, 2.3.3): without D

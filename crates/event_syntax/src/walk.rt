@@ -2,7 +2,6 @@
 //! depth: the reader refuses more than one, and only once the spelling is right.
 ghost use Rattle.std.specs.Prelude.{◌≡◌, ◌+◌, ◌≤◌, ◌==◌, ◌++◌, ◌&&◌, [], true, nat_le, length, IfOk, IfErr};
 ghost use Rattle.std.specs.List.{list_all};
-ghost use Rattle.mg_bytes.specs.Blanks.{is_blank};
 ghost use Rattle.event_syntax.specs.declared.walk.Stand.TheVariants.{Entry as AnEntry};
 ghost use Rattle.mg_bytes.specs.Bytes.{right_parenthesis};
 ghost use Rattle.event_values.specs.Cuts.{deeper};
@@ -14,8 +13,8 @@ ghost use Rattle.event_syntax.specs.Walking.{behind_signals, behind_map, part_op
 ghost use Rattle.event_syntax.specs.Walking.{nothing_seen, stepped, is_left, holds_events};
 
 use crate::event_spelling::is_event;
-use event_values::{are_parameters, are_signals, is_word};
-use mg_bytes::{OutOfMemory, same_no_case, trimmed};
+use event_values::{are_parameters, are_signals, deeper, is_word};
+use mg_bytes::{OutOfMemory, all_blank, same_no_case, trimmed};
 use std::alloc::Global;
 
 /// Which parts an embedded request has had so far.
@@ -110,18 +109,6 @@ fn closes(depth: usize, byte: u8) -> bool
     ensures { result ≡ (byte == right_parenthesis && depth == 0) }
 {
     byte == b')' && depth == 0
-}
-
-fn deeper(depth: usize, byte: u8) -> usize
-    requires { depth + 1 ≤ usize.MAX }
-    ensures value { result ≡ deeper depth byte }
-    ensures by_one { result ≤ depth + 1 }
-{
-    match byte {
-        b'(' => depth + 1,
-        b')' => depth.saturating_sub(1),
-        _ => depth,
-    }
 }
 
 // What stands before the parenthesis that closes a text, and what stands behind it.
@@ -360,12 +347,6 @@ fn walked(alloc: Global, value: &[u8]) -> Result<bool, OutOfMemory>
             }
         }
     }
-}
-
-fn all_blank(text: &[u8]) -> bool
-    ensures { result ≡ list_all is_blank text.now }
-{
-    text.iter().all(|byte| *byte == b' ' || *byte == b'\t')
 }
 
 /// Whether a value of R is spelled: entries of an event, optionally actions, and optionally parameters, each in

@@ -1,10 +1,9 @@
 //! A text cut at its commas or at its parentheses.
 ghost use Rattle.std.specs.Prelude.{◌≡◌, ◌+◌, ◌≤◌, ◌∷◌, [], IfSome, map};
-ghost use Rattle.std.specs.List.{list_all};
-ghost use Rattle.mg_bytes.specs.Blanks.{is_blank, trimmed};
+ghost use Rattle.mg_bytes.specs.Blanks.{trimmed};
 ghost use Rattle.event_values.specs.Cuts.{is_cut, deeper, pieces, pieces_behind, items, entries};
 
-use mg_bytes::trimmed;
+use mg_bytes::{all_blank, trimmed};
 use std::marker::Model;
 
 /// Where a text is cut.
@@ -25,7 +24,8 @@ fn is_cut(cut: Cut, depth: usize, byte: u8) -> bool
     }
 }
 
-fn deeper(depth: usize, byte: u8) -> usize
+/// How deep in parentheses the text behind this byte stands, where the byte stands so deep.
+pub fn deeper(depth: usize, byte: u8) -> usize
     requires { depth + 1 ≤ usize.MAX }
     ensures value { result ≡ deeper depth byte }
     ensures by_one { result ≤ depth + 1 }
@@ -108,12 +108,6 @@ pub fn items(text: &[u8]) -> Pieces<'_>
         depth: 0,
         rest: Some(text),
     }
-}
-
-fn all_blank(text: &[u8]) -> bool
-    ensures { result ≡ list_all is_blank text.now }
-{
-    text.iter().all(|byte| *byte == b' ' || *byte == b'\t')
 }
 
 /// The entries of a value: none where it is blank.

@@ -19,7 +19,7 @@ mod signal_spelling;
 mod signals;
 mod spelling;
 
-pub use crate::cut::{Pieces, entries, items};
+pub use crate::cut::{Pieces, deeper, entries, items};
 pub use crate::form::{Inside, Shape, form_of};
 pub use crate::handling::{Handling, Notifying, Quarantined, read_handling, write_handling};
 pub use crate::observed::{Observed, read_observed, write_observed};

@@ -25,7 +25,7 @@ mod told;
 mod word;
 
 pub use crate::address::{ipv4_address, port_number};
-pub use crate::blank::trimmed;
+pub use crate::blank::{all_blank, trimmed};
 pub use crate::code_fault::CodeFault;
 pub use crate::draft::Draft;
 pub use crate::few::Few;
