@@ -1,6 +1,6 @@
 //! What a configuration sets up, and what there is at the opening: the endpoints, and the post of the gateway itself.
-ghost use Rattle.std.specs.Prelude.{◌≡◌, ◌≤◌, ◌<◌, ◌+◌, ◌^◌, [], length, map, IfOk};
-ghost use Rattle.std.specs.List.{AllByRecursion, range_with_len};
+ghost use Rattle.std.specs.Prelude.{◌≡◌, ◌≤◌, ◌<◌, ◌+◌, ◌^◌, [], map, IfOk};
+ghost use Rattle.std.specs.List.{range_with_len};
 ghost use Rattle.plain_machine.specs.Setup.{table_from, is_wait, is_media_base, is_address, parts_of, setup_from, key_at_fault, IsSetUp, highest_media_base};
 ghost use Rattle.gateway_rules.specs.Lines.{most_lines};
 ghost use Rattle.plain_machine.specs.Machine.{port_of, opening_post, opening_endpoint, opening_own};
@@ -9,7 +9,7 @@ ghost use Rattle.endpoints.specs.Ids.{HasId};
 use connections::{Connections, Encoding};
 use endpoint_names::{Entity, Names, Table, is_domain, read_entity};
 use gateway_rules::are_lines;
-use mg_bytes::OutOfMemory;
+use mg_bytes::{OutOfMemory, octets_of};
 use mg_line::Line;
 use plain_machine::{
     CommandNumber, Config, ConfigFault, ConfigKey, Endpoint, HIGHEST_MEDIA_BASE, LONGEST_WAIT,
@@ -44,16 +44,6 @@ fn is_media_base(port: u32) -> bool
     ensures { result ≡ is_media_base port }
 {
     port >= LOWEST_MEDIA_BASE && port <= HIGHEST_MEDIA_BASE && port % 2 == 0
-}
-
-// The octets of an address: four, each of eight bits.
-fn octets_of(address: Ipv4Addr) -> [u8; 4]
-    ensures value { result ≡ address.octets }
-    ensures four { length result ≡ 4 }
-    ensures each { AllByRecursion (λ octet. octet ≤ 255) result }
-{
-    let [a, b, c, d] = address.octets();
-    [a, b, c, d]
 }
 
 // Every address is one.

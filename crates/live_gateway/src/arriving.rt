@@ -1,19 +1,10 @@
 //! What came is of its types: bytes, octets and a port. Contracts know of a number that it is of its type once it is read.
-ghost use Rattle.std.specs.Prelude.{◌≡◌, ◌<◌, ◌≤◌, length};
+ghost use Rattle.std.specs.Prelude.{◌≡◌, ◌<◌, ◌≤◌};
 ghost use Rattle.std.specs.List.{AllByRecursion};
 ghost use Rattle.live_play.specs.Readable.{IsAddress};
 
-use std::net::{Ipv4Addr, SocketAddrV4};
-
-// The octets of an address: four, each of eight bits.
-fn octets_of(host: Ipv4Addr) -> [u8; 4]
-    ensures value { result ≡ host.octets }
-    ensures four { length result ≡ 4 }
-    ensures each { AllByRecursion (λ octet. octet ≤ 255) result }
-{
-    let [a, b, c, d] = host.octets();
-    [a, b, c, d]
-}
+use mg_bytes::octets_of;
+use std::net::SocketAddrV4;
 
 fn port_of(address: SocketAddrV4) -> u16
     ensures value { result ≡ address.port }

@@ -1,5 +1,6 @@
 //! Addresses and ports as text.
-ghost use Rattle.std.specs.Prelude.{◌≡◌};
+ghost use Rattle.std.specs.Prelude.{◌≡◌, ◌≤◌, length};
+ghost use Rattle.std.specs.List.{AllByRecursion};
 ghost use Rattle.mg_bytes.specs.Address.{octet_of, ipv4_of, port_of};
 
 use crate::number::decimal;
@@ -25,6 +26,16 @@ pub fn ipv4_address(text: &[u8]) -> Option<Ipv4Addr>
     let (b, rest) = split_once(rest, b'.')?;
     let (c, d) = split_once(rest, b'.')?;
     Some(Ipv4Addr::new(octet(a)?, octet(b)?, octet(c)?, octet(d)?))
+}
+
+/// The four octets of an address, each of which has eight bits.
+pub fn octets_of(address: Ipv4Addr) -> [u8; 4]
+    ensures value { result ≡ address.octets }
+    ensures four { length result ≡ 4 }
+    ensures each { AllByRecursion (λ octet. octet ≤ 255) result }
+{
+    let [a, b, c, d] = address.octets();
+    [a, b, c, d]
 }
 
 /// The port that a decimal number from 1 to 65535 is.

@@ -24,7 +24,7 @@ mod split;
 mod told;
 mod word;
 
-pub use crate::address::{ipv4_address, port_number};
+pub use crate::address::{ipv4_address, octets_of, port_number};
 pub use crate::blank::{all_blank, trimmed};
 pub use crate::code_fault::CodeFault;
 pub use crate::draft::Draft;

@@ -1,6 +1,6 @@
 //! How a session is written (RFC 2327, 6; RFC 3435, 3.4).
 ghost use Rattle.std.specs.Prelude.{◌≡◌, ◌≤◌, ◌++◌, IfOk, IfSome, Some, false, codes, decimal, length, slice_get};
-ghost use Rattle.std.specs.List.{AllByRecursion, flat_map, list_any};
+ghost use Rattle.std.specs.List.{flat_map, list_any};
 ghost use Rattle.mg_bytes.specs.Lines.{cut, lines_of, is_dot_line, ended};
 ghost use Rattle.sdp_subset.specs.declared.session.Session.{Session};
 ghost use Rattle.sdp_subset.specs.Writing.{address_text, origin_line, origin_lines, connection_line, time_lines};
@@ -9,19 +9,9 @@ ghost use Rattle.sdp_subset.specs.Writing.{session_text, as_read, IsSession};
 ghost use Rattle.sdp_subset.specs.Spelling.{Reads};
 
 use crate::session::{Origin, Session};
-use mg_bytes::{Draft, OutOfMemory, Text};
+use mg_bytes::{Draft, OutOfMemory, Text, octets_of};
 use std::alloc::Global;
 use std::net::Ipv4Addr;
-
-// The four octets of an address, each of which has eight bits.
-fn octets_of(address: Ipv4Addr) -> [u8; 4]
-    ensures value { result ≡ address.octets }
-    ensures four { length result ≡ 4 }
-    ensures each { AllByRecursion (λ octet. octet ≤ 255) result }
-{
-    let [a, b, c, d] = address.octets();
-    [a, b, c, d]
-}
 
 fn put_address(out: &mut Draft, address: Ipv4Addr)
     ensures { out.new ≡ out.old ++ address_text address }
