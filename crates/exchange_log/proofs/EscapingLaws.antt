@@ -1,12 +1,13 @@
 -- What is shown of a datagram is printable ASCII.
 use Rattle.std.proofs.Common.{◌≡◌, ℕ, zero, suc, ◌+◌, ◌/◌, ◌%◌, ◌<◌, ◌≤◌, ◌==◌, ◌&&◌, Bool, true, false, List, [], ◌∷◌, ◌++◌, length, take, refl, ap, ◌∙◌, arith, ⊎_elim}
 use Rattle.std.specs.Prelude.{codes, nat_le, nat_lt, not, if◌then◌else◌}
+use Rattle.std.specs.Char.{digit_char}
 use Rattle.std.specs.List.{list_all}
 use Rattle.std.specs.Fmt.{decimal, digits, digits_onto, digit_glyph}
 use Rattle.std.proofs.lemmas.Bool.{cases_Bool}
 use Rattle.std.proofs.lemmas.Bool.Decides.{nat_tests}
 use Rattle.std.proofs.lemmas.List.Folds.{list_all-append}
-use Rattle.exchange_log.specs.Escaping.{is_printable, is_plain, backslash, hex_digit, shown_byte, escaped, shown, is_text}
+use Rattle.exchange_log.specs.Escaping.{is_printable, is_plain, backslash, shown_byte, escaped, shown, is_text}
 use Rattle.exchange_log.specs.Grouping.{comma_before, grouped, number_shown}
 
 -- one text behind another
@@ -20,7 +21,7 @@ text_cons b text first others = ap (λ (t : Bool). t && is_text text) first ∙ 
 pub digit_printable : (d : ℕ) → d < 10 → is_printable (48 + d) ≡ true
 digit_printable d small = grind (arith, nat_tests)
 
-hex_printable : (n : ℕ) → n < 16 → is_printable (hex_digit n) ≡ true
+hex_printable : (n : ℕ) → n < 16 → is_printable (digit_char n) ≡ true
 hex_printable n small = grind (arith, nat_tests)
 
 and_front : (a b : Bool) → (a && b) ≡ true → a ≡ true
@@ -30,11 +31,11 @@ and_front false b is = absurd cc
 byte_shown : (b : ℕ) → is_text (shown_byte b) ≡ true
 byte_shown b = at_test (is_plain b) refl where
   at_test : (plain : Bool) → is_plain b ≡ plain
-      → is_text (if plain then b ∷ [] else backslash ∷ 120 ∷ hex_digit (b / 16 % 16) ∷ hex_digit (b % 16) ∷ []) ≡ true
+      → is_text (if plain then b ∷ [] else backslash ∷ 120 ∷ digit_char (b / 16 % 16) ∷ digit_char (b % 16) ∷ []) ≡ true
   at_test true is = text_cons b [] (and_front (is_printable b) (not (b == backslash)) is) refl
   at_test false is =
-      text_cons (hex_digit (b / 16 % 16)) (hex_digit (b % 16) ∷ []) (hex_printable (b / 16 % 16) (omega arith))
-      (text_cons (hex_digit (b % 16)) [] (hex_printable (b % 16) (omega arith)) refl)
+      text_cons (digit_char (b / 16 % 16)) (digit_char (b % 16) ∷ []) (hex_printable (b / 16 % 16) (omega arith))
+      (text_cons (digit_char (b % 16)) [] (hex_printable (b % 16) (omega arith)) refl)
 
 pub escaped_text : (bytes : List ℕ) → is_text (escaped bytes) ≡ true
 escaped_text [] = refl

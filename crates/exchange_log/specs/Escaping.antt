@@ -1,6 +1,7 @@
 -- How bytes of a datagram are shown: as printable ASCII and nothing else, so that none of them ends a line or begins a
 -- terminal's sequence (this gateway's profile).
-use Rattle.std.specs.Prelude.{◌≡◌, ℕ, ◌+◌, ◌/◌, ◌%◌, ◌==◌, ◌&&◌, not, nat_le, nat_lt, Bool, true, codes, if◌then◌else◌, List, [], ◌∷◌, ◌++◌, length, take}
+use Rattle.std.specs.Prelude.{◌≡◌, ℕ, ◌/◌, ◌%◌, ◌==◌, ◌&&◌, not, nat_le, Bool, true, codes, if◌then◌else◌, List, [], ◌∷◌, ◌++◌, length, take}
+use Rattle.std.specs.Char.{digit_char}
 use Rattle.std.specs.List.{list_all, flat_map}
 
 -- from the blank to the tilde
@@ -14,15 +15,11 @@ backslash = 92
 abbrev pub is_plain : ℕ → Bool
 is_plain b = is_printable b && not (b == backslash)
 
--- `0` to `9` and `a` to `f`
-abbrev pub hex_digit : ℕ → ℕ
-hex_digit n = if nat_lt n 10 then 48 + n else 87 + n
-
 -- a byte: itself, or `\x` and its two hexadecimal digits
 abbrev pub shown_byte : ℕ → List ℕ
 shown_byte b =
     if is_plain b then b ∷ []
-    else backslash ∷ 120 ∷ hex_digit (b / 16 % 16) ∷ hex_digit (b % 16) ∷ []
+    else backslash ∷ 120 ∷ digit_char (b / 16 % 16) ∷ digit_char (b % 16) ∷ []
 
 abbrev pub escaped : List ℕ → List ℕ
 escaped bytes = flat_map shown_byte bytes

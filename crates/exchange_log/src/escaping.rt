@@ -1,8 +1,8 @@
 //! How bytes of a datagram are shown.
-ghost use Rattle.std.specs.Prelude.{◌≡◌, ◌<◌, ◌++◌, OnOk};
-ghost use Rattle.exchange_log.specs.Escaping.{is_plain, hex_digit, shown_byte, escaped, shown};
+ghost use Rattle.std.specs.Prelude.{◌≡◌, ◌++◌, OnOk};
+ghost use Rattle.exchange_log.specs.Escaping.{is_plain, shown_byte, escaped, shown};
 
-use mg_bytes::{Draft, OutOfMemory};
+use mg_bytes::{Draft, OutOfMemory, hex_digit};
 
 // So many bytes of a value are shown.
 const LONGEST_VALUE: usize = 64;
@@ -11,13 +11,6 @@ fn is_plain(byte: u8) -> bool
     ensures { result ≡ is_plain byte }
 {
     byte >= b' ' && byte <= b'~' && byte != b'\\'
-}
-
-fn hex_digit(value: u8) -> u8
-    requires { value < 16 }
-    ensures { result ≡ hex_digit value }
-{
-    if value < 10 { b'0' + value } else { 87 + value }
 }
 
 fn put_byte(out: &mut Draft, byte: u8)

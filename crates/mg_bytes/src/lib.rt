@@ -34,7 +34,7 @@ pub use crate::item::ListItems;
 pub use crate::letter::{LETTERS, Letter, letter_of};
 pub use crate::letter_case::same_no_case;
 pub use crate::line::Lines;
-pub use crate::number::{decimal, hex_text, put_decimal};
+pub use crate::number::{decimal, hex_digit, hex_text, put_decimal};
 pub use crate::owned::{OutOfMemory, Text};
 pub use crate::return_code::{RETURN_CODES, ReturnCode};
 pub use crate::sequence::Sequence;

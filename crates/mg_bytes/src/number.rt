@@ -1,7 +1,7 @@
 //! Numbers as digits.
 ghost use Rattle.std.specs.Prelude.{◌≡◌, ◌++◌, OnOk, OnErr, decimal as decimal_text, IfSome, ◌<◌, ◌^◌, length};
 ghost use Rattle.std.specs.List.{list_all};
-ghost use Rattle.std.specs.Char.{is_ascii_digit, is_ascii_hexdigit};
+ghost use Rattle.std.specs.Char.{digit_char, is_ascii_digit, is_ascii_hexdigit};
 ghost use Rattle.mg_bytes.specs.Numbers.{is_decimal, decimal_of, is_hex_text};
 
 use crate::owned::OutOfMemory;
@@ -47,6 +47,18 @@ pub fn hex_text(text: &[u8]) -> bool
     ensures { result ≡ is_hex_text text.now }
 {
     text.len() >= 1 && text.len() <= 32 && all_hex_digits(text)
+}
+
+/// The hexadecimal digit of this value: `0` to `9`, and `a` to `f`.
+pub fn hex_digit(value: u8) -> u8
+    requires { value < 16 }
+    ensures { result ≡ digit_char value }
+{
+    if value < 10 {
+        b'0' + value
+    } else {
+        b'a' - 10 + value
+    }
 }
 
 /// Appends a number in decimal digits, without leading zeros. After an error `out` is as it was.

@@ -1,8 +1,7 @@
 //! A trace that is written while its gateway runs: what came in, as lines that can be played again, and behind it what that showed.
 //!
 //! Ticks at which nothing was sent are told together, with what follows them.
-ghost use Rattle.std.specs.Prelude.{◌≡◌, ◌<◌, ◌++◌, codes, decimal};
-ghost use Rattle.std.specs.Char.{digit_char};
+ghost use Rattle.std.specs.Prelude.{◌≡◌, ◌++◌, codes, decimal};
 ghost use Rattle.rgw_scripts.specs.Printing.{printed_line};
 ghost use Rattle.rgw_scripts.specs.Moves.{sends};
 ghost use Rattle.traces.specs.Telling.{told_text};
@@ -10,23 +9,12 @@ ghost use Rattle.traces.specs.Writing.{hex_text, datagram_text, clock_text, at_c
 
 use crate::telling::{put_outputs, put_shown};
 use exchange_log::put_peer;
-use mg_bytes::Draft;
+use mg_bytes::{Draft, hex_digit};
 use plain_machine::OutDatagram;
 use std::net::SocketAddrV4;
 
 // A tick goes on by no more than this, in ms.
 const LONGEST_STEP: u64 = 1000;
-
-fn hex_digit(value: u8) -> u8
-    requires { value < 16 }
-    ensures { result ≡ digit_char value }
-{
-    if value < 10 {
-        b'0' + value
-    } else {
-        b'a' - 10 + value
-    }
-}
 
 fn put_hex(out: &mut Draft, bytes: &[u8])
     ensures { out.new ≡ out.old ++ hex_text bytes.now }
