@@ -5,7 +5,6 @@
 
 mod answers;
 mod backlog;
-mod boxing;
 pub mod examples;
 mod finisher;
 pub mod laws;
@@ -19,7 +18,6 @@ mod written;
 
 pub use crate::answers::{DONE, NO_MEMORY, STOP_FROM_AFAR};
 pub use crate::backlog::{Backlog, TEXT_ROOM};
-pub use crate::boxing::boxed;
 pub use crate::finisher::Finisher;
 pub use crate::now::Now;
 pub use crate::outlet::{Outlet, OutletState};
@@ -28,3 +26,4 @@ pub use crate::reasons::reason_of;
 pub use crate::record::{Record, RecordState};
 pub use crate::stream::{Stream, make_for_owner};
 pub use crate::written::Written;
+pub use mg_bytes::boxed;

@@ -8,11 +8,11 @@ ghost use Rattle.live_outlets.specs.Backlog.{nothing_waits, is_kept, room_left, 
 ghost use Rattle.live_outlets.specs.Recording.{is_refused, is_open, faults_of, said, Says, Notes, KeepsLog, given_up, state_given_up};
 
 use crate::backlog::Backlog;
-use crate::boxing::boxed;
 use crate::reasons::reason_of;
 use crate::record::Record;
 use crate::stream::Stream;
 use exchange_log::{Notice, put_notice};
+use mg_bytes::boxed;
 use std::alloc::{AllocError, Global};
 use std::io::{ErrorKind, Write};
 

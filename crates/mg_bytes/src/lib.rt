@@ -6,6 +6,7 @@
 
 mod address;
 mod blank;
+mod boxing;
 mod code_fault;
 mod draft;
 pub mod examples;
@@ -26,6 +27,7 @@ mod word;
 
 pub use crate::address::{ipv4_address, octets_of, port_number};
 pub use crate::blank::{all_blank, trimmed};
+pub use crate::boxing::boxed;
 pub use crate::code_fault::CodeFault;
 pub use crate::draft::Draft;
 pub use crate::few::Few;

@@ -1,21 +1,12 @@
 //! What rows go on with. Some kinds can be kept as they are, and come back: `keep` and `back` of each such kind.
-use mg_bytes::OutOfMemory;
+use mg_bytes::{OutOfMemory, boxed};
 use scenario_files::{Row, Scenario};
-use std::alloc::{AllocError, Global};
+use std::alloc::Global;
 
 /// A kind that can be kept.
 pub trait Kept: Scenario {
     /// The same once more.
     fn copy(&self, alloc: Global) -> Result<Self, OutOfMemory>;
-}
-
-/// A value in a box, since a check pays at each step of a function for all that is lent to it inline. The only error is want of memory,
-/// at which the value is gone.
-pub fn boxed<T: Drop>(alloc: Global, value: T) -> Result<Box<T>, OutOfMemory> {
-    match Box::new(alloc, value) {
-        Ok(held) => Ok(held),
-        Err(_) => Err(AllocError),
-    }
 }
 
 /// What rows go on with, in a box.
@@ -27,10 +18,9 @@ pub struct Held<T> {
 impl<T: Drop> Held<T> {
     /// The only error is want of memory, at which the value is gone.
     pub fn of(alloc: Global, thing: T) -> Result<Held<T>, OutOfMemory> {
-        match Box::new(alloc, thing) {
-            Ok(thing) => Ok(Held { thing }),
-            Err(_) => Err(AllocError),
-        }
+        Ok(Held {
+            thing: boxed(alloc, thing)?,
+        })
     }
 }
 

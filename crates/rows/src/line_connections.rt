@@ -13,11 +13,11 @@
 //! Behind a row's parameters stand fields that its answer has, or its return code; 0 stands for a value that isn't read.
 mod asked;
 
-use crate::keeping::{Kept, boxed};
+use crate::keeping::Kept;
 use crate::texts::{unless_fields, words_of};
 use asked::{change_of, creation_of, deletion_of, identifier_in};
 use connections::{Connections, Encoding, mode_text, read_encoding};
-use mg_bytes::{CodeFault, OutOfMemory};
+use mg_bytes::{CodeFault, OutOfMemory, boxed};
 use scenario_files::{Outcome, Row, Scenario};
 use sdp_subset::{Session, write_sdp};
 use std::alloc::Global;

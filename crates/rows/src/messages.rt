@@ -10,9 +10,9 @@
 //! - `keep` and `back`: the message as it was once.
 ghost use Rattle.std.specs.Prelude.{◌<◌, ◌^◌};
 
-use crate::keeping::{Kept, boxed};
+use crate::keeping::Kept;
 use crate::values::names::route_to;
-use mg_bytes::OutOfMemory;
+use mg_bytes::{OutOfMemory, boxed};
 use mgcp_text::TransactionId;
 use outbound::{Pending, Repeat, Reply};
 use scenario_files::{Outcome, Row, Scenario, said, value_of};
