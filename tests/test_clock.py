@@ -10,7 +10,7 @@ import pytest
 from running import FREE, LONG, Bench, Program, command, ran, until
 
 LOG_LINE = re.compile(r"(?m)^(\d{4}-\d\d-\d\dT\d\d:\d\d:\d\d\.\d{3})Z ")
-# The system's clocks; where the file SET_ON is, the time of day is an hour on.
+# The system's clocks; where the file SET_ON is, the time of day is an hour on, and where LOST is, there is none.
 CLOCKS = """#define _GNU_SOURCE
 #include <stdlib.h>
 #include <sys/syscall.h>
@@ -18,6 +18,7 @@ CLOCKS = """#define _GNU_SOURCE
 #include <unistd.h>
 int clock_gettime(clockid_t id, struct timespec *now) {
     int failed = (int)syscall(SYS_clock_gettime, id, now);
+    if (id == CLOCK_REALTIME && access(getenv("LOST"), F_OK) == 0) return -1;
     if (id == CLOCK_REALTIME && access(getenv("SET_ON"), F_OK) == 0) now->tv_sec += 3600;
     return failed;
 }
@@ -34,6 +35,11 @@ def utc() -> datetime.datetime:
 def times(log: str) -> list[datetime.datetime]:
     """The times of a log's lines."""
     return [datetime.datetime.fromisoformat(it) for it in LOG_LINE.findall(log)]
+
+
+def are_since(began: datetime.datetime, log: str) -> bool:
+    """Whether all times of a log are those of a run that began then."""
+    return all(-1 < (it - began).total_seconds() < 2 * LONG for it in times(log))
 
 
 def test_stop_after(bench: Bench) -> None:
@@ -84,7 +90,7 @@ def test_log_has_the_time_of_day(bench: Bench) -> None:
     time.sleep(0.3)
     assert bench.audit(program)
     _, said, _ = program.stop()
-    assert all(-1 < (it - began).total_seconds() < 2 * LONG for it in times(said))
+    assert are_since(began, said)
     assert 0.3 <= (times(said)[-1] - times(said)[0]).total_seconds() < LONG
 
 
@@ -99,10 +105,10 @@ def test_no_processor_is_used_where_nothing_comes(bench: Bench) -> None:
 
 @pytest.fixture
 def clocks(tmp_path: Path) -> dict[str, str]:
-    """An environment in which a program's time of day is an hour on as soon as the file SET_ON is there."""
+    """An environment in which a program's time of day is an hour on as soon as the file SET_ON is there, and lost by the file LOST."""
     (tmp_path / "clocks.c").write_text(CLOCKS)
     subprocess.run(["cc", "-shared", "-fPIC", "-o", "clocks.so", "clocks.c"], cwd=tmp_path, check=True)
-    return {**os.environ, "LD_PRELOAD": f"{tmp_path}/clocks.so", "SET_ON": f"{tmp_path}/on"}
+    return {**os.environ, "LD_PRELOAD": f"{tmp_path}/clocks.so", "SET_ON": f"{tmp_path}/on", "LOST": f"{tmp_path}/lost"}
 
 
 def test_log_notes_that_the_time_of_day_was_set(bench: Bench, clocks: dict[str, str]) -> None:
@@ -110,6 +116,17 @@ def test_log_notes_that_the_time_of_day_was_set(bench: Bench, clocks: dict[str, 
     assert until(lambda: "> 200 1 OK" in program.logged())
     Path(clocks["SET_ON"]).touch()
     assert bench.audit(program) and re.search(NOTED + "AUEP 7 ", program.stop()[1])
+
+
+def test_log_goes_on_where_the_machine_has_no_time_of_day(bench: Bench, clocks: dict[str, str]) -> None:
+    """While the machine has none, the log goes on from that of the start."""
+    began = utc()
+    program = bench.gateway("--log", env=clocks)
+    assert until(lambda: "> 200 1 OK" in program.logged())
+    Path(clocks["LOST"]).touch()
+    assert bench.audit(program)
+    said = program.stop()[1]
+    assert " > AUEP 7 " in said and are_since(began, said)
 
 
 def test_log_of_an_agent_notes_that_the_time_of_day_was_set(bench: Bench, clocks: dict[str, str]) -> None:
