@@ -1,9 +1,13 @@
 """The suite's fixtures, and what is shown of a test that fails."""
-from collections.abc import Iterator
+import os
+from collections.abc import Callable, Iterator
 from pathlib import Path
 from typing import Any
 
 import pytest
+from browser import Browser
+from page import STUB, Page, as_it_stands
+from rgw_bench.relay import Relay
 from running import Bench, command
 
 
@@ -24,6 +28,40 @@ def bench(tmp_path: Path) -> Iterator[Bench]:
     made = Bench(tmp_path)
     yield made
     made.close()
+
+
+@pytest.fixture
+def relay() -> Iterator[Callable[..., Relay]]:
+    """Starts relays, as `rgw_bench.relay.Relay` takes its words; they end with the test."""
+    made: list[Relay] = []
+
+    def started(*words: Any, **more: Any) -> Relay:
+        made.append(Relay(*words, **more))
+        made[-1].start()
+        return made[-1]
+
+    yield started
+    for it in made:
+        it.close()
+
+
+@pytest.fixture(scope="session")
+def browser(tmp_path_factory: pytest.TempPathFactory) -> Iterator[Browser]:
+    """A browser, in whose pages nothing sounds."""
+    made = Browser(tmp_path_factory.mktemp("browser"), as_it_stands() if os.environ.get("PAGE") else {})
+    made.ask("Page.addScriptToEvaluateOnNewDocument", source=STUB)
+    yield made
+    made.end()
+
+
+@pytest.fixture
+def page(bench: Bench, browser: Browser, request: pytest.FixtureRequest) -> Iterator[Callable[..., Page]]:
+    """Opens the page of a gateway with so many lines; it may complain about nothing."""
+    yield lambda *words, **more: Page(bench, browser, *words, **more)
+    if folder := os.environ.get("SHOTS"):
+        browser.shoot(folder, request.node.name)
+    browser.open("about:blank")
+    assert not browser.faults()
 
 
 @pytest.hookimpl(hookwrapper=True)  # type: ignore[misc]

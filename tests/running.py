@@ -104,6 +104,11 @@ def link(path: str) -> str:
         return ""
 
 
+def spent(pid: int) -> float:
+    """Seconds of a processor that a process of one thread has used."""
+    return int(Path(f"/proc/{pid}/schedstat").read_text().split()[0]) / 1e9
+
+
 def hears_signals(before: Callable[[], object] | None = None) -> Callable[[], None]:
     """What a child does before it becomes a program: it ignores no ending signal that whoever runs the tests ignores, and does this."""
 
@@ -193,8 +198,7 @@ class Program:
 
     def spent(self) -> float:
         """Seconds of a processor that it has used."""
-        fields = Path(f"/proc/{self.process.pid}/stat").read_text().rpartition(")")[2].split()
-        return (int(fields[11]) + int(fields[12])) / os.sysconf("SC_CLK_TCK")
+        return spent(self.process.pid)
 
     def close(self) -> None:
         """Ends it at once, and closes what is open here."""
@@ -222,13 +226,14 @@ class Bench:
         self.programs.append(Program(words, log, **how))
         return self.programs[-1]
 
-    def config(self, port: int | None = None, name: str = "gateway.toml", domain: str = "rgw.example.net", lines: int = 2) -> str:
+    def config(self, port: int | None = None, name: str = "gateway.toml", domain: str = "rgw.example.net", lines: int = 2,
+               host: str = "127.0.0.1") -> str:
         """The path of a configuration of a gateway, whose agent is at this port: by default the test's own."""
         port = self.agent.getsockname()[1] if port is None else port
         path = self.folder / name
         path.write_text(
             f'domain = "{domain}"\nlines = {lines}\nagent = "ca@[127.0.0.1]:{port}"\nrestart_wait = 10\ndisconnected_wait = 1000\n'
-            'media_address = "127.0.0.1"\nmedia_base = 3000\nnames = {}\n'
+            f'media_address = "{host}"\nmedia_base = 3000\nnames = {{}}\n'
         )
         return str(path)
 

@@ -1,23 +1,26 @@
 """The page's own socket: who is let in, answered and let go."""
+import json
 import os
 import resource
+import select
+import shutil
 import socket
 import time
 
 import pytest
-from running import Address, Bench, Program
+from page import asked
+from running import Address, Bench, Program, heard, ran
+
+# What lifts the handset of line 2, as the page posts it.
+ACT, KIND = b'{"line": 2, "act": "off"}', "application/json"
 
 
-def asked(address: Address, path: str = "/", host: str = "") -> bytes:
-    """What the page answers to a visitor who says a little later what they want, and of which host: by default that of its address."""
-    with socket.create_connection(address, timeout=10) as visitor:
+def visited(address: Address, by: str = "") -> bytes:
+    """What the page answers to a visitor from this address who says a little later what they want."""
+    with socket.create_connection(address, 10, (by, 0)) as visitor:
         time.sleep(0.2)
-        host = host or "%s:%d" % address
-        visitor.sendall(f"GET {path} HTTP/1.1\r\nHost: {host}\r\nConnection: close\r\n\r\n".encode())
-        told = b""
-        while piece := visitor.recv(65536):
-            told += piece
-        return told
+        visitor.sendall(b"GET / HTTP/1.1\r\nHost: %s:%d\r\nConnection: close\r\n\r\n" % (address[0].encode(), address[1]))
+        return b"".join(iter(lambda: visitor.recv(65536), b""))
 
 
 @pytest.fixture
@@ -35,14 +38,57 @@ def test_who_asks_for_nothing_is_let_go_after_15_s(gateway: Program) -> None:
 
 def test_page_answers_each_visitor(gateway: Program) -> None:
     for _ in range(2):
-        answer = asked(gateway.addresses[2])
+        answer = visited(gateway.addresses[2])
         assert answer.startswith(b"HTTP/1.1 200 ") and answer.endswith(b"</html>\n")
 
 
-@pytest.mark.parametrize("host, status", [("rgw.example.net", b"200"), ("rgw.example.com", b"421")])
-def test_named_hosts(gateway: Program, host: str, status: bytes) -> None:
+def test_sixteen_idle_visitors_keep_nobody_out(gateway: Program) -> None:
+    """Nor eight of an address its ninth, long before they are let go; whoever was idle longest gives way."""
+    site = gateway.addresses[2]
+    silent = [[socket.create_connection(site, 5, (by, 0)) for _ in range(8)] for by in ("127.0.0.2", "127.0.0.3")]
+    time.sleep(0.3)
+    for by in ("127.0.0.4", "127.0.0.3"):
+        assert visited(site, by).startswith(b"HTTP/1.1 200 ")
+    ready = select.select(silent[0] + silent[1], [], [], 1)[0]
+    assert ready == [silent[0][0], silent[1][0]]
+    for visitor in silent[0] + silent[1]:
+        visitor.close()
+
+
+@pytest.mark.parametrize("host, status", [("rgw.example.net", 200), ("rgw.example.com", 421)])
+def test_named_hosts(gateway: Program, host: str, status: int) -> None:
     """--http-host names a host under which the counts are served."""
-    assert asked(gateway.addresses[2], "/metrics", host)[:13] == b"HTTP/1.1 " + status + b" "
+    assert asked(gateway.addresses[2], "GET", "/metrics", Host=host)[0] == status
+
+
+def test_other_sites_are_refused(gateway: Program) -> None:
+    """As what a browser may send in the name of another page, and what can't be read."""
+    site = gateway.addresses[2]
+    here, evil = "http://%s:%d" % site, "http://evil.example"
+    assert asked(site, "GET", "/state", Host="evil.example")[0] == 421
+    assert asked(site, "POST", "/phone", ACT, Host=f"evil.example:{site[1]}", Origin=here, Content_Type=KIND)[0] == 421
+    refused: list[tuple[int, str, str, bytes | None, dict[str, str]]] = [
+        (403, "POST", "/phone", ACT, {"Origin": evil, "Content_Type": KIND}), (403, "POST", "/phone", ACT, {"Content_Type": KIND}),
+        (403, "POST", "/phone", ACT, {"Origin": here, "Content_Type": "text/plain"}), (405, "GET", "/phone", None, {}),
+        (405, "POST", "/state", ACT, {"Origin": here, "Content_Type": KIND}), (404, "GET", "/other", None, {}),
+        (400, "POST", "/phone", b"{}", {"Origin": here, "Content_Type": KIND}),
+        (413, "POST", "/phone", b" " * 5000, {"Origin": here, "Content_Type": KIND}),
+    ]
+    for status, method, path, body, fields in refused:
+        assert asked(site, method, path, body, **fields)[0] == status, (method, path, fields)
+    assert json.loads(asked(site, "GET", "/state")[1])["lines"][1]["hook"] == "on"
+    assert asked(site, "POST", "/phone", ACT, Origin=here, Content_Type=KIND)[0] == 202
+
+
+def test_metrics(gateway: Program, bench: Bench) -> None:
+    """Commands are counted by verb; promtool, where it is there, takes them."""
+    bench.agent.sendto(b"RQNT 7 aaln/1@rgw.example.net MGCP 1.0\r\nX: 1\r\n", gateway.address)
+    assert heard(bench.agent).startswith(b"200 7 ")
+    status, text = asked(gateway.addresses[2], "GET", "/metrics")
+    assert status == 200 and 'rgw_commands_total{verb="RQNT"} 1\n' in text
+    if shutil.which("promtool"):
+        checked = ran(["promtool", "check", "metrics"], input=text, stdin=None)
+        assert checked[0] == 0, checked
 
 
 def test_visitor_waits_while_no_file_is_free(gateway: Program) -> None:

@@ -29,14 +29,20 @@ class To(Enum):
     MEANT, AGENT, GATEWAY = range(3)
 
 
+def always() -> bool:
+    """It is wanted."""
+    return True
+
+
 @dataclass(frozen=True)
 class Out:
-    """A message that goes out: where to, how much later, in s, and whether from another port than the front."""
+    """A message that goes out: where to, how much later, in s, whether from another port than the front, and whether it still does."""
 
     text: str
     to: To = To.MEANT
     later: float = 0.0
     is_elsewhere: bool = False
+    is_wanted: Callable[[], bool] = always
 
 
 def unchanged(message: str) -> str | None:
@@ -97,16 +103,17 @@ def free_port(host: str) -> int:
 
 
 class Proxy(threading.Thread):
-    """Serves in a thread of its own until `close`; `fault` may be replaced at any time."""
+    """Serves in a thread of its own until `close`; `fault` may be replaced at any time. Without `is_everywhere` what the gateway is told by
+    N to send elsewhere goes there by itself."""
 
-    def __init__(self, gateway: Address, agent: Address, host: str = "127.0.0.1") -> None:
+    def __init__(self, gateway: Address, agent: Address, host: str = "127.0.0.1", is_everywhere: bool = True) -> None:
         super().__init__(daemon=True)
-        self.gateway, self.agent, self.fault = gateway, agent, Fault()
+        self.gateway, self.agent, self.fault, self.is_everywhere = gateway, agent, Fault(), is_everywhere
         self.selector = selectors.DefaultSelector()
         self.backs: dict[Address, socket.socket] = {}
         self.homes: dict[Address, socket.socket] = {}
         self.commands: dict[str, str] = {}
-        self.due: list[tuple[float, int, socket.socket, bytes, Address]] = []
+        self.due: list[tuple[float, int, socket.socket, Out, Address]] = []
         self.order = itertools.count()
         self.is_open = True
         self.front, self.home = self.opened(host, None), self.opened(host, agent)
@@ -135,7 +142,7 @@ class Proxy(threading.Thread):
             host, port = self.homes[client].getsockname()
             return f"{found[1]}[{host}]:{port}"
 
-        return ENTITY.sub(here, message)
+        return ENTITY.sub(here, message) if self.is_everywhere else message
 
     def named_there(self, message: str) -> str:
         """The message of the gateway with the notified entity's address in place of the proxy's."""
@@ -185,7 +192,7 @@ class Proxy(threading.Thread):
         for out in outs:
             by = self.home if out.to is To.GATEWAY else self.other if out.is_elsewhere else self.front
             to = {To.MEANT: client, To.AGENT: self.agent, To.GATEWAY: self.gateway}[out.to]
-            heapq.heappush(self.due, (time.monotonic() + out.later, next(self.order), by, out.text.encode("latin-1"), to))
+            heapq.heappush(self.due, (time.monotonic() + out.later, next(self.order), by, out, to))
 
     def run(self) -> None:
         while self.is_open:
@@ -202,8 +209,9 @@ class Proxy(threading.Thread):
                 else:
                     self.give(datagram, key.data)
             while self.due and self.due[0][0] <= time.monotonic():
-                _, _, by, data, to = heapq.heappop(self.due)
-                by.sendto(data, to)
+                _, _, by, out, to = heapq.heappop(self.due)
+                if out.is_wanted():
+                    by.sendto(out.text.encode("latin-1"), to)
 
     def close(self) -> None:
         """Ends the thread and closes its sockets."""

@@ -24,12 +24,12 @@ class Site:
     `hook` takes `act LINE ACT` and `restart` as datagrams, and answers `done`, or `! ` and why not.
     """
 
-    def __init__(self, folder: Path) -> None:
-        self.folder = folder
+    def __init__(self, folder: Path, lines: int = len(LINES), is_everywhere: bool = True) -> None:
+        self.folder, self.lines = folder, lines
         self.own: Address = (HOST, free_port(HOST))
         self.place: Address = (HOST, free_port(HOST))
         self.phones: Address = (HOST, free_port(HOST))
-        self.proxy = Proxy(self.place, self.own, HOST)
+        self.proxy = Proxy(self.place, self.own, HOST, is_everywhere)
         self.gateway: Address = self.proxy.front.getsockname()
         self.asked = bound((HOST, 0))
         self.hook: Address = self.asked.getsockname()
@@ -39,7 +39,7 @@ class Site:
 
     def __enter__(self) -> Site:
         self.configuration().write_text(
-            f'domain = "{DOMAIN}"\nlines = {len(LINES)}\nagent = "ca@[{HOST}]:{self.proxy.home.getsockname()[1]}"\n'
+            f'domain = "{DOMAIN}"\nlines = {self.lines}\nagent = "ca@[{HOST}]:{self.proxy.home.getsockname()[1]}"\n'
             f"restart_wait = {RESTART_WAIT}\ndisconnected_wait = {DISCONNECTED_WAIT}\n"
             f'media_address = "{HOST}"\nmedia_base = 3000\n[names]\n'
         )
