@@ -6,6 +6,7 @@ use Rattle.std.specs.declared.net.socket_addr.SocketAddrV4.{SocketAddrV4}
 use Rattle.mg_bytes.specs.Lines.{cut}
 use Rattle.mg_bytes.specs.Lists.{is_empty}
 use Rattle.surroundings.specs.declared.lines.Lines.{Lines}
+use Rattle.surroundings.specs.Around.{Around}
 use Rattle.surroundings.specs.Requests.{requests_from, is_own}
 use Rattle.surroundings.specs.Typing.{left_of}
 
@@ -29,11 +30,10 @@ Looked sockets None room was taken is = (taken ≡ false) × (is ≡ was)
 Looked sockets (Some found) room was taken is = (taken ≡ true) × Takes sockets found.0 (take found.1 room) was is
 
 -- Where a line is left, it isn't looked for more. Else it is looked once, with room for so much, and what that gives is taken.
-pub record Hears {S : Type 0} (sockets : S → List SocketAddrV4) (hears : S → Option (SocketAddr × ℕ) → List ℕ → S → Type 0) (before : S)
-    (was : Lines) (taken : Bool) (after : S) (is : Lines) : Type 0 where
+pub record Hears {S : Type 0} (around : Around S) (before : S) (was : Lines) (taken : Bool) (after : S) (is : Lines) : Type 0 where
   pub waits : is_empty (left_of was) ≡ false → (taken ≡ false) × (is ≡ was) × (after ≡ before)
   pub looks : is_empty (left_of was) ≡ true → (found : Option (SocketAddr × ℕ)) × (room : List ℕ) × (length room ≡ most_typed)
-      × hears before found room after × Looked (sockets after) found room was taken is
+      × around.hears before found room after × Looked (around.sockets after) found room was taken is
 
 -- it is answered to who sent the lines; where nobody did, nobody is told
 abbrev pub AnswersTo : {S : Type 0} → (S → SocketAddr → List ℕ → S → Type 0) → Option SocketAddr → S → List ℕ → S → Type 0

@@ -1,4 +1,5 @@
 pub mod Sending
+pub mod Around
 pub mod Keeping
 pub mod Waiting
 pub mod Requests

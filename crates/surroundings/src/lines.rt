@@ -116,8 +116,8 @@ fn next_place(text: &[u8], begin: usize) -> usize
 
 // This is answered to who sent the lines, where somebody did.
 fn reply<S: Surroundings>(around: &mut S, sender: Option<SocketAddr>, text: &[u8])
-    ensures answered { AnswersTo S.answers sender around.old text.now around.new }
-    ensures traffic { S.traffic around.new ≡ S.traffic around.old }
+    ensures answered { AnswersTo S.around.answers sender around.old text.now around.new }
+    ensures traffic { S.around.traffic around.new ≡ S.around.traffic around.old }
 {
     if let Some(sender) = sender {
         around.answer(sender, text);
@@ -265,9 +265,9 @@ impl Lines {
     // It is looked once for lines.
     fn look<S: Surroundings>(&mut self, around: &mut S) -> bool
         ensures looks { (found : Option (Sender × ℕ)) × (room : List ℕ) × (length room ≡ most_typed)
-            × S.hears around.old found room around.new × Looked (S.sockets around.new) found room self.old result self.new }
+            × S.around.hears around.old found room around.new × Looked (S.around.sockets around.new) found room self.old result self.new }
         ensures same { result ≡ false → self.new ≡ self.old }
-        ensures traffic { S.traffic around.new ≡ S.traffic around.old }
+        ensures traffic { S.around.traffic around.new ≡ S.around.traffic around.old }
         ensures room { vec_capacity self.old.text ≤ vec_capacity self.new.text }
     {
         let mut room = [0u8; ROOM];
@@ -279,10 +279,10 @@ impl Lines {
     /// Takes a datagram of lines, where one has come and no line is left of the one before: whether one was taken. Nothing is made of one
     /// that came from the program's own sockets.
     pub fn hear<S: Surroundings>(&mut self, around: &mut S) -> bool
-        ensures heard { Hears S.sockets S.hears around.old self.old result around.new self.new }
+        ensures heard { Hears S.around around.old self.old result around.new self.new }
         ensures waits { is_empty (left_of self.old) ≡ false → result ≡ false }
         ensures same { result ≡ false → self.new ≡ self.old }
-        ensures traffic { S.traffic around.new ≡ S.traffic around.old }
+        ensures traffic { S.around.traffic around.new ≡ S.around.traffic around.old }
         ensures room { vec_capacity self.old.text ≤ vec_capacity self.new.text }
     {
         if !self.is_empty() {
@@ -303,10 +303,10 @@ impl Lines {
 
     /// Answers the line, and goes on to the next.
     pub fn answer<S: Surroundings>(&mut self, around: &mut S, text: &[u8])
-        ensures answered { AnswersTo S.answers self.old.sender around.old text.now around.new }
+        ensures answered { AnswersTo S.around.answers self.old.sender around.old text.now around.new }
         ensures left { left_of self.new ≡ requests_from (behind (left_of self.old)) }
         ensures sender { self.new.sender ≡ self.old.sender }
-        ensures traffic { S.traffic around.new ≡ S.traffic around.old }
+        ensures traffic { S.around.traffic around.new ≡ S.around.traffic around.old }
         ensures room { vec_capacity self.new.text ≡ vec_capacity self.old.text }
     {
         reply(around, self.sender, text);
@@ -315,10 +315,10 @@ impl Lines {
 
     /// Answers the line together with all that stands behind it in its datagram.
     pub fn answer_all<S: Surroundings>(&mut self, around: &mut S, text: &[u8])
-        ensures answered { AnswersTo S.answers self.old.sender around.old text.now around.new }
+        ensures answered { AnswersTo S.around.answers self.old.sender around.old text.now around.new }
         ensures left { left_of self.new ≡ [] }
         ensures sender { self.new.sender ≡ self.old.sender }
-        ensures traffic { S.traffic around.new ≡ S.traffic around.old }
+        ensures traffic { S.around.traffic around.new ≡ S.around.traffic around.old }
         ensures room { vec_capacity self.new.text ≡ vec_capacity self.old.text }
     {
         reply(around, self.sender, text);

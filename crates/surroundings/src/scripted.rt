@@ -273,29 +273,21 @@ fn is_asked(what: &Happening, is_lines: bool) -> bool {
 }
 
 impl Surroundings for Scripted {
-    ghost use Rattle.std.specs.Prelude.{◌≡◌, ⊤, Ok};
+    ghost use Rattle.std.specs.Prelude.{◌≡◌, Ok};
+    ghost use Rattle.surroundings.specs.Around.{unasked};
     ghost use Rattle.surroundings.specs.Keeping.{told_by, Answers, Receives, Sends};
     ghost use Rattle.surroundings.specs.Waiting.{time_at, Waits};
 
-    ghost traffic = { told_by };
-
-    ghost sockets = { λ around. around.own };
-
-    ghost passes = { λ around given. given ≡ Ok around.moment };
-
-    ghost dates = { λ around time. time ≡ time_at around.moment };
-
-    ghost tells = { λ around given. ⊤ };
-
-    ghost sleeps = { Waits };
-
-    ghost receives = { Receives };
-
-    ghost sends = { λ was to bytes outcome is. Sends was to bytes is };
-
-    ghost hears = { λ was given room is. ⊤ };
-
-    ghost answers = { Answers };
+    ghost around = { record unasked {
+      traffic = told_by;
+      sockets = λ around. around.own;
+      passes = λ around given. given ≡ Ok around.moment;
+      dates = λ around time. time ≡ time_at around.moment;
+      sleeps = Waits;
+      receives = Receives;
+      sends = λ was to bytes outcome is. Sends was to bytes is;
+      answers = Answers;
+    } };
 
     fn moment(&self) -> Result<u64, Fault> {
         Ok(self.moment)

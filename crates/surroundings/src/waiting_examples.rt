@@ -1,7 +1,7 @@
 //! Worked examples of what a wait by a script comes to, as theorems.
 #![tactic(auto, unfolding(crate::proofs::Computing::on_examples))]
 
-ghost use Rattle.std.specs.Prelude.{◌≡◌, ◌∷◌, ⊤, ℕ, Bool, [], false, true, length, drop, Some, None, Err};
+ghost use Rattle.std.specs.Prelude.{◌≡◌, ◌∷◌, ℕ, Bool, [], false, true, length, drop, Some, None, Err};
 ghost use Rattle.mg_bytes.specs.Lists.{is_empty};
 ghost use Rattle.surroundings.specs.declared.lines.Lines.{Lines};
 ghost use Rattle.surroundings.specs.declared.scripted.Coming.{Coming};
@@ -9,6 +9,7 @@ ghost use Rattle.surroundings.specs.declared.scripted.Happening.{Happening};
 ghost use Rattle.surroundings.specs.declared.scripted.Happening.TheVariants.{Pause, SendFault, ReceiveFault};
 ghost use Rattle.surroundings.specs.declared.scripted.Scripted.{Scripted};
 ghost use Rattle.surroundings.specs.declared.surroundings.Fault.{Fault};
+ghost use Rattle.surroundings.specs.Around.{unasked};
 ghost use Rattle.surroundings.specs.Hearing.{Hears};
 ghost use Rattle.surroundings.specs.Typing.{left_of};
 ghost use Rattle.surroundings.specs.Waiting.{time_at, next_by, Happens, HappensFirst, Leaves, GoesOn, Waits};
@@ -41,6 +42,6 @@ pub fn each_sentence_has_an_example()
     ensures never_fails { (fault : Fault) (was is : Scripted) → Waits was 500 (Err fault) is → ⊥ }
     // Lines are read into a room for 4,096 bytes.
     ensures room { (before after : ℕ) (was is : Lines) (taken : Bool)
-        (heard : Hears (λ around. []) (λ around found room left. ⊤) before was taken after is) (none : is_empty (left_of was) ≡ true)
+        (heard : Hears {S = ℕ} unasked before was taken after is) (none : is_empty (left_of was) ≡ true)
         → length (heard.looks none).1 ≡ 4096 }
 {}
