@@ -1,5 +1,5 @@
 -- What the network that spoils what goes over a wire hands over, packet by packet.
-use Rattle.std.proofs.Common.{◌≡◌, ℕ, ◌+◌, true, false, List, [], ◌∷◌, ◌++◌, length, Option, Some, None, Result, Ok, Err, inl, inr, refl, sym, ap, subst, ◌∙◌, arith}
+use Rattle.std.proofs.Common.{◌≡◌, ℕ, ◌+◌, true, false, List, [], ◌∷◌, ◌++◌, length, Option, Some, None, Result, Ok, Err, inl, inr, refl, sym, ap, subst, arith}
 use Rattle.std.specs.Prelude.{⊤}
 use Rattle.std.specs.declared.net.socket_addr.SocketAddrV4.{SocketAddrV4}
 use Rattle.agent_texts.specs.declared.tally.Tally.{Tally}
@@ -7,6 +7,7 @@ use Rattle.bad_network.specs.declared.network.BadNetwork.{BadNetwork}
 use Rattle.bad_network.specs.declared.packet.Packet.{Packet}
 use Rattle.bad_network.specs.declared.packet.Way.{Way}
 use Rattle.bad_network.specs.declared.packet.Way.TheVariants.{In, Out}
+use Rattle.surroundings.specs.Around.{Around}
 use Rattle.surroundings.specs.declared.surroundings.Fault.{Fault}
 use Rattle.live_agent.specs.declared.wire.Wire.{Wire}
 use Rattle.live_agent.specs.Handing.{comes_in, HandsFirst, Offers, OffersTo, SendsEachOn, SendsOn}
@@ -51,9 +52,9 @@ one_longer [] packet count long = ap (λ (n : ℕ). n + 1) long
 one_longer (first ∷ more) packet count long =
     let so_far : length (more ++ packet ∷ []) ≡ length more + 1 = one_longer more packet (length more) refl in omega (arith, so_far, long)
 
-module _ {S : Type 0} (sends : S → SocketAddrV4 → List ℕ → Result ⊤ Fault → S → Type 0) where
-  pub sent_on : (packets : List Packet) (packet : Packet) (was between is : Wire S) → SendsEachOn sends packets was between
-      → SendsOn sends packet between is → SendsEachOn sends (packets ++ packet ∷ []) was is
-  sent_on [] packet was between is so_far next = (is, subst (λ (one : Wire S). SendsOn sends packet one is) so_far next, refl)
+module _ {S : Type 0} (around : Around S) where
+  pub sent_on : (packets : List Packet) (packet : Packet) (was between is : Wire S) → SendsEachOn around packets was between
+      → SendsOn around packet between is → SendsEachOn around (packets ++ packet ∷ []) was is
+  sent_on [] packet was between is so_far next = (is, subst (λ (one : Wire S). SendsOn around packet one is) so_far next, refl)
   sent_on (first ∷ more) packet was between is so_far next =
       (so_far.0, so_far.1, sent_on more packet so_far.0 between is so_far.2 next)

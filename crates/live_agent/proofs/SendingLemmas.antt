@@ -1,13 +1,13 @@
 -- What goes over a wire leaves the rest of it, however much that is.
 use Rattle.std.proofs.Common.{◌≡◌, ℕ, Bool, true, false, List, [], ◌∷◌, Option, Some, None, Result, Ok, Err, sym, ap, subst, ◌∙◌}
-use Rattle.std.specs.Prelude.{⊤, is_some}
+use Rattle.std.specs.Prelude.{is_some}
 use Rattle.std.specs.declared.net.socket_addr.SocketAddrV4.{SocketAddrV4}
 use Rattle.call_agent.specs.declared.issuing.Issued.{Issued}
 use Rattle.call_agent.specs.declared.issuing.IssueFault.{IssueFault}
 use Rattle.gateway_rules.specs.declared.refusal.Refusal.{Refusal}
 use Rattle.transmission.specs.declared.output.OutDatagram.{OutDatagram}
 use Rattle.live_agent.specs.declared.wire.Wire.{Wire}
-use Rattle.surroundings.specs.declared.surroundings.Fault.{Fault}
+use Rattle.surroundings.specs.Around.{Around}
 use Rattle.bad_network.specs.declared.network.BadNetwork.{BadNetwork}
 use Rattle.bad_network.specs.declared.packet.Way.TheVariants.{Out}
 use Rattle.live_agent.specs.Handing.{Leaves, OffersTo}
@@ -60,23 +60,23 @@ module _ {S : Type 0} where
       ap (λ (one : Wire S). record one { is_behind = is_so }) begins
       ∙ ap (λ (is_behind : Bool). record was { now = record was.now { time = begun.now.time }; is_behind = is_behind }) known_is
 
-module _ {S : Type 0} (sends : S → SocketAddrV4 → List ℕ → Result ⊤ Fault → S → Type 0) where
+module _ {S : Type 0} (around : Around S) where
   -- each of these was sent
-  pub all_over : (is_repeat : Bool) (datagrams : List OutDatagram) (was is : Wire S) → SendsAll sends is_repeat datagrams was is → SendsOver was is
+  pub all_over : (is_repeat : Bool) (datagrams : List OutDatagram) (was is : Wire S) → SendsAll around is_repeat datagrams was is → SendsOver was is
   all_over is_repeat [] was is goes = over_none was is goes
   all_over is_repeat (datagram ∷ more) was is goes =
       sent_more was goes.0 is goes.1.over (all_over is_repeat more goes.0 is goes.2)
 
   pub outputs_over : (is_repeat : Bool) (outputs : Result (List OutDatagram) Refusal) (went_on : Bool) (was is : Wire S)
-      → SendsOutputs sends is_repeat outputs went_on was is → SendsOver was is
+      → SendsOutputs around is_repeat outputs went_on was is → SendsOver was is
   outputs_over is_repeat (Ok outputs) went_on was is goes = all_over is_repeat outputs was is goes.1
   outputs_over is_repeat (Err refusal) went_on was is goes = over_journal was is goes.1
 
   -- a command was
-  pub command_over : (datagram : OutDatagram) (was is : Wire S) → SendsCommand sends datagram was is → SendsOver was is
+  pub command_over : (datagram : OutDatagram) (was is : Wire S) → SendsCommand around datagram was is → SendsOver was is
   command_over datagram was is goes = sent_more was goes.counted is (over_journal was goes.counted goes.rest) goes.goes.over
 
-  pub issued_over : (issued : Result (Option Issued) IssueFault) (was is : Wire S) → SendsIssued sends issued was is → SendsOver was is
+  pub issued_over : (issued : Result (Option Issued) IssueFault) (was is : Wire S) → SendsIssued around issued was is → SendsOver was is
   issued_over (Ok None) was is goes = over_none was is goes
   issued_over (Ok (Some issued)) was is goes = command_over issued.datagram was is goes
   issued_over (Err fault) was is goes = over_journal was is goes.0
@@ -84,11 +84,11 @@ module _ {S : Type 0} (sends : S → SocketAddrV4 → List ℕ → Result ⊤ Fa
   -- it went out, where a network spoils it or none does
   pub goes_offered : (to : SocketAddrV4) (bytes : List ℕ) (network : Option BadNetwork) (was is : Wire S) → is_some network ≡ true
       → OffersTo Out to bytes was.now.clock network is.network was.journal.value.tally is.journal.value.tally
-      → OnlyNotes was.journal.value is.journal.value → is ≡ record was { network = is.network; journal = is.journal } → GoesOut sends to bytes network was is
+      → OnlyNotes was.journal.value is.journal.value → is ≡ record was { network = is.network; journal = is.journal } → GoesOut around to bytes network was is
   goes_offered to bytes None was is some offers notes rest = absurd cc
   goes_offered to bytes (Some network) was is some offers notes rest = (offers, notes, rest)
 
   pub goes_leaving : (to : SocketAddrV4) (bytes : List ℕ) (network : Option BadNetwork) (was between is : Wire S) → is_some network ≡ false
-      → between ≡ was → Leaves sends to bytes between is → GoesOut sends to bytes network was is
-  goes_leaving to bytes None was between is none same leaves = subst (λ (one : Wire S). Leaves sends to bytes one is) same leaves
+      → between ≡ was → Leaves around to bytes between is → GoesOut around to bytes network was is
+  goes_leaving to bytes None was between is none same leaves = subst (λ (one : Wire S). Leaves around to bytes one is) same leaves
   goes_leaving to bytes (Some network) was between is none same leaves = absurd cc

@@ -2,9 +2,8 @@
 use Rattle.std.proofs.Common.{◌≡◌, inl, ℕ, ◌+◌, suc, Bool, true, false, Result, Ok, refl, sym, ap, subst, ◌∙◌, arith}
 use Rattle.std.specs.Prelude.{⊤, not, List, Option}
 use Rattle.agent_texts.specs.declared.journal.Journal.{Journal}
-use Rattle.surroundings.specs.Sending.{Traffic}
+use Rattle.surroundings.specs.Around.{Around}
 use Rattle.surroundings.specs.declared.surroundings.Fault.{Fault}
-use Rattle.surroundings.specs.declared.surroundings.Told.{Told}
 use Rattle.switchboard.specs.declared.gateway.Gateway.{Gateway}
 use Rattle.switchboard.specs.declared.switchboard.Switchboard.{Switchboard}
 use Rattle.turns.specs.Schedule.{opening}
@@ -36,11 +35,11 @@ module _ {S W : Type 0} (writes : W → Journal → ℕ → W → Journal → Ty
       }
 
 -- it waited so long that it is until a moment, and no longer than to what falls due
-pub waited_until : {S : Type 0} (traffic : S → Traffic) (sleeps : S → ℕ → Result ⊤ Fault → S → Type 0) (until moment longest : ℕ) (due : Option ℕ)
+pub waited_until : {S : Type 0} (around : Around S) (until moment longest : ℕ) (due : Option ℕ)
     (gateways : List Gateway) (was is : Wire S) → FallsDueFirst gateways (due_of was.network) due
-    → longest ≡ longest_until until due moment → Waits traffic sleeps longest was is → WaitsUntil traffic sleeps until moment gateways was is
-waited_until traffic sleeps until moment longest due gateways was is falls long waits =
-    (due, falls, subst (λ (n : ℕ). Waits traffic sleeps n was is) long waits)
+    → longest ≡ longest_until until due moment → Waits around longest was is → WaitsUntil around until moment gateways was is
+waited_until around until moment longest due gateways was is falls long waits =
+    (due, falls, subst (λ (n : ℕ). Waits around n was is) long waits)
 
 module _ {S : Type 0} (turns : Switchboard → Wire S → Schedule → Switchboard → Wire S → Schedule → Type 0) where
   -- one more
@@ -57,9 +56,9 @@ module _ {S : Type 0} (turns : Switchboard → Wire S → Schedule → Switchboa
       runs_by count (count + 1) board between now was left is schedule behind after (omega arith) so_far turn
 
 -- it served from the moment on that the clock told
-pub serves_so : {S : Type 0} (passes : S → Result ℕ Fault → Type 0) (tells : S → Told → Type 0)
+pub serves_so : {S : Type 0} (around : Around S)
     (turns : Switchboard → Wire S → Schedule → Switchboard → Wire S → Schedule → Type 0) (start : ℕ) (result : Result ⊤ Fault)
-    (board now : Switchboard) (was is : Wire S) (opened : Schedule) → passes was.around (Ok start) → opened ≡ opening start
-    → Runs passes tells turns result board was opened now is → Serves passes tells turns result board was now is
-serves_so passes tells turns start result board now was is opened tells_start opened_is runs =
-    inl (start, tells_start, subst (λ (schedule : Schedule). Runs passes tells turns result board was schedule now is) opened_is runs)
+    (board now : Switchboard) (was is : Wire S) (opened : Schedule) → around.passes was.around (Ok start) → opened ≡ opening start
+    → Runs around turns result board was opened now is → Serves around turns result board was now is
+serves_so around turns start result board now was is opened tells_start opened_is runs =
+    inl (start, tells_start, subst (λ (schedule : Schedule). Runs around turns result board was schedule now is) opened_is runs)

@@ -1,8 +1,6 @@
 -- What it leaves of a board and of a wire that lines are settled, line by line.
-use Rattle.std.proofs.Common.{◌≡◌, ℕ, ◌+◌, zero, suc, Bool, true, false, List, Result, refl, sym, subst, arith}
-use Rattle.std.specs.Prelude.{⊤}
-use Rattle.std.specs.declared.net.socket_addr.SocketAddrV4.{SocketAddrV4}
-use Rattle.surroundings.specs.declared.surroundings.Fault.{Fault}
+use Rattle.std.proofs.Common.{◌≡◌, ℕ, ◌+◌, zero, suc, Bool, true, false, refl, sym, subst, arith}
+use Rattle.surroundings.specs.Around.{Around}
 use Rattle.switchboard.specs.declared.switchboard.Switchboard.{Switchboard}
 use Rattle.switchboard.specs.Boards.{settling_in}
 use Rattle.live_agent.specs.declared.wire.Wire.{Wire}
@@ -33,51 +31,51 @@ module _ {S : Type 0} where
   shown_over (suc index) board now was is shows =
       sent_more was shows.1 is (shown_over index board shows.0 was shows.1 shows.2) (over_journal shows.1 is shows.3.leaves)
 
-module _ {S : Type 0} (sends : S → SocketAddrV4 → List ℕ → Result ⊤ Fault → S → Type 0) where
+module _ {S : Type 0} (around : Around S) where
   -- one more is sent what it is to be sent
-  issued_by : (index next : ℕ) (board issued now : Switchboard) (was sent is : Wire S) → next ≡ suc index → SendsEach sends index board was issued sent
-      → SendsNext sends index issued sent now is → SendsEach sends next board was now is
+  issued_by : (index next : ℕ) (board issued now : Switchboard) (was sent is : Wire S) → next ≡ suc index → SendsEach around index board was issued sent
+      → SendsNext around index issued sent now is → SendsEach around next board was now is
   issued_by index next board issued now was sent is one_more so_far line =
-      subst (λ (count : ℕ). SendsEach sends count board was now is) (sym one_more) (issued, sent, so_far, line)
+      subst (λ (count : ℕ). SendsEach around count board was now is) (sym one_more) (issued, sent, so_far, line)
 
-  pub issued_more : (index : ℕ) (board issued now : Switchboard) (was sent is : Wire S) → SendsEach sends index board was issued sent
-      → SendsNext sends index issued sent now is → SendsEach sends (index + 1) board was now is
+  pub issued_more : (index : ℕ) (board issued now : Switchboard) (was sent is : Wire S) → SendsEach around index board was issued sent
+      → SendsNext around index issued sent now is → SendsEach around (index + 1) board was now is
   issued_more index board issued now was sent is so_far line =
       issued_by index (index + 1) board issued now was sent is (omega arith) so_far line
 
-  issued_lines : (count : ℕ) (board now : Switchboard) (was is : Wire S) → SendsEach sends count board was now is → SettlesLines board now
+  issued_lines : (count : ℕ) (board now : Switchboard) (was is : Wire S) → SendsEach around count board was now is → SettlesLines board now
   issued_lines zero board now was is issues = same_lines board now issues.0
   issued_lines (suc index) board now was is issues =
       settled_more board issues.0 now (issued_lines index board issues.0 was issues.1 issues.2) issues.3.rest
 
-  each_over : (count : ℕ) (board now : Switchboard) (was is : Wire S) → SendsEach sends count board was now is → SendsOver was is
+  each_over : (count : ℕ) (board now : Switchboard) (was is : Wire S) → SendsEach around count board was now is → SendsOver was is
   each_over zero board now was is issues = over_none was is issues.1
   each_over (suc index) board now was is issues =
-      sent_more was issues.1 is (each_over index board issues.0 was issues.1 issues.2) (issued_over sends issues.3.issued issues.1 is issues.3.goes)
+      sent_more was issues.1 is (each_over index board issues.0 was issues.1 issues.2) (issued_over around issues.3.issued issues.1 is issues.3.goes)
 
-  now_lines : (board now : Switchboard) (was is : Wire S) → SettlesNow sends board was now is → SettlesLines board now
+  now_lines : (board now : Switchboard) (was is : Wire S) → SettlesNow around board was now is → SettlesLines board now
   now_lines board now was is so =
       settled_more board so.shown now
       (settled_more board so.begun so.shown (by_office board so.begun so.rest) (shown_lines (settling_in so.begun.office) so.begun so.shown was so.told so.shows))
       (issued_lines (settling_in so.begun.office) so.shown now so.told is so.goes)
 
-  now_over : (board now : Switchboard) (was is : Wire S) → SettlesNow sends board was now is → SendsOver was is
+  now_over : (board now : Switchboard) (was is : Wire S) → SettlesNow around board was now is → SendsOver was is
   now_over board now was is so =
       sent_more was so.told is (shown_over (settling_in so.begun.office) so.begun so.shown was so.told so.shows)
       (each_over (settling_in so.begun.office) so.shown now so.told is so.goes)
 
   -- the clock is behind, or it isn't
-  pub settled_none : (board : Switchboard) (was : Wire S) → was.is_behind ≡ true → SettlesAll sends board was board was
+  pub settled_none : (board : Switchboard) (was : Wire S) → was.is_behind ≡ true → SettlesAll around board was board was
   settled_none board was behind = record {
     lines = refl;
     over = over_none was was refl;
-    by = subst (λ (is_behind : Bool). SettlesBy sends is_behind board was board was) (sym behind) (refl, refl);
+    by = subst (λ (is_behind : Bool). SettlesBy around is_behind board was board was) (sym behind) (refl, refl);
   }
 
-  pub settled_now : (board now : Switchboard) (was is : Wire S) → was.is_behind ≡ false → SettlesNow sends board was now is
-      → SettlesAll sends board was now is
+  pub settled_now : (board now : Switchboard) (was is : Wire S) → was.is_behind ≡ false → SettlesNow around board was now is
+      → SettlesAll around board was now is
   settled_now board now was is ahead so = record {
     lines = now_lines board now was is so;
     over = now_over board now was is so;
-    by = subst (λ (is_behind : Bool). SettlesBy sends is_behind board was now is) (sym ahead) so;
+    by = subst (λ (is_behind : Bool). SettlesBy around is_behind board was now is) (sym ahead) so;
   }

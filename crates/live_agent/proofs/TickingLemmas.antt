@@ -1,10 +1,8 @@
 -- What a tick leaves of a board and of a wire, gateway by gateway.
-use Rattle.std.proofs.Common.{◌≡◌, ◌⊎◌, inl, inr, ℕ, ◌+◌, zero, suc, Bool, true, false, List, length, Result, sym, subst, arith}
-use Rattle.std.specs.Prelude.{⊤}
-use Rattle.std.specs.declared.net.socket_addr.SocketAddrV4.{SocketAddrV4}
+use Rattle.std.proofs.Common.{◌≡◌, ◌⊎◌, inl, inr, ℕ, ◌+◌, zero, suc, Bool, true, false, length, sym, subst, arith}
 use Rattle.agent_texts.specs.declared.tally.Tally.{Tally}
 use Rattle.agent_texts.specs.Counts.{with_given_up}
-use Rattle.surroundings.specs.declared.surroundings.Fault.{Fault}
+use Rattle.surroundings.specs.Around.{Around}
 use Rattle.switchboard.specs.Tallying.{counted_if}
 use Rattle.switchboard.specs.declared.switchboard.Switchboard.{Switchboard}
 use Rattle.live_agent.specs.declared.wire.Wire.{Wire}
@@ -79,70 +77,70 @@ module _ {S : Type 0} where
   none_over count place board now was is (inl none) = next_over false place board now was is none
   none_over count place board now was is (inr enough) = over_none was is enough.2
 
-module _ {S : Type 0} (sends : S → SocketAddrV4 → List ℕ → Result ⊤ Fault → S → Type 0) where
+module _ {S : Type 0} (around : Around S) where
   -- one agent's clock more goes on
-  ticked_by : (to place next : ℕ) (board ticked now : Switchboard) (was sent is : Wire S) → next ≡ suc place → TicksEach sends to place board was ticked sent
-      → TicksOne sends to place ticked sent now is → TicksEach sends to next board was now is
+  ticked_by : (to place next : ℕ) (board ticked now : Switchboard) (was sent is : Wire S) → next ≡ suc place → TicksEach around to place board was ticked sent
+      → TicksOne around to place ticked sent now is → TicksEach around to next board was now is
   ticked_by to place next board ticked now was sent is one_more so_far one =
-      subst (λ (count : ℕ). TicksEach sends to count board was now is) (sym one_more) (ticked, sent, so_far, one)
+      subst (λ (count : ℕ). TicksEach around to count board was now is) (sym one_more) (ticked, sent, so_far, one)
 
-  pub ticked_more : (to place : ℕ) (board ticked now : Switchboard) (was sent is : Wire S) → TicksEach sends to place board was ticked sent
-      → TicksOne sends to place ticked sent now is → TicksEach sends to (place + 1) board was now is
+  pub ticked_more : (to place : ℕ) (board ticked now : Switchboard) (was sent is : Wire S) → TicksEach around to place board was ticked sent
+      → TicksOne around to place ticked sent now is → TicksEach around to (place + 1) board was now is
   ticked_more to place board ticked now was sent is so_far one =
       ticked_by to place (place + 1) board ticked now was sent is (omega arith) so_far one
 
-  ticked_lines : (to count : ℕ) (board now : Switchboard) (was is : Wire S) → TicksEach sends to count board was now is → SettlesLines board now
+  ticked_lines : (to count : ℕ) (board now : Switchboard) (was is : Wire S) → TicksEach around to count board was now is → SettlesLines board now
   ticked_lines to zero board now was is ticks = same_lines board now ticks.0
   ticked_lines to (suc place) board now was is ticks =
       settled_more board ticks.0 now (ticked_lines to place board ticks.0 was ticks.1 ticks.2) (by_gateways ticks.0 now ticks.3.rest)
 
-  clocks_over : (to count : ℕ) (board now : Switchboard) (was is : Wire S) → TicksEach sends to count board was now is → SendsOver was is
+  clocks_over : (to count : ℕ) (board now : Switchboard) (was is : Wire S) → TicksEach around to count board was now is → SendsOver was is
   clocks_over to zero board now was is ticks = over_none was is ticks.1
   clocks_over to (suc place) board now was is ticks =
       sent_more was ticks.1 is (clocks_over to place board ticks.0 was ticks.1 ticks.2)
-      (outputs_over sends true ticks.3.outputs ticks.3.went_on ticks.1 is ticks.3.goes)
+      (outputs_over around true ticks.3.outputs ticks.3.went_on ticks.1 is ticks.3.goes)
 
   -- one command more is given up
-  given_by : (place count next : ℕ) (board given now : Switchboard) (was told is : Wire S) → next ≡ suc count → GivesUpMany sends place count board was given told
-      → GivesUpOne sends place given told now is → GivesUpMany sends place next board was now is
+  given_by : (place count next : ℕ) (board given now : Switchboard) (was told is : Wire S) → next ≡ suc count → GivesUpMany around place count board was given told
+      → GivesUpOne around place given told now is → GivesUpMany around place next board was now is
   given_by place count next board given now was told is one_more so_far one =
-      subst (λ (many : ℕ). GivesUpMany sends place many board was now is) (sym one_more) (given, told, so_far, one)
+      subst (λ (many : ℕ). GivesUpMany around place many board was now is) (sym one_more) (given, told, so_far, one)
 
-  pub given_more : (place count : ℕ) (board given now : Switchboard) (was told is : Wire S) → GivesUpMany sends place count board was given told
-      → GivesUpOne sends place given told now is → GivesUpMany sends place (count + 1) board was now is
+  pub given_more : (place count : ℕ) (board given now : Switchboard) (was told is : Wire S) → GivesUpMany around place count board was given told
+      → GivesUpOne around place given told now is → GivesUpMany around place (count + 1) board was now is
   given_more place count board given now was told is so_far one =
       given_by place count (count + 1) board given now was told is (omega arith) so_far one
 
-  many_lines : (place count : ℕ) (board now : Switchboard) (was is : Wire S) → GivesUpMany sends place count board was now is → SettlesLines board now
+  many_lines : (place count : ℕ) (board now : Switchboard) (was is : Wire S) → GivesUpMany around place count board was now is → SettlesLines board now
   many_lines place zero board now was is gives = same_lines board now gives.0
   many_lines place (suc count) board now was is gives =
       settled_more board gives.0 now (many_lines place count board gives.0 was gives.1 gives.2)
       (settled_more gives.0 gives.3.given now (next_lines true place gives.0 gives.3.given gives.1 gives.3.told gives.3.gives_up) gives.3.settles.lines)
 
-  many_over : (place count : ℕ) (board now : Switchboard) (was is : Wire S) → GivesUpMany sends place count board was now is → SendsOver was is
+  many_over : (place count : ℕ) (board now : Switchboard) (was is : Wire S) → GivesUpMany around place count board was now is → SendsOver was is
   many_over place zero board now was is gives = over_none was is gives.1
   many_over place (suc count) board now was is gives =
       sent_more was gives.1 is (many_over place count board gives.0 was gives.1 gives.2)
       (sent_more gives.1 gives.3.told is (next_over true place gives.0 gives.3.given gives.1 gives.3.told gives.3.gives_up) gives.3.settles.over)
 
   -- what is given up at one gateway more
-  gave_by : (place next : ℕ) (board given now : Switchboard) (was told is : Wire S) → next ≡ suc place → GivesUpEach sends place board was given told
-      → GivesUpAll sends place given told now is → GivesUpEach sends next board was now is
+  gave_by : (place next : ℕ) (board given now : Switchboard) (was told is : Wire S) → next ≡ suc place → GivesUpEach around place board was given told
+      → GivesUpAll around place given told now is → GivesUpEach around next board was now is
   gave_by place next board given now was told is one_more so_far all =
-      subst (λ (count : ℕ). GivesUpEach sends count board was now is) (sym one_more) (given, told, so_far, all)
+      subst (λ (count : ℕ). GivesUpEach around count board was now is) (sym one_more) (given, told, so_far, all)
 
-  pub gave_more : (place : ℕ) (board given now : Switchboard) (was told is : Wire S) → GivesUpEach sends place board was given told
-      → GivesUpAll sends place given told now is → GivesUpEach sends (place + 1) board was now is
+  pub gave_more : (place : ℕ) (board given now : Switchboard) (was told is : Wire S) → GivesUpEach around place board was given told
+      → GivesUpAll around place given told now is → GivesUpEach around (place + 1) board was now is
   gave_more place board given now was told is so_far all = gave_by place (place + 1) board given now was told is (omega arith) so_far all
 
-  gave_lines : (count : ℕ) (board now : Switchboard) (was is : Wire S) → GivesUpEach sends count board was now is → SettlesLines board now
+  gave_lines : (count : ℕ) (board now : Switchboard) (was is : Wire S) → GivesUpEach around count board was now is → SettlesLines board now
   gave_lines zero board now was is gives = same_lines board now gives.0
   gave_lines (suc place) board now was is gives =
       settled_more board gives.0 now (gave_lines place board gives.0 was gives.1 gives.2)
       (settled_more gives.0 gives.3.given now (many_lines place gives.3.count gives.0 gives.3.given gives.1 gives.3.told gives.3.many)
       (none_lines gives.3.count place gives.3.given now gives.3.told is gives.3.last))
 
-  gave_over : (count : ℕ) (board now : Switchboard) (was is : Wire S) → GivesUpEach sends count board was now is → SendsOver was is
+  gave_over : (count : ℕ) (board now : Switchboard) (was is : Wire S) → GivesUpEach around count board was now is → SendsOver was is
   gave_over zero board now was is gives = over_none was is gives.1
   gave_over (suc place) board now was is gives =
       sent_more was gives.1 is (gave_over place board gives.0 was gives.1 gives.2)
@@ -150,7 +148,7 @@ module _ {S : Type 0} (sends : S → SocketAddrV4 → List ℕ → Result ⊤ Fa
       (none_over gives.3.count place gives.3.given now gives.3.told is gives.3.last))
 
   -- all of it
-  pub tick_lines : (moment to : ℕ) (board now : Switchboard) (was is : Wire S) → TicksAll sends moment to board was now is → SettlesLines board now
+  pub tick_lines : (moment to : ℕ) (board now : Switchboard) (was is : Wire S) → TicksAll around moment to board was now is → SettlesLines board now
   tick_lines moment to board now was is ticks =
       settled_more board ticks.woken now
       (settled_more board ticks.given ticks.woken
@@ -161,7 +159,7 @@ module _ {S : Type 0} (sends : S → SocketAddrV4 → List ℕ → Result ⊤ Fa
       (waked_lines (length ticks.given.gateways.items) ticks.given ticks.woken ticks.wakes))
       ticks.settles.lines
 
-  tick_told : (moment to : ℕ) (board now : Switchboard) (was is : Wire S) (ticks : TicksAll sends moment to board was now is)
+  tick_told : (moment to : ℕ) (board now : Switchboard) (was is : Wire S) (ticks : TicksAll around moment to board was now is)
       → SendsOver (record ticks.said { is_behind = is_behind moment to }) is
   tick_told moment to board now was is ticks =
       sent_more (record ticks.said { is_behind = is_behind moment to }) ticks.told is
@@ -169,15 +167,15 @@ module _ {S : Type 0} (sends : S → SocketAddrV4 → List ℕ → Result ⊤ Fa
       ticks.gives_up)
       ticks.settles.over
 
-  pub tick_over : (moment to : ℕ) (board now : Switchboard) (was is : Wire S) → TicksAll sends moment to board was now is → TickedOver moment to was is
+  pub tick_over : (moment to : ℕ) (board now : Switchboard) (was is : Wire S) → TicksAll around moment to board was now is → TickedOver moment to was is
   tick_over moment to board now was is ticks =
       let said : SendsOver (record was { now = record was.now { clock = to } }) ticks.said
       = clocks_over to (length board.gateways.items) board ticks.ticked (record was { now = record was.now { clock = to } }) ticks.said ticks.ticks in
       let told : SendsOver (record ticks.said { is_behind = is_behind moment to }) is = tick_told moment to board now was is ticks in
       ticked_over was ticks.said is to (is_behind moment to) said told
 
-  pub did_tick : (moment to : ℕ) (board now : Switchboard) (was is : Wire S) → TicksAll sends moment to board was now is
-      → DoesTick sends moment to board now was is
+  pub did_tick : (moment to : ℕ) (board now : Switchboard) (was is : Wire S) → TicksAll around moment to board was now is
+      → DoesTick around moment to board now was is
   did_tick moment to board now was is ticks = record {
     ticks = ticks;
     lines = tick_lines moment to board now was is ticks;

@@ -10,7 +10,8 @@ use Rattle.bad_network.specs.declared.packet.Way.TheVariants.{In, Out}
 use Rattle.bad_network.specs.Drawing.{after_draws, draws_of}
 use Rattle.bad_network.specs.Fates.{fate_of}
 use Rattle.bad_network.specs.Waiting.{copies_of, put_all, taken, IsPutInPart}
-use Rattle.surroundings.specs.Sending.{Grows, Traffic}
+use Rattle.surroundings.specs.Around.{Around}
+use Rattle.surroundings.specs.Sending.{Grows}
 use Rattle.surroundings.specs.declared.surroundings.Fault.{Fault}
 use Rattle.live_agent.specs.declared.wire.TheConstants.{MOST_AT_ONCE}
 use Rattle.live_agent.specs.declared.wire.Wire.{Wire}
@@ -20,18 +21,16 @@ use Rattle.live_agent.specs.Tallying.{leaving_counted, with_fate, with_refusal, 
 
 -- A datagram was handed to what a program stands on, to be sent: that came to this. Where that tells what went over it, it tells of this
 -- one, and of none that it received.
-abbrev pub HandsTo : {S : Type 0} → (S → SocketAddrV4 → List ℕ → Result ⊤ Fault → S → Type 0) → (S → Traffic)
-    → S → SocketAddrV4 → List ℕ → Result ⊤ Fault → S → Type 0
-HandsTo sends traffic was to bytes outcome is =
-    sends was to bytes outcome is × Grows (traffic was).sent (record { to = to; bytes = bytes } ∷ []) (traffic is).sent
-    × ((traffic is).received ≡ (traffic was).received)
+abbrev pub HandsTo : {S : Type 0} → Around S → S → SocketAddrV4 → List ℕ → Result ⊤ Fault → S → Type 0
+HandsTo around was to bytes outcome is =
+    around.sends was to bytes outcome is
+    × Grows (around.traffic was).sent (record { to = to; bytes = bytes } ∷ []) (around.traffic is).sent
+    × ((around.traffic is).received ≡ (around.traffic was).received)
 
 -- it is put onto the machine's network; one that doesn't leave counts, and is noted in the log: nothing else of the wire has changed
-pub record Leaves {S : Type 0} (sends : S → SocketAddrV4 → List ℕ → Result ⊤ Fault → S → Type 0) (to : SocketAddrV4) (bytes : List ℕ)
-    (was is : Wire S)
-    : Type 0 where
+pub record Leaves {S : Type 0} (around : Around S) (to : SocketAddrV4) (bytes : List ℕ) (was is : Wire S) : Type 0 where
   pub outcome : Result ⊤ Fault
-  pub handed : sends was.around to bytes outcome is.around
+  pub handed : HandsTo around was.around to bytes outcome is.around
   pub counts : is.journal.value.tally ≡ leaving_counted outcome was.journal.value.tally
   pub notes : OnlyNotes was.journal.value is.journal.value
   pub rest : is ≡ record was { around = is.around; journal = is.journal }
@@ -76,18 +75,16 @@ pub record HandsOut {S : Type 0} (packet : Option Packet) (was is : Wire S) : Ty
   pub rest : is ≡ record was { network = is.network }
 
 -- one that goes out is put onto the machine's network
-pub record SendsOn {S : Type 0} (sends : S → SocketAddrV4 → List ℕ → Result ⊤ Fault → S → Type 0) (packet : Packet)
-    (was is : Wire S)
-    : Type 0 where
+pub record SendsOn {S : Type 0} (around : Around S) (packet : Packet) (was is : Wire S) : Type 0 where
   pub handed : Wire S
   pub hands : HandsOut (Some packet) was handed
   pub goes : packet.way ≡ Out
-  pub leaves : Leaves sends packet.peer packet.bytes handed is
+  pub leaves : Leaves around packet.peer packet.bytes handed is
 
 -- so do these, one behind another
-abbrev pub SendsEachOn : {S : Type 0} → (S → SocketAddrV4 → List ℕ → Result ⊤ Fault → S → Type 0) → List Packet → Wire S → Wire S → Type 0
-SendsEachOn sends [] was is = is ≡ was
-SendsEachOn {S} sends (packet ∷ more) was is = (sent : Wire S) × SendsOn sends packet was sent × SendsEachOn sends more sent is
+abbrev pub SendsEachOn : {S : Type 0} → Around S → List Packet → Wire S → Wire S → Type 0
+SendsEachOn around [] was is = is ≡ was
+SendsEachOn {S} around (packet ∷ more) was is = (sent : Wire S) × SendsOn around packet was sent × SendsEachOn around more sent is
 
 -- whether a packet comes in
 abbrev pub comes_in : Way → Bool
@@ -101,10 +98,8 @@ HandsLast count (Some packet) was is = HandsOut (Some packet) was is × (packet.
 HandsLast count None was is = HandsOut None was is ⊎ ((count ≡ MOST_AT_ONCE) × (is ≡ was))
 
 -- the next packet that comes in is handed over, if one is due, and those that go out before it are put onto the machine's network
-pub record HandsOver {S : Type 0} (sends : S → SocketAddrV4 → List ℕ → Result ⊤ Fault → S → Type 0) (packet : Option Packet)
-    (was is : Wire S)
-    : Type 0 where
+pub record HandsOver {S : Type 0} (around : Around S) (packet : Option Packet) (was is : Wire S) : Type 0 where
   pub out : List Packet
   pub left : Wire S
-  pub each : SendsEachOn sends out was left
+  pub each : SendsEachOn around out was left
   pub last : HandsLast (length out) packet left is

@@ -1,15 +1,12 @@
 -- How a call agent serves: one turn behind another, until the end comes.
-use Rattle.std.specs.Prelude.{◌≡◌, ◌⊎◌, ⊤, ℕ, zero, suc, ◌-◌, ◌^◌, Bool, true, false, is_err, List, Option, Result, Ok, Err}
-use Rattle.std.specs.declared.net.socket_addr.SocketAddr.{SocketAddr}
-use Rattle.std.specs.declared.net.socket_addr.SocketAddrV4.{SocketAddrV4}
+use Rattle.std.specs.Prelude.{◌≡◌, ◌⊎◌, ⊤, ℕ, zero, suc, ◌-◌, ◌^◌, Bool, true, false, is_err, List, Result, Ok, Err}
 use Rattle.agent_config.specs.declared.config.AgentConfig.{AgentConfig}
 use Rattle.agent_texts.specs.declared.journal.Journal.{Journal}
 use Rattle.live_ends.specs.declared.ending.CommonEnding.{CommonEnding}
 use Rattle.live_ends.specs.declared.ending.CommonEnding.TheVariants.{OutOfMemory}
 use Rattle.live_outlets.specs.declared.written.Written.{Written}
-use Rattle.surroundings.specs.Sending.{Traffic}
+use Rattle.surroundings.specs.Around.{Around}
 use Rattle.surroundings.specs.declared.surroundings.Fault.{Fault}
-use Rattle.surroundings.specs.declared.surroundings.Told.{Told}
 use Rattle.switchboard.specs.declared.switchboard.Switchboard.{Switchboard}
 use Rattle.switchboard.specs.Opening.{BoardOf}
 use Rattle.turns.specs.Schedule.{opening}
@@ -29,18 +26,11 @@ pub record Writes {S W : Type 0} (writes : W → Journal → ℕ → W → Journ
   pub rest : is ≡ record was { journal = is.journal; is_offering = is.is_offering }
 
 -- what comes next by a schedule has its turn; then what was recorded is written
-pub record TurnsOnce {S W : Type 0}
-    (traffic : S → Traffic) (sockets : S → List SocketAddrV4) (sends : S → SocketAddrV4 → List ℕ → Result ⊤ Fault → S → Type 0)
-    (passes : S → Result ℕ Fault → Type 0) (dates : S → ℕ → Type 0) (tells : S → Told → Type 0)
-    (sleeps : S → ℕ → Result ⊤ Fault → S → Type 0)
-    (receives : S → Result (Option (SocketAddrV4 × ℕ)) Fault → List ℕ → S → Type 0)
-    (hears : S → Option (SocketAddr × ℕ) → List ℕ → S → Type 0) (answers : S → SocketAddr → List ℕ → S → Type 0)
-    (writes : W → Journal → ℕ → W → Journal → Type 0) (board : Switchboard) (was : Wire S) (schedule : Schedule) (now : Switchboard)
-    (is : Wire S) (next : Schedule)
-    : Type 0 where
+pub record TurnsOnce {S W : Type 0} (around : Around S) (writes : W → Journal → ℕ → W → Journal → Type 0) (board : Switchboard)
+    (was : Wire S) (schedule : Schedule) (now : Switchboard) (is : Wire S) (next : Schedule) : Type 0 where
   pub done : Wire S
-  pub asks : AsksNext passes tells board was schedule true next
-  pub does : DoesNext traffic sockets sends passes dates tells sleeps receives hears answers board now was done schedule next
+  pub asks : AsksNext around board was schedule true next
+  pub does : DoesNext around board now was done schedule next
   pub written : Writes writes done is
 
 -- so many turns, one behind another
@@ -53,30 +43,24 @@ RunsTurns {S} turns (suc count) board was schedule now is next =
     × RunsTurns turns count board was schedule between left behind × turns between left behind now is next
 
 -- behind them the end comes next, or there were as many as can be; or the clock fails
-abbrev pub StopsAt :
-    {S : Type 0} → (S → Result ℕ Fault → Type 0) → (S → Told → Type 0) → Result ⊤ Fault → ℕ → Switchboard → Wire S → Schedule → Type 0
-StopsAt passes tells (Ok done) count board wire schedule =
-    ((next : Schedule) × AsksNext passes tells board wire schedule false next) ⊎ (count ≡ 2 ^ 64 - 1)
-StopsAt passes tells (Err fault) count board wire schedule = passes wire.around (Err fault)
+abbrev pub StopsAt : {S : Type 0} → Around S → Result ⊤ Fault → ℕ → Switchboard → Wire S → Schedule → Type 0
+StopsAt around (Ok done) count board wire schedule =
+    ((next : Schedule) × AsksNext around board wire schedule false next) ⊎ (count ≡ 2 ^ 64 - 1)
+StopsAt around (Err fault) count board wire schedule = around.passes wire.around (Err fault)
 
-pub record Runs {S : Type 0}
-    (passes : S → Result ℕ Fault → Type 0) (tells : S → Told → Type 0)
-    (turns : Switchboard → Wire S → Schedule → Switchboard → Wire S → Schedule → Type 0)
-    (result : Result ⊤ Fault) (board : Switchboard) (was : Wire S) (schedule : Schedule) (now : Switchboard) (is : Wire S)
-    : Type 0 where
+pub record Runs {S : Type 0} (around : Around S) (turns : Switchboard → Wire S → Schedule → Switchboard → Wire S → Schedule → Type 0)
+    (result : Result ⊤ Fault) (board : Switchboard) (was : Wire S) (schedule : Schedule) (now : Switchboard) (is : Wire S) : Type 0 where
   pub count : ℕ
   pub behind : Schedule
   pub runs : RunsTurns turns count board was schedule now is behind
-  pub stops : StopsAt passes tells result count now is behind
+  pub stops : StopsAt around result count now is behind
 
 -- It begins at the moment that the clock tells: what the start took isn't a pause. Or the clock fails, and nothing is done.
-abbrev pub Serves :
-    {S : Type 0} → (S → Result ℕ Fault → Type 0) → (S → Told → Type 0)
-    → (Switchboard → Wire S → Schedule → Switchboard → Wire S → Schedule → Type 0)
-    → Result ⊤ Fault → Switchboard → Wire S → Switchboard → Wire S → Type 0
-Serves passes tells turns result board was now is =
-    ((start : ℕ) × passes was.around (Ok start) × Runs passes tells turns result board was (opening start) now is)
-    ⊎ ((fault : Fault) × passes was.around (Err fault) × (result ≡ Err fault) × (now ≡ board) × (is ≡ was))
+abbrev pub Serves : {S : Type 0} → Around S → (Switchboard → Wire S → Schedule → Switchboard → Wire S → Schedule → Type 0) → Result ⊤ Fault
+    → Switchboard → Wire S → Switchboard → Wire S → Type 0
+Serves around turns result board was now is =
+    ((start : ℕ) × around.passes was.around (Ok start) × Runs around turns result board was (opening start) now is)
+    ⊎ ((fault : Fault) × around.passes was.around (Err fault) × (result ≡ Err fault) × (now ≡ board) × (is ≡ was))
 
 -- From its beginning to its end
 

@@ -1,14 +1,13 @@
 -- What a tick does: the clock of each agent goes on; what is given up by now is so, and what was put off is sent again, as lines are
 -- settled.
-use Rattle.std.specs.Prelude.{◌≡◌, ◌⊎◌, ⊤, ℕ, zero, suc, Bool, true, false, is_ok, is_some, List, [], length, None, IfNone, IfOk, OnErr, Result, Ok, slice_get}
+use Rattle.std.specs.Prelude.{◌≡◌, ◌⊎◌, ℕ, zero, suc, Bool, true, false, is_ok, is_some, List, [], length, None, IfNone, IfOk, OnErr, Result, Ok, slice_get}
 use Rattle.std.specs.Result.{result_err}
-use Rattle.std.specs.declared.net.socket_addr.SocketAddrV4.{SocketAddrV4}
 use Rattle.agent_texts.specs.Counts.{with_given_up}
 use Rattle.call_agent.specs.AgentStands.{AgentStays, AgentTook}
 use Rattle.call_agent.specs.Hearing.{hears}
 use Rattle.gateway_rules.specs.declared.refusal.Refusal.{Refusal}
 use Rattle.plain_machine.specs.Event.{tick}
-use Rattle.surroundings.specs.declared.surroundings.Fault.{Fault}
+use Rattle.surroundings.specs.Around.{Around}
 use Rattle.transmission.specs.declared.output.OutDatagram.{OutDatagram}
 use Rattle.switchboard.specs.declared.switchboard.Switchboard.{Switchboard}
 use Rattle.switchboard.specs.AgentClock.{tick_to}
@@ -27,9 +26,7 @@ use Rattle.live_agent.specs.Settling.{SettlesAll}
 
 -- That of the agent of the gateway at this place goes on, and what it says by that is sent, again; or it refuses that, for its reason.
 -- Where there is no such gateway nothing is said.
-pub record TicksOne {S : Type 0} (sends : S → SocketAddrV4 → List ℕ → Result ⊤ Fault → S → Type 0) (to place : ℕ) (board : Switchboard)
-    (was : Wire S)
-    (now : Switchboard) (is : Wire S)
+pub record TicksOne {S : Type 0} (around : Around S) (to place : ℕ) (board : Switchboard) (was : Wire S) (now : Switchboard) (is : Wire S)
     : Type 0 where
   pub outputs : Result (List OutDatagram) Refusal
   pub went_on : Bool
@@ -46,14 +43,13 @@ pub record TicksOne {S : Type 0} (sends : S → SocketAddrV4 → List ℕ → Re
   pub clock : AtPlace place (Ticks (is_ok outputs) to) board.gateways.items now.gateways.items
   pub others : OthersStay place board.gateways.items now.gateways.items
   pub rest : now ≡ record board { gateways = now.gateways }
-  pub goes : SendsOutputs sends true outputs went_on was is
+  pub goes : SendsOutputs around true outputs went_on was is
 
 -- those of so many agents, one behind another
-abbrev pub TicksEach : {S : Type 0} → (S → SocketAddrV4 → List ℕ → Result ⊤ Fault → S → Type 0) → ℕ → ℕ → Switchboard → Wire S → Switchboard
-    → Wire S → Type 0
-TicksEach sends to zero board was now is = (now ≡ board) × (is ≡ was)
-TicksEach {S} sends to (suc place) board was now is =
-    (ticked : Switchboard) × (sent : Wire S) × TicksEach sends to place board was ticked sent × TicksOne sends to place ticked sent now is
+abbrev pub TicksEach : {S : Type 0} → Around S → ℕ → ℕ → Switchboard → Wire S → Switchboard → Wire S → Type 0
+TicksEach around to zero board was now is = (now ≡ board) × (is ≡ was)
+TicksEach {S} around to (suc place) board was now is =
+    (ticked : Switchboard) × (sent : Wire S) × TicksEach around to place board was ticked sent × TicksOne around to place ticked sent now is
 
 -- What is given up
 
@@ -68,42 +64,37 @@ pub record GivesUpNext {S : Type 0} (found : Bool) (place : ℕ) (board : Switch
   pub rest : is ≡ record was { journal = is.journal }
 
 -- so many are, one behind another; behind each lines are settled
-pub record GivesUpOne {S : Type 0} (sends : S → SocketAddrV4 → List ℕ → Result ⊤ Fault → S → Type 0) (place : ℕ) (board : Switchboard)
-    (was : Wire S)
-    (now : Switchboard) (is : Wire S)
+pub record GivesUpOne {S : Type 0} (around : Around S) (place : ℕ) (board : Switchboard) (was : Wire S) (now : Switchboard) (is : Wire S)
     : Type 0 where
   pub given : Switchboard
   pub told : Wire S
   pub gives_up : GivesUpNext true place board was given told
-  pub settles : SettlesAll sends given told now is
+  pub settles : SettlesAll around given told now is
 
-abbrev pub GivesUpMany : {S : Type 0} → (S → SocketAddrV4 → List ℕ → Result ⊤ Fault → S → Type 0) → ℕ → ℕ → Switchboard → Wire S
-    → Switchboard → Wire S → Type 0
-GivesUpMany sends place zero board was now is = (now ≡ board) × (is ≡ was)
-GivesUpMany {S} sends place (suc count) board was now is =
-    (given : Switchboard) × (told : Wire S) × GivesUpMany sends place count board was given told × GivesUpOne sends place given told now is
+abbrev pub GivesUpMany : {S : Type 0} → Around S → ℕ → ℕ → Switchboard → Wire S → Switchboard → Wire S → Type 0
+GivesUpMany around place zero board was now is = (now ≡ board) × (is ≡ was)
+GivesUpMany {S} around place (suc count) board was now is =
+    (given : Switchboard) × (told : Wire S) × GivesUpMany around place count board was given told
+    × GivesUpOne around place given told now is
 
 -- all that are at this gateway: behind them none is found; after too many none is looked for any more at this tick
 abbrev pub GivesUpLast : {S : Type 0} → ℕ → ℕ → Switchboard → Wire S → Switchboard → Wire S → Type 0
 GivesUpLast count place board was now is =
     GivesUpNext false place board was now is ⊎ ((count ≡ MOST_AT_ONCE) × (now ≡ board) × (is ≡ was))
 
-pub record GivesUpAll {S : Type 0} (sends : S → SocketAddrV4 → List ℕ → Result ⊤ Fault → S → Type 0) (place : ℕ) (board : Switchboard)
-    (was : Wire S)
-    (now : Switchboard) (is : Wire S)
+pub record GivesUpAll {S : Type 0} (around : Around S) (place : ℕ) (board : Switchboard) (was : Wire S) (now : Switchboard) (is : Wire S)
     : Type 0 where
   pub count : ℕ
   pub given : Switchboard
   pub told : Wire S
-  pub many : GivesUpMany sends place count board was given told
+  pub many : GivesUpMany around place count board was given told
   pub last : GivesUpLast count place given told now is
 
 -- at so many gateways, one behind another
-abbrev pub GivesUpEach : {S : Type 0} → (S → SocketAddrV4 → List ℕ → Result ⊤ Fault → S → Type 0) → ℕ → Switchboard → Wire S → Switchboard
-    → Wire S → Type 0
-GivesUpEach sends zero board was now is = (now ≡ board) × (is ≡ was)
-GivesUpEach {S} sends (suc place) board was now is =
-    (given : Switchboard) × (told : Wire S) × GivesUpEach sends place board was given told × GivesUpAll sends place given told now is
+abbrev pub GivesUpEach : {S : Type 0} → Around S → ℕ → Switchboard → Wire S → Switchboard → Wire S → Type 0
+GivesUpEach around zero board was now is = (now ≡ board) × (is ≡ was)
+GivesUpEach {S} around (suc place) board was now is =
+    (given : Switchboard) × (told : Wire S) × GivesUpEach around place board was given told × GivesUpAll around place given told now is
 
 -- What was put off
 
@@ -139,16 +130,14 @@ WakesEach (suc place) board now = (woken : Switchboard) × WakesEach place board
 
 -- It is this moment, and the clock goes on to one: that of each agent first. Then it is known whether it is behind; what is given up by now
 -- is so, at each gateway; and lines of which something was put off that is sent again by now are settled.
-pub record TicksAll {S : Type 0} (sends : S → SocketAddrV4 → List ℕ → Result ⊤ Fault → S → Type 0) (moment to : ℕ) (board : Switchboard)
-    (was : Wire S)
-    (now : Switchboard) (is : Wire S)
+pub record TicksAll {S : Type 0} (around : Around S) (moment to : ℕ) (board : Switchboard) (was : Wire S) (now : Switchboard) (is : Wire S)
     : Type 0 where
   pub ticked : Switchboard
   pub said : Wire S
   pub given : Switchboard
   pub told : Wire S
   pub woken : Switchboard
-  pub ticks : TicksEach sends to (length board.gateways.items) board (record was { now = record was.now { clock = to } }) ticked said
-  pub gives_up : GivesUpEach sends (length ticked.gateways.items) ticked (record said { is_behind = is_behind moment to }) given told
+  pub ticks : TicksEach around to (length board.gateways.items) board (record was { now = record was.now { clock = to } }) ticked said
+  pub gives_up : GivesUpEach around (length ticked.gateways.items) ticked (record said { is_behind = is_behind moment to }) given told
   pub wakes : WakesEach (length given.gateways.items) given woken
-  pub settles : SettlesAll sends woken told now is
+  pub settles : SettlesAll around woken told now is

@@ -4,15 +4,13 @@ use Rattle.std.specs.Net.Addr.{IsLoopbackV4, IsLoopbackV6, MatchIp}
 use Rattle.std.specs.Net.Socket.{socket_ip}
 use Rattle.std.specs.Str.{bytes_eq}
 use Rattle.std.specs.declared.net.socket_addr.SocketAddr.{SocketAddr}
-use Rattle.std.specs.declared.net.socket_addr.SocketAddrV4.{SocketAddrV4}
 use Rattle.mg_bytes.specs.Lines.{line_of}
+use Rattle.surroundings.specs.Around.{Around}
 use Rattle.surroundings.specs.Hearing.{AnswersTo, Hears}
 use Rattle.surroundings.specs.Requests.{requests_from}
-use Rattle.surroundings.specs.Sending.{Traffic}
 use Rattle.surroundings.specs.Typing.{left_of, behind}
 use Rattle.surroundings.specs.declared.lines.Lines.{Lines}
 use Rattle.surroundings.specs.declared.surroundings.Fault.{Fault}
-use Rattle.surroundings.specs.declared.surroundings.Told.{Told}
 use Rattle.turns.specs.Runs.{is_end}
 use Rattle.turns.specs.Schedule.{next_of}
 use Rattle.turns.specs.declared.turn.Pause.{Pause}
@@ -76,57 +74,47 @@ abbrev pub TellsCounts : Journal → List ℕ → Type 0
 TellsCounts journal text = (text ≡ counted_in journal) ⊎ (text ≡ codes "! 1 OutOfMemory\n")
 
 -- But for a command that was typed the board stays as it was. The end has come where that was asked for.
-abbrev pub DoesRequest : {S : Type 0} → (S → SocketAddrV4 → List ℕ → Result ⊤ Fault → S → Type 0) → (S → SocketAddr → List ℕ → S → Type 0)
-    → Request
-    → Switchboard → Switchboard → Wire S → Wire S → Type 0
-DoesRequest sends answers Nothing board now was is = (now ≡ board) × (is ≡ was)
-DoesRequest sends answers Counts board now was is =
-    (now ≡ board) × ((text : List ℕ) × TellsCounts was.journal.value text × AnswersWith answers text was is)
-DoesRequest {S} sends answers Stop board now was is =
-    (now ≡ board) × ((answered : Wire S) × AnswersWith answers (codes "done\n") was answered × (is ≡ record answered { end = Some 0 }))
-DoesRequest sends answers StopFromAfar board now was is =
-    (now ≡ board) × AnswersWith answers (codes "! stop is taken from a loopback address alone, 127.0.0.0/8\n") was is
-DoesRequest sends answers Command board now was is = DoesCommand sends answers board now was is
+abbrev pub DoesRequest : {S : Type 0} → Around S → Request → Switchboard → Switchboard → Wire S → Wire S → Type 0
+DoesRequest around Nothing board now was is = (now ≡ board) × (is ≡ was)
+DoesRequest around Counts board now was is =
+    (now ≡ board) × ((text : List ℕ) × TellsCounts was.journal.value text × AnswersWith around.answers text was is)
+DoesRequest {S} around Stop board now was is =
+    (now ≡ board)
+    × ((answered : Wire S) × AnswersWith around.answers (codes "done\n") was answered × (is ≡ record answered { end = Some 0 }))
+DoesRequest around StopFromAfar board now was is =
+    (now ≡ board) × AnswersWith around.answers (codes "! stop is taken from a loopback address alone, 127.0.0.0/8\n") was is
+DoesRequest around Command board now was is = DoesCommand around board now was is
 
-pub record AnswersFirst {S : Type 0} (sends : S → SocketAddrV4 → List ℕ → Result ⊤ Fault → S → Type 0)
-    (answers : S → SocketAddr → List ℕ → S → Type 0)
-    (board now : Switchboard) (was is : Wire S)
-    : Type 0 where
+pub record AnswersFirst {S : Type 0} (around : Around S) (board now : Switchboard) (was is : Wire S) : Type 0 where
   pub request : Request
   pub asks : AsksFirst was.lines request
-  pub does : DoesRequest sends answers request board now was is
+  pub does : DoesRequest around request board now was is
 
 -- a datagram of lines is taken, where none is left; nothing else of the wire has changed
-abbrev pub HearsTyped :
-    {S : Type 0} → (S → List SocketAddrV4) → (S → Option (SocketAddr × ℕ) → List ℕ → S → Type 0) → Wire S → Wire S → Type 0
-HearsTyped sockets hears was is =
-    (taken : Bool) × Hears sockets hears was.around was.lines taken is.around is.lines × (is.read ≡ with_read taken was.read)
+abbrev pub HearsTyped : {S : Type 0} → Around S → Wire S → Wire S → Type 0
+HearsTyped around was is =
+    (taken : Bool) × Hears around was.around was.lines taken is.around is.lines × (is.read ≡ with_read taken was.read)
     × (is ≡ record was { around = is.around; lines = is.lines; read = is.read })
 
 -- then the line that is answered next is answered
-abbrev pub TakesTyped :
-    {S : Type 0} → (S → List SocketAddrV4) → (S → SocketAddrV4 → List ℕ → Result ⊤ Fault → S → Type 0)
-    → (S → Option (SocketAddr × ℕ) → List ℕ → S → Type 0)
-    → (S → SocketAddr → List ℕ → S → Type 0) → Switchboard → Switchboard → Wire S → Wire S → Type 0
-TakesTyped {S} sockets sends hears answers board now was is =
-    (heard : Wire S) × HearsTyped sockets hears was heard × AnswersFirst sends answers board now heard is
+abbrev pub TakesTyped : {S : Type 0} → Around S → Switchboard → Switchboard → Wire S → Wire S → Type 0
+TakesTyped {S} around board now was is = (heard : Wire S) × HearsTyped around was heard × AnswersFirst around board now heard is
 
 -- It waits for so long at most, but no longer than until what waits to be taken is offered again. That changes what is around a wire, and
 -- nothing else does, but nothing goes over it by that. Where it failed this counts, once, and nothing else of the journal has changed.
-abbrev pub Waits : {S : Type 0} → (S → Traffic) → (S → ℕ → Result ⊤ Fault → S → Type 0) → ℕ → Wire S → Wire S → Type 0
-Waits traffic sleeps longest was is =
-    (traffic is.around ≡ traffic was.around)
-    × ((outcome : Result ⊤ Fault) × sleeps was.around (longest_wait was.is_offering longest) outcome is.around
+abbrev pub Waits : {S : Type 0} → Around S → ℕ → Wire S → Wire S → Type 0
+Waits around longest was is =
+    (around.traffic is.around ≡ around.traffic was.around)
+    × ((outcome : Result ⊤ Fault) × around.sleeps was.around (longest_wait was.is_offering longest) outcome is.around
     × (is.journal.value.tally ≡ waited_counted outcome was.journal.value.tally))
     × (is.journal.value ≡ record was.journal.value { tally = is.journal.value.tally })
     × (is ≡ record was { around = is.around; journal = is.journal })
 
 -- so until a moment, where it is now another, but no longer than to what falls due next at these gateways or over the wire
-abbrev pub WaitsUntil :
-    {S : Type 0} → (S → Traffic) → (S → ℕ → Result ⊤ Fault → S → Type 0) → ℕ → ℕ → List Gateway → Wire S → Wire S → Type 0
-WaitsUntil traffic sleeps until moment gateways was is =
+abbrev pub WaitsUntil : {S : Type 0} → Around S → ℕ → ℕ → List Gateway → Wire S → Wire S → Type 0
+WaitsUntil around until moment gateways was is =
     (due : Option ℕ) × FallsDueFirst gateways (due_of was.network) due
-    × Waits traffic sleeps (longest_until until due moment) was is
+    × Waits around (longest_until until due moment) was is
 
 -- a pause is noted in the log, and nowhere else: how much later the program woke, and how many datagrams were read meanwhile
 abbrev pub Notes : {S : Type 0} → Pause → Wire S → Wire S → Type 0
@@ -147,52 +135,34 @@ TickedOver moment to was is =
     }
 
 -- all that it does: what the agents' clocks do, what is given up and what was put off
-pub record DoesTick {S : Type 0} (sends : S → SocketAddrV4 → List ℕ → Result ⊤ Fault → S → Type 0) (moment to : ℕ)
-    (board now : Switchboard) (was is : Wire S)
-    : Type 0 where
-  pub ticks : TicksAll sends moment to board was now is
+pub record DoesTick {S : Type 0} (around : Around S) (moment to : ℕ) (board now : Switchboard) (was is : Wire S) : Type 0 where
+  pub ticks : TicksAll around moment to board was now is
   pub lines : SettlesLines board now
   pub over : TickedOver moment to was is
 
 -- What a turn of a kind does, where it is this moment: a tick, a command that was typed and a datagram alone change the board.
-abbrev pub DoesTurn :
-    {S : Type 0} → (S → Traffic) → (S → List SocketAddrV4) → (S → ℕ → Result ⊤ Fault → S → Type 0)
-    → (S → SocketAddrV4 → List ℕ → Result ⊤ Fault → S → Type 0)
-    → (S → Result (Option (SocketAddrV4 × ℕ)) Fault → List ℕ → S → Type 0)
-    → (S → Option (SocketAddr × ℕ) → List ℕ → S → Type 0)
-    → (S → SocketAddr → List ℕ → S → Type 0) → ℕ → Turn → Switchboard → Switchboard → Wire S → Wire S → Type 0
-DoesTurn traffic sockets sleeps sends receives hears answers moment turns.End board now was is = (now ≡ board) × (is ≡ was)
-DoesTurn traffic sockets sleeps sends receives hears answers moment turns.Look board now was is = (now ≡ board)
-    × Waits traffic sleeps 0 was is
-DoesTurn traffic sockets sleeps sends receives hears answers moment (turns.Wait until) board now was is =
-    (now ≡ board) × WaitsUntil traffic sleeps until moment board.gateways.items was is
-DoesTurn traffic sockets sleeps sends receives hears answers moment (turns.Tick to) board now was is =
-    DoesTick sends moment to board now was is
-DoesTurn traffic sockets sleeps sends receives hears answers moment turns.Command board now was is =
-    TakesTyped sockets sends hears answers board now was is
-DoesTurn traffic sockets sleeps sends receives hears answers moment turns.Datagram board now was is =
-    TakesDatagram sends receives board was now is
-DoesTurn traffic sockets sleeps sends receives hears answers moment turns.Visit board now was is = (now ≡ board) × (is ≡ was)
-DoesTurn traffic sockets sleeps sends receives hears answers moment (turns.Note pause) board now was is = (now ≡ board) × Notes pause was is
+abbrev pub DoesTurn : {S : Type 0} → Around S → ℕ → Turn → Switchboard → Switchboard → Wire S → Wire S → Type 0
+DoesTurn around moment turns.End board now was is = (now ≡ board) × (is ≡ was)
+DoesTurn around moment turns.Look board now was is = (now ≡ board) × Waits around 0 was is
+DoesTurn around moment (turns.Wait until) board now was is =
+    (now ≡ board) × WaitsUntil around until moment board.gateways.items was is
+DoesTurn around moment (turns.Tick to) board now was is = DoesTick around moment to board now was is
+DoesTurn around moment turns.Command board now was is = TakesTyped around board now was is
+DoesTurn around moment turns.Datagram board now was is = TakesDatagram around board was now is
+DoesTurn around moment turns.Visit board now was is = (now ≡ board) × (is ≡ was)
+DoesTurn around moment (turns.Note pause) board now was is = (now ≡ board) × Notes pause was is
 
 -- What comes next by a schedule, as things stand, is done, once lines are settled; it isn't the end. What is recorded of it has the time of
 -- day that was told as it began. The schedule goes on by that.
-pub record DoesNext {S : Type 0}
-    (traffic : S → Traffic) (sockets : S → List SocketAddrV4) (sends : S → SocketAddrV4 → List ℕ → Result ⊤ Fault → S → Type 0)
-    (passes : S → Result ℕ Fault → Type 0) (dates : S → ℕ → Type 0) (tells : S → Told → Type 0)
-    (sleeps : S → ℕ → Result ⊤ Fault → S → Type 0)
-    (receives : S → Result (Option (SocketAddrV4 × ℕ)) Fault → List ℕ → S → Type 0)
-    (hears : S → Option (SocketAddr × ℕ) → List ℕ → S → Type 0) (answers : S → SocketAddr → List ℕ → S → Type 0)
-    (board now : Switchboard) (was is : Wire S) (schedule next : Schedule)
-    : Type 0 where
+pub record DoesNext {S : Type 0} (around : Around S) (board now : Switchboard) (was is : Wire S) (schedule next : Schedule) : Type 0 where
   pub at : Situation
   pub settled : Switchboard
   pub begun : Wire S
   pub sent : Wire S
-  pub situation : IsSituation passes tells board was at
+  pub situation : IsSituation around board was at
   pub goes_on : is_end (next_of schedule at).0 ≡ false
   pub behind : next ≡ (next_of schedule at).1
   pub begins : begun ≡ record was { now = record was.now { time = begun.now.time }; is_behind = is_behind at.moment at.ticked }
-  pub dated : dates was.around begun.now.time
-  pub settles : SettlesAll sends board begun settled sent
-  pub does : DoesTurn traffic sockets sleeps sends receives hears answers at.moment (next_of schedule at).0 settled now sent is
+  pub dated : around.dates was.around begun.now.time
+  pub settles : SettlesAll around board begun settled sent
+  pub does : DoesTurn around at.moment (next_of schedule at).0 settled now sent is

@@ -1,12 +1,11 @@
 -- What is answered to who typed a command.
-use Rattle.std.specs.Prelude.{◌≡◌, ◌⊎◌, ⊤, ℕ, codes, decimal, List, [], ◌∷◌, ◌++◌, Result, Ok, Err}
+use Rattle.std.specs.Prelude.{◌≡◌, ◌⊎◌, ℕ, codes, decimal, List, [], ◌∷◌, ◌++◌, Result, Ok, Err}
 use Rattle.std.specs.declared.net.socket_addr.SocketAddr.{SocketAddr}
-use Rattle.std.specs.declared.net.socket_addr.SocketAddrV4.{SocketAddrV4}
 use Rattle.mg_bytes.specs.Lines.{cut, line_of}
 use Rattle.call_agent.specs.declared.issuing.Issued.{Issued}
+use Rattle.surroundings.specs.Around.{Around}
 use Rattle.surroundings.specs.Hearing.{AnswersTo}
 use Rattle.surroundings.specs.Typing.{left_of}
-use Rattle.surroundings.specs.declared.surroundings.Fault.{Fault}
 use Rattle.switchboard.specs.declared.switchboard.Switchboard.{Switchboard}
 use Rattle.switchboard.specs.declared.typed.TypedFault.{TypedFault}
 use Rattle.switchboard.specs.declared.typed.TypedFault.TheVariants.{OutOfMemory, NoMoreIds, BadCommand, NoSuchGateway, Unknown}
@@ -36,19 +35,17 @@ abbrev pub TellsIssued : ℕ → List ℕ → Type 0
 TellsIssued id text = (text ≡ issued_text id) ⊎ (text ≡ fault_text OutOfMemory)
 
 -- why it isn't issued is answered; where it is, it counts, and is sent before
-abbrev pub AnswersIssued : {S : Type 0} → (S → SocketAddrV4 → List ℕ → Result ⊤ Fault → S → Type 0) → (S → SocketAddr → List ℕ → S → Type 0)
-    → Result Issued TypedFault → Wire S → Wire S → Type 0
-AnswersIssued sends answers (Err fault) was is = AnswersAll answers (fault_text fault) was is
-AnswersIssued {S} sends answers (Ok issued) was is =
-    (sent : Wire S) × (text : List ℕ) × SendsCommand sends issued.datagram was sent
-    × TellsIssued issued.id text × AnswersAll answers text sent is
+abbrev pub AnswersIssued : {S : Type 0} → Around S → Result Issued TypedFault → Wire S → Wire S → Type 0
+AnswersIssued around (Err fault) was is = AnswersAll around.answers (fault_text fault) was is
+AnswersIssued {S} around (Ok issued) was is =
+    (sent : Wire S) × (text : List ℕ) × SendsCommand around issued.datagram was sent
+    × TellsIssued issued.id text × AnswersAll around.answers text sent is
 
 -- Where memory is refused for the answer before, nothing is issued.
-abbrev pub AnswersCommand : {S : Type 0} → (S → SocketAddrV4 → List ℕ → Result ⊤ Fault → S → Type 0) → (S → SocketAddr → List ℕ → S
-    → Type 0) → List ℕ → Switchboard → Switchboard → Wire S → Wire S → Type 0
-AnswersCommand sends answers text board now was is =
-    ((now ≡ board) × AnswersAll answers (fault_text OutOfMemory) was is)
-    ⊎ ((issued : Result Issued TypedFault) × IssuesTyped text issued board now × AnswersIssued sends answers issued was is)
+abbrev pub AnswersCommand : {S : Type 0} → Around S → List ℕ → Switchboard → Switchboard → Wire S → Wire S → Type 0
+AnswersCommand around text board now was is =
+    ((now ≡ board) × AnswersAll around.answers (fault_text OutOfMemory) was is)
+    ⊎ ((issued : Result Issued TypedFault) × IssuesTyped text issued board now × AnswersIssued around issued was is)
 
 -- the line that is answered next, and what stands behind it, as they were typed; nothing where there is none
 abbrev pub IsTypedNext : List (List ℕ) → List ℕ → Type 0
@@ -56,8 +53,7 @@ IsTypedNext [] text = text ≡ []
 IsTypedNext (piece ∷ behind) text = (rest : List ℕ) × (cut rest ≡ behind) × (text ≡ typed_text (line_of piece) rest)
 
 -- it is issued, or refused, and that is answered; where memory is refused for its text, it is refused for that
-abbrev pub DoesCommand : {S : Type 0} → (S → SocketAddrV4 → List ℕ → Result ⊤ Fault → S → Type 0) → (S → SocketAddr → List ℕ → S → Type 0)
-    → Switchboard → Switchboard → Wire S → Wire S → Type 0
-DoesCommand sends answers board now was is =
-    ((now ≡ board) × AnswersAll answers (fault_text OutOfMemory) was is)
-    ⊎ ((text : List ℕ) × IsTypedNext (left_of was.lines) text × AnswersCommand sends answers text board now was is)
+abbrev pub DoesCommand : {S : Type 0} → Around S → Switchboard → Switchboard → Wire S → Wire S → Type 0
+DoesCommand around board now was is =
+    ((now ≡ board) × AnswersAll around.answers (fault_text OutOfMemory) was is)
+    ⊎ ((text : List ℕ) × IsTypedNext (left_of was.lines) text × AnswersCommand around text board now was is)

@@ -5,6 +5,7 @@ use Rattle.bad_network.specs.declared.network.BadNetwork.{BadNetwork}
 use Rattle.bad_network.specs.declared.spoiling.Spoiling.{Spoiling}
 use Rattle.bad_network.specs.Waiting.{first_due}
 use Rattle.mg_bytes.specs.Lists.{is_empty}
+use Rattle.surroundings.specs.Around.{Around}
 use Rattle.surroundings.specs.Typing.{left_of}
 use Rattle.surroundings.specs.declared.surroundings.Fault.{Fault}
 use Rattle.surroundings.specs.declared.surroundings.Told.{Told}
@@ -87,12 +88,10 @@ longest_until until None moment = ms_until until moment
 longest_until until (Some due) moment = ms_until (min until due) moment
 
 -- how things stand at a board and over a wire
-pub record IsSituation {S : Type 0} (passes : S → Result ℕ Fault → Type 0) (tells : S → Told → Type 0) (board : Switchboard) (wire : Wire S)
-    (at : Situation)
-    : Type 0 where
+pub record IsSituation {S : Type 0} (around : Around S) (board : Switchboard) (wire : Wire S) (at : Situation) : Type 0 where
   pub told : Told
-  pub told_so : tells wire.around told
-  pub read_so : passes wire.around (Ok at.moment)
+  pub told_so : around.tells wire.around told
+  pub read_so : around.passes wire.around (Ok at.moment)
   pub ticked : at.ticked ≡ wire.now.clock
   pub due : IsWaitedFor (at.ready.commands || at.ready.datagrams) board.gateways.items (due_of wire.network) at.due
   pub end : at.end ≡ wire.end
@@ -100,11 +99,10 @@ pub record IsSituation {S : Type 0} (passes : S → Result ℕ Fault → Type 0)
   pub ready : at.ready ≡ ready_by told (not (is_empty (left_of wire.lines))) (due_of wire.network) wire.now.clock
 
 -- what comes next by a schedule, as things stand, has its turn, until that is the end; and the schedule behind that is the next
-pub record AsksNext {S : Type 0} (passes : S → Result ℕ Fault → Type 0) (tells : S → Told → Type 0) (board : Switchboard) (wire : Wire S)
-    (schedule : Schedule) (goes_on : Bool) (next : Schedule)
-    : Type 0 where
+pub record AsksNext {S : Type 0} (around : Around S) (board : Switchboard) (wire : Wire S) (schedule : Schedule) (goes_on : Bool)
+    (next : Schedule) : Type 0 where
   pub at : Situation
   pub turn : Turn
-  pub situation : IsSituation passes tells board wire at
+  pub situation : IsSituation around board wire at
   pub comes : (turn, next) ≡ next_of schedule at
   pub goes : goes_on ≡ not (is_end turn)

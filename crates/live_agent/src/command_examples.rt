@@ -10,7 +10,7 @@ ghost use Rattle.switchboard.specs.Typed.{typed_text};
 ghost use Rattle.switchboard.specs.TypedCommands.{IssuesTyped};
 ghost use Rattle.switchboard.specs.declared.switchboard.Switchboard.{Switchboard};
 ghost use Rattle.live_agent.specs.declared.wire.Wire.{Wire};
-ghost use Rattle.live_agent.specs.AnyAround.{answers_any, sends_any};
+ghost use Rattle.live_agent.specs.AnyAround.{anywhere};
 ghost use Rattle.live_agent.specs.Sending.{SendsCommand};
 ghost use Rattle.live_agent.specs.TypedCommands.{AnswersAll, AnswersCommand, DoesCommand};
 
@@ -18,19 +18,19 @@ ghost use Rattle.live_agent.specs.TypedCommands.{AnswersAll, AnswersCommand, Doe
 pub fn what_a_command_is_answered_has_examples()
     // Who typed it is told so where it was issued, and sent; else why it wasn't.
     ensures issued { (issued : Issued) (board now : Switchboard) (was sent is : Wire ℕ) →
-        IssuesTyped (codes "AUEP aaln/1\r\n") (Ok issued) board now → SendsCommand sends_any issued.datagram was sent → issued.id ≡ 7 →
-        AnswersAll answers_any (codes "issued 7\n") sent is →
-        AnswersCommand sends_any answers_any (codes "AUEP aaln/1\r\n") board now was is }
-    ensures refused { (board : Switchboard) (was is : Wire ℕ) → AnswersAll answers_any (codes "? VERB NAME, counts, or stop\n") was is →
-        AnswersCommand sends_any answers_any [] board board was is }
+        IssuesTyped (codes "AUEP aaln/1\r\n") (Ok issued) board now → SendsCommand anywhere issued.datagram was sent → issued.id ≡ 7 →
+        AnswersAll anywhere.answers (codes "issued 7\n") sent is →
+        AnswersCommand anywhere (codes "AUEP aaln/1\r\n") board now was is }
+    ensures refused { (board : Switchboard) (was is : Wire ℕ) →
+        AnswersAll anywhere.answers (codes "? VERB NAME, counts, or stop\n") was is → AnswersCommand anywhere [] board board was is }
     // Where memory is refused for that before, nothing is issued.
-    ensures before { (text : List ℕ) (board : Switchboard) (was is : Wire ℕ) → AnswersAll answers_any (codes "! 1 OutOfMemory\n") was is →
-        AnswersCommand sends_any answers_any text board board was is }
+    ensures before { (text : List ℕ) (board : Switchboard) (was is : Wire ℕ) →
+        AnswersAll anywhere.answers (codes "! 1 OutOfMemory\n") was is → AnswersCommand anywhere text board board was is }
     // What isn't a verb and a name changes no board, and nobody is told anything else.
-    ensures unknown { (board now : Switchboard) (was is : Wire ℕ) → AnswersCommand sends_any answers_any [] board now was is →
+    ensures unknown { (board now : Switchboard) (was is : Wire ℕ) → AnswersCommand anywhere [] board now was is →
         (now ≡ board) × (is.journal ≡ was.journal) × (left_of is.lines ≡ []) }
     ensures told { (sender : SocketAddr) (text : List ℕ) (board now : Switchboard) (was is : Wire ℕ) → was.lines.sender ≡ Some sender →
-        AnswersCommand sends_any (λ before to said after. text ≡ said) [] board now was is →
+        AnswersCommand (record anywhere { answers = λ before to said after. text ≡ said }) [] board now was is →
         (text ≡ codes "! 1 OutOfMemory\n") ⊎ (text ≡ codes "? VERB NAME, counts, or stop\n") }
 {}
 
@@ -38,14 +38,14 @@ pub fn what_a_command_is_answered_has_examples()
 pub fn what_a_typed_line_does_has_examples()
     // It is answered with all that stands behind its line; or memory is refused for its text, and nothing is issued.
     ensures next { (piece rest : List ℕ) (board now : Switchboard) (was is : Wire ℕ) → left_of was.lines ≡ piece ∷ cut rest →
-        AnswersCommand sends_any answers_any (typed_text (line_of piece) rest) board now was is →
-        DoesCommand sends_any answers_any board now was is }
-    ensures before { (board : Switchboard) (was is : Wire ℕ) → AnswersAll answers_any (codes "! 1 OutOfMemory\n") was is →
-        DoesCommand sends_any answers_any board board was is }
+        AnswersCommand anywhere (typed_text (line_of piece) rest) board now was is →
+        DoesCommand anywhere board now was is }
+    ensures before { (board : Switchboard) (was is : Wire ℕ) → AnswersAll anywhere.answers (codes "! 1 OutOfMemory\n") was is →
+        DoesCommand anywhere board board was is }
     // Where no line is left there is no command.
     ensures nothing { (board now : Switchboard) (was is : Wire ℕ) → left_of was.lines ≡ [] →
-        DoesCommand sends_any answers_any board now was is → (now ≡ board) × (is.journal ≡ was.journal) }
+        DoesCommand anywhere board now was is → (now ≡ board) × (is.journal ≡ was.journal) }
     ensures told { (sender : SocketAddr) (text : List ℕ) (board now : Switchboard) (was is : Wire ℕ) → was.lines.sender ≡ Some sender →
-        left_of was.lines ≡ [] → DoesCommand sends_any (λ before to said after. text ≡ said) board now was is →
+        left_of was.lines ≡ [] → DoesCommand (record anywhere { answers = λ before to said after. text ≡ said }) board now was is →
         (text ≡ codes "! 1 OutOfMemory\n") ⊎ (text ≡ codes "? VERB NAME, counts, or stop\n") }
 {}

@@ -33,9 +33,7 @@ ghost use Rattle.switchboard.specs.declared.gateway.Gateway.{Gateway};
 ghost use Rattle.live_agent.specs.declared.session.Request.TheVariants as requests;
 ghost use Rattle.switchboard.specs.declared.switchboard.Switchboard.{Switchboard};
 ghost use Rattle.live_agent.specs.declared.wire.Wire.{Wire};
-ghost use Rattle.live_agent.specs.AnyAround.{DoesNextAnywhere};
 ghost use Rattle.live_agent.specs.Clock.{is_behind};
-ghost use Rattle.live_agent.specs.AnyAround.{no_sockets, no_traffic, sends_any, sleeps_long, sleeps_so, receives_any, hears_any, answers_any, ends_any, serves_any, serves_never, writes_any, writes_nothing};
 ghost use Rattle.live_agent.specs.Clock.{milliseconds};
 ghost use Rattle.live_agent.specs.Datagrams.{with_stranger, DealsIf, HearsBy, HearsDatagram, HearsOne, HearsPacket, HearsTexts, SettlesIf, StepsAt, TakesEach, TakesElse, TakesFound, TakesLooked, TakesNext, TakesReceived};
 ghost use Rattle.switchboard.specs.Hearing.{HearsText};
@@ -45,6 +43,7 @@ ghost use Rattle.switchboard.specs.Opening.{gateways_from, known_as, BoardOf};
 ghost use Rattle.switchboard.specs.Steps.{settled_in, WaitsIn};
 ghost use Rattle.switchboard.specs.Taking.{taken_place};
 ghost use Rattle.live_agent.specs.declared.wire.TheConstants.{MOST_AT_ONCE};
+ghost use Rattle.live_agent.specs.AnyAround.{anywhere, ends_any, serves_any, serves_never, writes_any, writes_nothing};
 ghost use Rattle.live_agent.specs.Ending.{counted_in, EndsWith, WritesAndEnds};
 ghost use Rattle.live_agent.specs.Handing.{comes_in, HandsFirst, HandsLast, Leaves, Offers, OffersTo, SendsEachOn, SendsOn, TakesOffer};
 ghost use Rattle.live_agent.specs.Sending.{GoesOut, SendsAll, SendsCommand, SendsOne, SendsOutputs, SendsOver, SettlesLines};
@@ -52,7 +51,7 @@ ghost use Rattle.live_agent.specs.Serving.{RunsTurns, ServesOver, ServesToEnd, S
 ghost use Rattle.live_agent.specs.Settling.{SendsEach, SendsIssued, SendsNext, SettlesBy, ShowsEach, ShowsOne};
 ghost use Rattle.live_agent.specs.Tallying.{leaving_counted, with_receive_fault, with_refusal, with_send_fault, OnlyCounts, OnlyNotes, OnlyRecords, OnlyTells, OnlyTellsAndNotes};
 ghost use Rattle.live_agent.specs.Ticking.{GivesUpEach, GivesUpMany, GivesUpNext, TicksEach, TicksOne, WakesEach, WakesMany};
-ghost use Rattle.live_agent.specs.Turning.{line_request, first_request, DoesRequest, DoesTurn, Notes, TellsCounts, TickedOver, Waits, WaitsUntil};
+ghost use Rattle.live_agent.specs.Turning.{DoesNext, line_request, first_request, DoesRequest, DoesTurn, Notes, TellsCounts, TickedOver, Waits, WaitsUntil};
 ghost use Rattle.switchboard.specs.Typed.{typed_text};
 ghost use Rattle.switchboard.specs.TypedCommands.{IssuesCommand, IssuesMeant, IssuesThere};
 ghost use Rattle.live_agent.specs.TypedCommands.{fault_text, issued_text, TellsIssued, AnswersAll, AnswersIssued, IsTypedNext};
@@ -110,46 +109,46 @@ pub fn what_is_typed_has_examples()
     ensures nothing { first_request true [] ≡ requests.Nothing }
     ensures told { (journal : Journal) (text : List ℕ) → text ≡ counted_in journal → TellsCounts journal text }
     ensures nothing_done { (board now : Switchboard) (was is : Wire ℕ) →
-        DoesRequest sends_any answers_any requests.Nothing board now was is → is ≡ was }
+        DoesRequest anywhere requests.Nothing board now was is → is ≡ was }
     ensures ends { (board now : Switchboard) (was is : Wire ℕ) →
-        DoesRequest sends_any answers_any requests.Stop board now was is → is.end ≡ Some 0 }
+        DoesRequest anywhere requests.Stop board now was is → is.end ≡ Some 0 }
     ensures goes_on { (board now : Switchboard) (was is : Wire ℕ) →
-        DoesRequest sends_any answers_any requests.StopFromAfar board now was is → is.end ≡ was.end }
+        DoesRequest anywhere requests.StopFromAfar board now was is → is.end ≡ was.end }
 {}
 
 /// What turns leave of the board.
 pub fn what_turns_leave_has_examples()
     ensures looks { (board now : Switchboard) (was is : Wire ℕ) →
-        DoesTurn no_traffic no_sockets sleeps_long sends_any receives_any hears_any answers_any 700 Turn.Look board now was is
+        DoesTurn anywhere 700 Turn.Look board now was is
         → (now ≡ board) × (is.lines ≡ was.lines) }
     ensures waits { (board now : Switchboard) (was is : Wire ℕ) →
-        DoesTurn no_traffic no_sockets sleeps_long sends_any receives_any hears_any answers_any 700 (Turn.Wait 700) board now was is
+        DoesTurn anywhere 700 (Turn.Wait 700) board now was is
         → (now ≡ board) × (is.end ≡ was.end) }
     ensures notes { (pause : _) (board now : Switchboard) (was is : Wire ℕ) →
-        DoesTurn no_traffic no_sockets sleeps_long sends_any receives_any hears_any answers_any 700 (Turn.Note pause) board now was is
+        DoesTurn anywhere 700 (Turn.Note pause) board now was is
         → (now ≡ board) × (is.around ≡ was.around) }
     ensures ticks { (board now : Switchboard) (was is : Wire ℕ) →
-        DoesTurn no_traffic no_sockets sleeps_long sends_any receives_any hears_any answers_any 700 (Turn.Tick 700) board now was is
+        DoesTurn anywhere 700 (Turn.Tick 700) board now was is
         → now.notifying ≡ board.notifying }
     ensures visits { (board now : Switchboard) (was is : Wire ℕ) →
-        DoesTurn no_traffic no_sockets sleeps_long sends_any receives_any hears_any answers_any 700 Turn.Visit board now was is
+        DoesTurn anywhere 700 Turn.Visit board now was is
         → (now ≡ board) × (is ≡ was) }
     ensures ends { (board now : Switchboard) (was is : Wire ℕ) →
-        DoesTurn no_traffic no_sockets sleeps_long sends_any receives_any hears_any answers_any 700 Turn.End board now was is
+        DoesTurn anywhere 700 Turn.End board now was is
         → (now ≡ board) × (is ≡ was) }
     // A wait sends nothing, and one that fails counts once, where others count nothing; a pause is noted in the log alone.
-    ensures quiet { (traffic : ℕ → Traffic) (was is : Wire ℕ) → Waits traffic sleeps_long 700 was is
+    ensures quiet { (traffic : ℕ → Traffic) (was is : Wire ℕ) → Waits (record anywhere { traffic = traffic }) 700 was is
         → traffic is.around ≡ traffic was.around }
-    ensures fails { (was is : Wire ℕ) → Waits no_traffic sleeps_long 700 was is → is.journal.value.told ≡ was.journal.value.told }
-    ensures failed { (fault : Fault) (was is : Wire ℕ) → Waits no_traffic (sleeps_so (Err fault)) 700 was is
-        → is.journal.value.tally ≡ with_receive_fault was.journal.value.tally }
-    ensures went_well { (was is : Wire ℕ) → Waits no_traffic (sleeps_so (Ok tt)) 700 was is
+    ensures fails { (was is : Wire ℕ) → Waits anywhere 700 was is → is.journal.value.told ≡ was.journal.value.told }
+    ensures failed { (fault : Fault) (was is : Wire ℕ)
+        → Waits (record anywhere { sleeps = λ around longest outcome after. outcome ≡ Err fault }) 700 was is → is.journal.value.tally ≡ with_receive_fault was.journal.value.tally }
+    ensures went_well { (was is : Wire ℕ) → Waits (record anywhere { sleeps = λ around longest outcome after. outcome ≡ Ok tt }) 700 was is
         → is.journal.value.tally ≡ was.journal.value.tally }
     // It lasts as long as is said, but for 20 ms at most where something waits to be taken; until a moment, but no longer than to what
     // falls due.
-    ensures lasts { (was is : Wire ℕ) → was.is_offering ≡ false → Waits no_traffic sleeps_long 700 was is → is.around ≡ 700 }
-    ensures offers { (was is : Wire ℕ) → was.is_offering ≡ true → Waits no_traffic sleeps_long 700 was is → is.around ≡ 20 }
-    ensures until { (was is : Wire ℕ) (until : WaitsUntil no_traffic sleeps_long 1200 500 [] was is) → was.is_offering ≡ false
+    ensures lasts { (was is : Wire ℕ) → was.is_offering ≡ false → Waits anywhere 700 was is → is.around ≡ 700 }
+    ensures offers { (was is : Wire ℕ) → was.is_offering ≡ true → Waits anywhere 700 was is → is.around ≡ 20 }
+    ensures until { (was is : Wire ℕ) (until : WaitsUntil anywhere 1200 500 [] was is) → was.is_offering ≡ false
         → is.around ≡ longest_until 1200 until.0 500 }
     ensures pauses { (pause : Pause) (was is : Wire ℕ) → Notes pause was is → is.journal.value.tally ≡ was.journal.value.tally }
     ensures paused { (was is : Wire ℕ) → Notes (record { lateness = 31000; read = Some 12 }) was is →
@@ -162,15 +161,15 @@ pub fn what_turns_leave_has_examples()
 pub fn what_a_datagram_does_has_examples()
     // A stranger's counts, and does nothing.
     ensures stranger { (source : SocketAddrV4) (board now : Switchboard) (was is : Wire ℕ) →
-        HearsBy sends_any None source [] board was now is →
+        HearsBy anywhere None source [] board was now is →
         (now ≡ board) × (is.journal.value.tally ≡ with_stranger was.journal.value.tally) × (is.journal.value.log ≡ was.journal.value.log)
         × (is.journal.value.told ≡ was.journal.value.told) }
     // What has no text is heard so; of two the first is heard before the other.
-    ensures no_text { (board now : Switchboard) (was is : Wire ℕ) → HearsTexts sends_any 0 [] board was now is →
+    ensures no_text { (board now : Switchboard) (was is : Wire ℕ) → HearsTexts anywhere 0 [] board was now is →
         (now ≡ board) × (is ≡ was) }
-    ensures two { (board now : Switchboard) (was is : Wire ℕ) → HearsTexts sends_any 0 (codes "a" ∷ codes "b" ∷ []) board was now is →
-        (heard : Switchboard) × (sent : Wire ℕ) × HearsOne sends_any 0 (codes "a") board was heard sent }
-    ensures text { (board now : Switchboard) (was is : Wire ℕ) → HearsOne sends_any 0 [] board was now is →
+    ensures two { (board now : Switchboard) (was is : Wire ℕ) → HearsTexts anywhere 0 (codes "a" ∷ codes "b" ∷ []) board was now is →
+        (heard : Switchboard) × (sent : Wire ℕ) × HearsOne anywhere 0 (codes "a") board was heard sent }
+    ensures text { (board now : Switchboard) (was is : Wire ℕ) → HearsOne anywhere 0 [] board was now is →
         (heard : Switchboard) × (told : _) × HearsText 0 [] board was.journal.value heard told }
     // Its agent takes it, or refuses it: nothing else of the board changes, nor of the wire.
     ensures nobody_steps { (source : SocketAddrV4) (outputs : _) (board now : Switchboard) → board.gateways.items ≡ [] →
@@ -178,39 +177,39 @@ pub fn what_a_datagram_does_has_examples()
     ensures steps { (source : SocketAddrV4) (outputs : _) (board now : Switchboard) → StepsAt 0 source [] outputs board now →
         now.office ≡ board.office }
     // Where its agent refused it, no text is heard, and nothing is taken.
-    ensures refused { (board now : Switchboard) (was is : Wire ℕ) → DealsIf sends_any false 0 [] board was now is →
+    ensures refused { (board now : Switchboard) (was is : Wire ℕ) → DealsIf anywhere false 0 [] board was now is →
         (now ≡ board) × (is ≡ was) }
     // Where a line told nothing none is settled.
-    ensures nothing { (board now : Switchboard) (was is : Wire ℕ) → SettlesIf sends_any false board was now is →
+    ensures nothing { (board now : Switchboard) (was is : Wire ℕ) → SettlesIf anywhere false board was now is →
         (now ≡ board) × (is ≡ was) }
-    ensures something { (board now : Switchboard) (was is : Wire ℕ) → SettlesIf sends_any true board was now is → SettlesLines board now }
-    ensures counts_none { (board now : Switchboard) (was is : Wire ℕ) (takes : TakesNext sends_any 0 0 board was now is) →
+    ensures something { (board now : Switchboard) (was is : Wire ℕ) → SettlesIf anywhere true board was now is → SettlesLines board now }
+    ensures counts_none { (board now : Switchboard) (was is : Wire ℕ) (takes : TakesNext anywhere 0 0 board was now is) →
         takes.found ≡ false →
         takes.told.journal.value.tally ≡ was.journal.value.tally }
-    ensures counts { (board now : Switchboard) (was is : Wire ℕ) (takes : TakesNext sends_any 0 0 board was now is) → takes.found ≡ true →
+    ensures counts { (board now : Switchboard) (was is : Wire ℕ) (takes : TakesNext anywhere 0 0 board was now is) → takes.found ≡ true →
         takes.told.journal.value.tally ≡ with_notification was.journal.value.tally }
-    ensures waits_then { (line : ℕ) (board now : Switchboard) (was is : Wire ℕ) (takes : TakesNext sends_any 0 0 board was now is) →
+    ensures waits_then { (line : ℕ) (board now : Switchboard) (was is : Wire ℕ) (takes : TakesNext anywhere 0 0 board was now is) →
         takes.found ≡ true →
         taken_place 0 (slice_get board.gateways.items 0) board.notifying ≡ Some line → WaitsIn line takes.taken.office }
-    ensures room { (board now : Switchboard) (was is : Wire ℕ) (looks : TakesLooked sends_any receives_any board was now is) →
+    ensures room { (board now : Switchboard) (was is : Wire ℕ) (looks : TakesLooked anywhere board was now is) →
         length looks.room ≡ 4001 }
-    ensures logs_nothing { (board now : Switchboard) (was is : Wire ℕ) (takes : TakesNext sends_any 0 0 board was now is) →
+    ensures logs_nothing { (board now : Switchboard) (was is : Wire ℕ) (takes : TakesNext anywhere 0 0 board was now is) →
         (takes.told.journal.value.log ≡ was.journal.value.log) × (takes.told.journal.value.capture ≡ was.journal.value.capture) }
-    ensures no_line { (board now : Switchboard) (was is : Wire ℕ) → TakesEach sends_any 0 0 board was now is → now ≡ board }
+    ensures no_line { (board now : Switchboard) (was is : Wire ℕ) → TakesEach anywhere 0 0 board was now is → now ≡ board }
     // Where the network handed one over the sockets aren't looked for one; where it handed over none, nothing is heard.
-    ensures handed { (board now : Switchboard) (was is : Wire ℕ) → TakesElse sends_any receives_any true board was now is → is ≡ was }
-    ensures not_handed { (board now : Switchboard) (was is : Wire ℕ) → HearsPacket sends_any None board was now is →
+    ensures handed { (board now : Switchboard) (was is : Wire ℕ) → TakesElse anywhere true board was now is → is ≡ was }
+    ensures not_handed { (board now : Switchboard) (was is : Wire ℕ) → HearsPacket anywhere None board was now is →
         (now ≡ board) × (is ≡ was) }
-    ensures looks { (board now : Switchboard) (was is : Wire ℕ) → TakesFound sends_any None [] board was now is →
+    ensures looks { (board now : Switchboard) (was is : Wire ℕ) → TakesFound anywhere None [] board was now is →
         (now ≡ board) × (is ≡ was) }
-    ensures looks_for_one { (board now : Switchboard) (was is : Wire ℕ) (looks : TakesLooked sends_any receives_any board was now is) →
+    ensures looks_for_one { (board now : Switchboard) (was is : Wire ℕ) (looks : TakesLooked anywhere board was now is) →
         looks.outcome ≡ Ok None → looks.looked.read ≡ was.read }
     // Without such a network it is heard at once.
     ensures at_once { (source : SocketAddrV4) (board now : Switchboard) (was is : Wire ℕ) →
-        TakesReceived sends_any None source [] board was now is → HearsDatagram sends_any source [] board was now is }
+        TakesReceived anywhere None source [] board was now is → HearsDatagram anywhere source [] board was now is }
     // Nothing of what was typed is lost by what is sent, nor of what was read, and the end hasn't come by it.
     ensures sends { (was is : Wire ℕ) → SendsOver was is → (is.lines ≡ was.lines) × (is.read ≡ was.read) × (is.end ≡ was.end) }
-    ensures sends_none { (was is : Wire ℕ) → SendsAll sends_any false [] was is → is ≡ was }
+    ensures sends_none { (was is : Wire ℕ) → SendsAll anywhere false [] was is → is ≡ was }
     ensures ticks { (was is : Wire ℕ) → TickedOver 900 700 was is → (is.lines ≡ was.lines) × (is.read ≡ was.read) }
     ensures clock { (was is : Wire ℕ) → TickedOver 900 700 was is → is.now.clock ≡ 700 }
     ensures behind { (was is : Wire ℕ) → TickedOver 900 700 was is → is.is_behind ≡ true }
@@ -232,10 +231,10 @@ pub fn what_a_network_hands_over_has_examples()
     ensures comes { comes_in In ≡ true }
     ensures goes { comes_in Out ≡ false }
     ensures comes_in_last { (packet : Packet) (was is : Wire ℕ) → HandsLast 3 (Some packet) was is → packet.way ≡ In }
-    ensures goes_out_before { (packet : Packet) (was is : Wire ℕ) → SendsOn sends_any packet was is → packet.way ≡ Out }
-    ensures none_out { (was is : Wire ℕ) → SendsEachOn sends_any [] was is → is ≡ was }
-    ensures one_out { (packet : Packet) (was is : Wire ℕ) → SendsEachOn sends_any (packet ∷ []) was is →
-        (sent : Wire ℕ) × SendsOn sends_any packet was sent }
+    ensures goes_out_before { (packet : Packet) (was is : Wire ℕ) → SendsOn anywhere packet was is → packet.way ≡ Out }
+    ensures none_out { (was is : Wire ℕ) → SendsEachOn anywhere [] was is → is ≡ was }
+    ensures one_out { (packet : Packet) (was is : Wire ℕ) → SendsEachOn anywhere (packet ∷ []) was is →
+        (sent : Wire ℕ) × SendsOn anywhere packet was sent }
     // What is offered to it has its copies wait, and counts as what it becomes; without one nothing counts.
     ensures offered { (was : BadNetwork) (counted : Tally) → TakesOffer [] was was.waiting.items counted (with_refusal counted) }
     ensures offered_nobody { (peer : SocketAddrV4) (is : Option BadNetwork) (counted counts : Tally) →
@@ -246,8 +245,8 @@ pub fn what_a_network_hands_over_has_examples()
     // What leaves doesn't count; what doesn't counts as a fault.
     ensures leaves { (tally : Tally) → leaving_counted (Ok tt) tally ≡ tally }
     ensures stays { (fault : Fault) (tally : Tally) → leaving_counted (Err fault) tally ≡ with_send_fault tally }
-    ensures handed { (to : SocketAddrV4) (was is : Wire ℕ) → Leaves (λ before peer bytes outcome after. peer ≡ to) to [] was is →
-        is.network ≡ was.network }
+    ensures handed { (to : SocketAddrV4) (was is : Wire ℕ) →
+        Leaves (record anywhere { sends = λ before peer bytes outcome after. peer ≡ to }) to [] was is → is.network ≡ was.network }
 {}
 
 /// What changes of a journal beside what counts.
@@ -260,11 +259,11 @@ pub fn what_is_recorded_has_examples()
     ensures tells_and_notes { (was is : Journal) → OnlyTellsAndNotes was is → (is.capture ≡ was.capture) × (is.written ≡ was.written) }
     // So it is of what comes, of what is sent, and of what is given up.
     ensures came { (source : SocketAddrV4) (board now : Switchboard) (was is : Wire ℕ)
-        (hears : HearsDatagram sends_any source [] board was now is) →
+        (hears : HearsDatagram anywhere source [] board was now is) →
         hears.came.journal.value.told ≡ was.journal.value.told }
-    ensures sent { (to : SocketAddrV4) (was is : Wire ℕ) (sends : SendsOne sends_any true to [] was is) →
+    ensures sent { (to : SocketAddrV4) (was is : Wire ℕ) (sends : SendsOne anywhere true to [] was is) →
         sends.noted.journal.value.told ≡ was.journal.value.told }
-    ensures command { (datagram : OutDatagram) (was is : Wire ℕ) (sends : SendsCommand sends_any datagram was is) →
+    ensures command { (datagram : OutDatagram) (was is : Wire ℕ) (sends : SendsCommand anywhere datagram was is) →
         sends.counted.journal.value.log ≡ was.journal.value.log }
     ensures given_up { (board now : Switchboard) (was is : Wire ℕ) → GivesUpNext true 0 board was now is →
         is.journal.value.capture ≡ was.journal.value.capture }
@@ -274,57 +273,58 @@ pub fn what_is_recorded_has_examples()
 pub fn what_is_sent_has_examples()
     // A datagram goes to whom it is for, as it is; again or for the first time.
     ensures nobody_else { (to other : SocketAddrV4) (was is : Wire ℕ) → was.network ≡ None →
-        SendsOne (λ before peer bytes outcome after. peer ≡ other) true to [] was is → to ≡ other }
+        SendsOne (record anywhere { sends = λ before peer bytes outcome after. peer ≡ other }) true to [] was is → to ≡ other }
     ensures as_it_is { (to : SocketAddrV4) (was is : Wire ℕ) → was.network ≡ None →
-        SendsOne (λ before peer bytes outcome after. bytes ≡ codes "a") true to (codes "b") was is → codes "b" ≡ codes "a" }
+        SendsOne (record anywhere { sends = λ before peer bytes outcome after. bytes ≡ codes "a" }) true to (codes "b") was is →
+        codes "b" ≡ codes "a" }
     ensures to_the_network { (to : SocketAddrV4) (network : BadNetwork) (was is : Wire ℕ) →
-        GoesOut (λ before peer bytes outcome after. ⊥) to [] (Some network) was is →
+        GoesOut (record anywhere { sends = λ before peer bytes outcome after. ⊥ }) to [] (Some network) was is →
         is.around ≡ was.around }
-    ensures all { (datagram : OutDatagram) (was is : Wire ℕ) → SendsAll sends_any true (datagram ∷ []) was is →
-        (sent : Wire ℕ) × SendsOne sends_any true datagram.to datagram.bytes was sent }
-    ensures went_on { (was is : Wire ℕ) (went_on : _) → SendsOutputs sends_any true (Ok []) went_on was is → (went_on ≡ true) × (is ≡ was) }
-    ensures refused { (refusal : Refusal) (was is : Wire ℕ) (went_on : _) → SendsOutputs sends_any true (Err refusal) went_on was is →
+    ensures all { (datagram : OutDatagram) (was is : Wire ℕ) → SendsAll anywhere true (datagram ∷ []) was is →
+        (sent : Wire ℕ) × SendsOne anywhere true datagram.to datagram.bytes was sent }
+    ensures went_on { (was is : Wire ℕ) (went_on : _) → SendsOutputs anywhere true (Ok []) went_on was is → (went_on ≡ true) × (is ≡ was) }
+    ensures refused { (refusal : Refusal) (was is : Wire ℕ) (went_on : _) → SendsOutputs anywhere true (Err refusal) went_on was is →
         (went_on ≡ false) × (is.journal.value.tally ≡ with_refusal was.journal.value.tally) × (is.journal.value.log ≡ was.journal.value.log)
         × (is.journal.value.told ≡ was.journal.value.told) }
-    ensures command { (datagram : OutDatagram) (was is : Wire ℕ) → SendsCommand sends_any datagram was is →
-        (counted : Wire ℕ) × SendsOne sends_any false datagram.to datagram.bytes counted is }
+    ensures command { (datagram : OutDatagram) (was is : Wire ℕ) → SendsCommand anywhere datagram was is →
+        (counted : Wire ℕ) × SendsOne anywhere false datagram.to datagram.bytes counted is }
     // Lines are settled one behind another, each is shown before any is sent something; while the clock is behind none is.
-    ensures behind { (board now : Switchboard) (was is : Wire ℕ) → SettlesBy sends_any true board was now is → (now ≡ board) × (is ≡ was) }
+    ensures behind { (board now : Switchboard) (was is : Wire ℕ) → SettlesBy anywhere true board was now is → (now ≡ board) × (is ≡ was) }
     ensures none_shown { (board now : Switchboard) (was is : Wire ℕ) → ShowsEach 0 board was now is → (now ≡ board) × (is ≡ was) }
     ensures one_shown { (board now : Switchboard) (was is : Wire ℕ) → ShowsEach 1 board was now is → (shown : Switchboard) × (told : Wire ℕ)
         × (shown ≡ board) × (told ≡ was) × ShowsOne 0 shown told now is }
-    ensures none_sent { (board now : Switchboard) (was is : Wire ℕ) → SendsEach sends_any 0 board was now is → (now ≡ board) × (is ≡ was) }
-    ensures not_issued { (was is : Wire ℕ) → SendsIssued sends_any (Ok None) was is → is ≡ was }
-    ensures none_settled { (board now : Switchboard) (was is : Wire ℕ) (sends : SendsNext sends_any 0 board was now is) →
+    ensures none_sent { (board now : Switchboard) (was is : Wire ℕ) → SendsEach anywhere 0 board was now is → (now ≡ board) × (is ≡ was) }
+    ensures not_issued { (was is : Wire ℕ) → SendsIssued anywhere (Ok None) was is → is ≡ was }
+    ensures none_settled { (board now : Switchboard) (was is : Wire ℕ) (sends : SendsNext anywhere 0 board was now is) →
         settled_in 0 board.office ≡ None → sends.issued ≡ Ok None }
-    ensures refused_too { (fault : IssueFault) (was is : Wire ℕ) → SendsIssued sends_any (Err fault) was is →
+    ensures refused_too { (fault : IssueFault) (was is : Wire ℕ) → SendsIssued anywhere (Err fault) was is →
         is.journal.value.tally ≡ with_refusal was.journal.value.tally }
-    ensures issued { (issued : Issued) (was is : Wire ℕ) → SendsIssued sends_any (Ok (Some issued)) was is →
-        SendsCommand sends_any issued.datagram was is }
+    ensures issued { (issued : Issued) (was is : Wire ℕ) → SendsIssued anywhere (Ok (Some issued)) was is →
+        SendsCommand anywhere issued.datagram was is }
 {}
 
 /// What a tick does.
 pub fn what_a_tick_does_has_examples()
-    ensures no_agent { (board now : Switchboard) (was is : Wire ℕ) → TicksEach sends_any 700 0 board was now is →
+    ensures no_agent { (board now : Switchboard) (was is : Wire ℕ) → TicksEach anywhere 700 0 board was now is →
         (now ≡ board) × (is ≡ was) }
-    ensures again { (board now : Switchboard) (was is : Wire ℕ) (ticks : TicksOne sends_any 700 0 board was now is) →
-        SendsOutputs sends_any true ticks.outputs ticks.went_on was is }
+    ensures again { (board now : Switchboard) (was is : Wire ℕ) (ticks : TicksOne anywhere 700 0 board was now is) →
+        SendsOutputs anywhere true ticks.outputs ticks.went_on was is }
     // Where there is no gateway none says anything; a clock that may go on does, where nothing falls due by then.
-    ensures nobody_ticks { (board now : Switchboard) (was is : Wire ℕ) (ticks : TicksOne sends_any 700 0 board was now is) →
+    ensures nobody_ticks { (board now : Switchboard) (was is : Wire ℕ) (ticks : TicksOne anywhere 700 0 board was now is) →
         board.gateways.items ≡ [] → ticks.outputs ≡ Ok [] }
     ensures goes_on { (gateway after : Gateway) (events : List AgentEvent) (board now : Switchboard) (was is : Wire ℕ)
-        (ticks : TicksOne sends_any 700 0 board was now is) → board.gateways.items ≡ gateway ∷ [] → now.gateways.items ≡ after ∷ [] →
+        (ticks : TicksOne anywhere 700 0 board was now is) → board.gateways.items ≡ gateway ∷ [] → now.gateways.items ≡ after ∷ [] →
         gateway.ticked ≡ 500 → AgentStands gateway.agent.value events → HasAgent 500 [] gateway → result_err ticks.outputs ≡ None }
     // So many are given up, woken, or handed over at most at a turn.
     ensures most { MOST_AT_ONCE ≡ 65535 }
     // What is given up counts.
-    ensures none_given_up { (board now : Switchboard) (was is : Wire ℕ) → GivesUpMany sends_any 0 0 board was now is →
+    ensures none_given_up { (board now : Switchboard) (was is : Wire ℕ) → GivesUpMany anywhere 0 0 board was now is →
         (now ≡ board) × (is ≡ was) }
     ensures counts { (board now : Switchboard) (was is : Wire ℕ) → GivesUpNext true 0 board was now is →
         is.journal.value.tally ≡ with_given_up was.journal.value.tally }
     ensures counts_none { (board now : Switchboard) (was is : Wire ℕ) → GivesUpNext false 0 board was now is →
         is.journal.value.tally ≡ was.journal.value.tally }
-    ensures no_gateway { (board now : Switchboard) (was is : Wire ℕ) → GivesUpEach sends_any 0 board was now is →
+    ensures no_gateway { (board now : Switchboard) (was is : Wire ℕ) → GivesUpEach anywhere 0 board was now is →
         (now ≡ board) × (is ≡ was) }
     ensures none_woken { (board now : Switchboard) → WakesMany 0 0 board now → now ≡ board }
     ensures no_gateway_woken { (board now : Switchboard) → WakesEach 0 board now → now ≡ board }
@@ -360,21 +360,21 @@ pub fn how_a_desk_serves_has_examples()
         (ending ≡ CommonEnding.OutOfMemory) ⊎ ((board : Switchboard) × BoardOf config true 525600000 board) }
     // It stops where the clock fails, and not where it tells a moment.
     ensures fails { (fault : Fault) (board : Switchboard) (wire : Wire ℕ) (schedule : Schedule) →
-        StopsAt (λ around outcome. outcome ≡ Ok 5) (λ around told. ⊥) (Err fault) 3 board wire schedule → ⊥ }
+        StopsAt (record anywhere { passes = λ around outcome. outcome ≡ Ok 5 }) (Err fault) 3 board wire schedule → ⊥ }
 {}
 
 /// A turn is what comes next by the schedule, as things stand, with the time of day that was told; behind it what was recorded is written.
 pub fn what_comes_next_has_examples()
     ensures next { (board now : Switchboard) (was is : Wire ℕ) (schedule after : Schedule)
-        (does : DoesNextAnywhere board now was is schedule after) → after ≡ (next_of schedule does.at).1 }
+        (does : DoesNext anywhere board now was is schedule after) → after ≡ (next_of schedule does.at).1 }
     ensures goes_on { (board now : Switchboard) (was is : Wire ℕ) (schedule after : Schedule)
-        (does : DoesNextAnywhere board now was is schedule after) → is_end (next_of schedule does.at).0 ≡ false }
+        (does : DoesNext anywhere board now was is schedule after) → is_end (next_of schedule does.at).0 ≡ false }
     ensures dated { (board now : Switchboard) (was is : Wire ℕ) (schedule after : Schedule)
-        (does : DoesNextAnywhere board now was is schedule after) → does.begun.now.time ≡ 7 }
+        (does : DoesNext anywhere board now was is schedule after) → does.begun.now.time ≡ 7 }
     ensures begins { (board now : Switchboard) (was is : Wire ℕ) (schedule after : Schedule)
-        (does : DoesNextAnywhere board now was is schedule after) → (does.begun.journal ≡ was.journal) × (does.begun.lines ≡ was.lines) }
+        (does : DoesNext anywhere board now was is schedule after) → (does.begun.journal ≡ was.journal) × (does.begun.lines ≡ was.lines) }
     ensures behind_time { (board now : Switchboard) (was is : Wire ℕ) (schedule after : Schedule)
-        (does : DoesNextAnywhere board now was is schedule after) → does.begun.is_behind ≡ is_behind does.at.moment does.at.ticked }
+        (does : DoesNext anywhere board now was is schedule after) → does.begun.is_behind ≡ is_behind does.at.moment does.at.ticked }
 {}
 
 /// What a command does that was typed.
@@ -390,14 +390,14 @@ pub fn what_a_typed_command_does_has_examples()
     ensures nobody { fault_text TypedFault.NoSuchGateway ≡ codes "! 4 NoSuchGateway\n" }
     ensures not_known { fault_text TypedFault.Unknown ≡ codes "? VERB NAME, counts, or stop\n" }
     ensures memory { fault_text TypedFault.OutOfMemory ≡ codes "! 1 OutOfMemory\n" }
-    ensures answered { (was is : Wire ℕ) → AnswersAll answers_any [] was is → is.journal ≡ was.journal }
+    ensures answered { (was is : Wire ℕ) → AnswersAll anywhere.answers [] was is → is.journal ≡ was.journal }
     ensures id { issued_text 7 ≡ codes "issued 7\n" }
     ensures told { TellsIssued 12 (codes "issued 12\n") }
     ensures not_told { TellsIssued 12 (codes "! 1 OutOfMemory\n") }
-    ensures sent { (issued : Issued) (was is : Wire ℕ) → AnswersIssued sends_any answers_any (Ok issued) was is →
-        (sent : Wire ℕ) × SendsCommand sends_any issued.datagram was sent }
-    ensures refused { (fault : TypedFault) (was is : Wire ℕ) → AnswersIssued sends_any answers_any (Err fault) was is →
-        AnswersAll answers_any (fault_text fault) was is }
+    ensures sent { (issued : Issued) (was is : Wire ℕ) → AnswersIssued anywhere (Ok issued) was is →
+        (sent : Wire ℕ) × SendsCommand anywhere issued.datagram was sent }
+    ensures refused { (fault : TypedFault) (was is : Wire ℕ) → AnswersIssued anywhere (Err fault) was is →
+        AnswersAll anywhere.answers (fault_text fault) was is }
     ensures nothing { (text : List ℕ) → IsTypedNext [] text → text ≡ [] }
     ensures next { (piece rest : List ℕ) → cut rest ≡ [] → IsTypedNext (piece ∷ []) (typed_text (line_of piece) rest) }
 {}

@@ -1,13 +1,12 @@
 //! Worked examples of what a tick leaves, and of what becomes of a turn, as theorems.
 #![tactic(auto)]
 
-ghost use Rattle.std.specs.Prelude.{◌≡◌, ⊤, ℕ, true, false, Ok};
+ghost use Rattle.std.specs.Prelude.{◌≡◌, ℕ, true, false, Ok};
 ghost use Rattle.switchboard.specs.declared.switchboard.Switchboard.{Switchboard};
 ghost use Rattle.turns.specs.Schedule.{next_of};
 ghost use Rattle.turns.specs.declared.schedule.Schedule.{Schedule};
 ghost use Rattle.live_agent.specs.declared.wire.Wire.{Wire};
-ghost use Rattle.live_agent.specs.AnyAround.{answers_any, hears_any, no_sockets, no_traffic, receives_any, sends_any, sleeps_long};
-ghost use Rattle.live_agent.specs.AnyAround.{DoesNextAnywhere};
+ghost use Rattle.live_agent.specs.AnyAround.{anywhere};
 ghost use Rattle.live_agent.specs.Settling.{SettlesAll};
 ghost use Rattle.live_agent.specs.Turning.{DoesNext, DoesTurn, TickedOver};
 ghost use Rattle.live_agent.specs.Wiring.{IsSituation};
@@ -28,22 +27,22 @@ pub fn what_a_tick_leaves_has_examples()
 pub fn what_is_done_next_has_examples()
     // It is as things stand before it: the clock and the time of day are asked before anything is done.
     ensures stands { (board now : Switchboard) (was is : Wire ℕ) (schedule next : Schedule)
-        (does : DoesNextAnywhere board now was is schedule next) →
-        IsSituation (λ around clock. ⊤) (λ around told. ⊤) board was does.at }
+        (does : DoesNext anywhere board now was is schedule next) →
+        IsSituation anywhere board was does.at }
     ensures asked { (board now : Switchboard) (was is : Wire ℕ) (schedule next : Schedule)
-        (does : DoesNext no_traffic no_sockets sends_any (λ around clock. clock ≡ Ok around) (λ around time. time ≡ around)
-        (λ around told. ⊤) sleeps_long receives_any hears_any answers_any board now was is schedule next) →
+        (does : DoesNext (record anywhere { passes = λ around clock. clock ≡ Ok around; dates = λ around time. time ≡ around })
+        board now was is schedule next) →
         (does.at.moment ≡ was.around) × (does.begun.now.time ≡ was.around) }
     // Nothing else of the wire changes by that.
     ensures begins { (board now : Switchboard) (was is : Wire ℕ) (schedule next : Schedule)
-        (does : DoesNextAnywhere board now was is schedule next) →
+        (does : DoesNext anywhere board now was is schedule next) →
         (does.begun.around ≡ was.around) × (does.begun.network ≡ was.network) × (does.begun.now.clock ≡ was.now.clock)
         × (does.begun.read ≡ was.read) × (does.begun.end ≡ was.end) × (does.begun.is_offering ≡ was.is_offering) }
     // Then lines are settled, and behind them the turn is had at that moment.
     ensures settles { (board now : Switchboard) (was is : Wire ℕ) (schedule next : Schedule)
-        (does : DoesNextAnywhere board now was is schedule next) → SettlesAll sends_any board does.begun does.settled does.sent }
+        (does : DoesNext anywhere board now was is schedule next) → SettlesAll anywhere board does.begun does.settled does.sent }
     ensures turn { (board now : Switchboard) (was is : Wire ℕ) (schedule next : Schedule)
-        (does : DoesNextAnywhere board now was is schedule next) →
-        DoesTurn no_traffic no_sockets sleeps_long sends_any receives_any hears_any answers_any does.at.moment (next_of schedule does.at).0
+        (does : DoesNext anywhere board now was is schedule next) →
+        DoesTurn anywhere does.at.moment (next_of schedule does.at).0
         does.settled now does.sent is }
 {}

@@ -4,7 +4,6 @@ ghost use Rattle.agent_texts.specs.Counts.{nothing_counted};
 ghost use Rattle.live_ends.specs.declared.ending.CommonEnding.TheVariants.{OutOfMemory};
 ghost use Rattle.live_agent.specs.Clock.{milliseconds};
 ghost use Rattle.live_agent.specs.Ending.{is_record_refused};
-ghost use Rattle.live_agent.specs.Handing.{HandsTo};
 ghost use Rattle.live_agent.specs.Serving.{Serves, ServesOver, ServesToEnd, TurnsOnce};
 ghost use Rattle.live_agent.specs.Wiring.{SpoilsSo};
 ghost use Rattle.live_outlets.specs.Recording.{state_when};
@@ -68,7 +67,7 @@ pub fn wire_over<S: Surroundings + Drop>(
 ) -> Result<Box<Wire<S>>, OutOfMemory>
     ensures around { IfOk result (λ wire. wire.value.around ≡ around.value) }
     ensures end { IfOk result (λ wire. wire.value.end ≡ settings.end) }
-    ensures dated { IfOk result (λ wire. S.dates around.value wire.value.now.time) }
+    ensures dated { IfOk result (λ wire. S.around.dates around.value wire.value.now.time) }
     ensures begins { IfOk result (λ wire. (left_of wire.value.lines ≡ []) × (wire.value.now.clock ≡ 0) × (wire.value.read ≡ 0)) }
     ensures counts { IfOk result (λ wire. wire.value.journal.value.tally ≡ nothing_counted) }
     ensures spoilt { IfOk result (λ wire. is_some wire.value.network ≡ is_some settings.network) }
@@ -153,8 +152,7 @@ fn serve_to_end<R: Clock, S: Surroundings + Drop, W: Recorder + Finisher>(
     recorder: &mut W,
 ) -> CommonEnding
     ensures { ServesToEnd
-        (Serves S.passes S.tells (TurnsOnce S.traffic S.sockets (HandsTo S.sends S.traffic) S.passes S.dates S.tells S.sleeps S.receives
-        S.hears S.answers W.writes)) W.writes W.ends board wire.old wire.new recorder.new result }
+        (Serves S.around (TurnsOnce S.around W.writes)) W.writes W.ends board wire.old wire.new recorder.new result }
 {
     let served = serve(alloc, &mut board, wire, recorder);
     board.close();
@@ -183,8 +181,7 @@ pub fn serve_over<R: Clock, S: Surroundings + Drop, W: Recorder + Finisher>(
     recorder: &mut W,
 ) -> CommonEnding
     ensures { ServesOver config.now is_routed
-        (Serves S.passes S.tells (TurnsOnce S.traffic S.sockets (HandsTo S.sends S.traffic) S.passes S.dates S.tells S.sleeps S.receives
-        S.hears S.answers W.writes)) W.writes W.ends wire.old wire.new recorder.new result }
+        (Serves S.around (TurnsOnce S.around W.writes)) W.writes W.ends wire.old wire.new recorder.new result }
 {
     match board_of(alloc, config, is_routed, wire) {
         Ok(board) => serve_to_end(rt, alloc, board, wire, recorder),

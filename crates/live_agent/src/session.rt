@@ -2,7 +2,6 @@
 ghost use Rattle.std.specs.Prelude.{◌≡◌, ◌||◌, [], Err, IfOk, IfErr};
 ghost use Rattle.live_agent.specs.Clock.{is_behind};
 ghost use Rattle.live_agent.specs.Datagrams.{HearsDatagram, HearsTexts, TakesDatagram, TakesEach, TakesOver};
-ghost use Rattle.live_agent.specs.Handing.{HandsTo};
 ghost use Rattle.live_agent.specs.Sending.{SendsCommand, SendsOutputs};
 ghost use Rattle.live_agent.specs.Settling.{SendsEach, SendsIssued, SettlesAll, ShowsEach};
 ghost use Rattle.live_agent.specs.Ticking.{GivesUpAll, GivesUpEach, TicksEach, WakesAll, WakesEach};
@@ -40,7 +39,7 @@ const ISSUED_ROOM: usize = 17;
 
 // A command was issued.
 fn send_issued<S: Surroundings + Drop>(wire: &mut Wire<S>, issued: &Issued)
-    ensures { SendsCommand (HandsTo S.sends S.traffic) issued.now.datagram wire.old wire.new }
+    ensures { SendsCommand S.around issued.now.datagram wire.old wire.new }
 {
     count(&mut wire.journal.tally.commands);
     wire.send(issued.datagram.to, issued.datagram.bytes.as_bytes(), false);
@@ -67,7 +66,7 @@ fn send_if_issued<S: Surroundings + Drop>(
     wire: &mut Wire<S>,
     issued: Result<Option<Issued>, IssueFault>,
 )
-    ensures { SendsIssued (HandsTo S.sends S.traffic) issued wire.old wire.new }
+    ensures { SendsIssued S.around issued wire.old wire.new }
 {
     match issued {
         Ok(Some(issued)) => send_issued(wire, &issued),
@@ -78,7 +77,7 @@ fn send_if_issued<S: Surroundings + Drop>(
 
 // Sends so many lines that are settled what they are to be sent, one behind another.
 fn send_each<S: Surroundings + Drop>(board: &mut Switchboard, wire: &mut Wire<S>, lines: usize)
-    ensures { SendsEach (HandsTo S.sends S.traffic) lines board.old wire.old board.new wire.new }
+    ensures { SendsEach S.around lines board.old wire.old board.new wire.new }
 {
     for index in 0..lines {
         let issued = board.issue_next(index);
@@ -89,7 +88,7 @@ fn send_each<S: Surroundings + Drop>(board: &mut Switchboard, wire: &mut Wire<S>
 // Tells how the lines to which something has happened stand, and sends them what they are to be sent. Where the clock is behind they go
 // on waiting.
 fn settle<S: Surroundings + Drop>(board: &mut Switchboard, wire: &mut Wire<S>)
-    ensures { SettlesAll (HandsTo S.sends S.traffic) board.old wire.old board.new wire.new }
+    ensures { SettlesAll S.around board.old wire.old board.new wire.new }
 {
     if wire.is_behind {
         return;
@@ -106,7 +105,7 @@ fn send_outputs<S: Surroundings + Drop>(
     outputs: Result<Outputs, Refusal>,
     is_repeat: bool,
 ) -> bool
-    ensures { SendsOutputs (HandsTo S.sends S.traffic) is_repeat outputs result wire.old wire.new }
+    ensures { SendsOutputs S.around is_repeat outputs result wire.old wire.new }
 {
     match outputs {
         Ok(outputs) => {
@@ -127,7 +126,7 @@ fn deal_with<S: Surroundings + Drop>(
     place: usize,
     bytes: &[u8],
 )
-    ensures { HearsTexts (HandsTo S.sends S.traffic) place (texts_of bytes.now) board.old wire.old board.new wire.new }
+    ensures { HearsTexts S.around place (texts_of bytes.now) board.old wire.old board.new wire.new }
 {
     let Some(mut rest) = texts(bytes) else {
         return;
@@ -145,7 +144,7 @@ fn take_each<S: Surroundings + Drop>(
     place: usize,
     lines: usize,
 )
-    ensures { TakesEach (HandsTo S.sends S.traffic) place lines board.old wire.old board.new wire.new }
+    ensures { TakesEach S.around place lines board.old wire.old board.new wire.new }
 {
     for index in 0..lines {
         if !board.take(&mut wire.journal, place, index) {
@@ -162,7 +161,7 @@ fn hear<S: Surroundings + Drop>(
     source: SocketAddrV4,
     bytes: &[u8],
 )
-    ensures { HearsDatagram (HandsTo S.sends S.traffic) source bytes.now board.old wire.old board.new wire.new }
+    ensures { HearsDatagram S.around source bytes.now board.old wire.old board.new wire.new }
 {
     wire.journal.came(wire.now.time, source, bytes);
     let Some(place) = board.place_of(source) else {
@@ -180,7 +179,7 @@ fn hear<S: Surroundings + Drop>(
 
 // Takes the next packet that the bad network hands over, where it does: whether it did.
 fn take_over<S: Surroundings + Drop>(board: &mut Switchboard, wire: &mut Wire<S>) -> bool
-    ensures { TakesOver (HandsTo S.sends S.traffic) result board.old wire.old board.new wire.new }
+    ensures { TakesOver S.around result board.old wire.old board.new wire.new }
 {
     match wire.handed_over() {
         Some(packet) => {
@@ -194,7 +193,7 @@ fn take_over<S: Surroundings + Drop>(board: &mut Switchboard, wire: &mut Wire<S>
 // Takes a datagram, if one is there: of those that the bad network held, or that has come. That is offered to the bad network, where
 // there is one, which may hand one over by then.
 fn take_datagram<S: Surroundings + Drop>(board: &mut Switchboard, wire: &mut Wire<S>)
-    ensures { TakesDatagram (HandsTo S.sends S.traffic) S.receives board.old wire.old board.new wire.new }
+    ensures { TakesDatagram S.around board.old wire.old board.new wire.new }
 {
     if take_over(board, wire) {
         return;
@@ -299,7 +298,7 @@ fn answer_command<S: Surroundings + Drop>(
     board: &mut Switchboard,
     wire: &mut Wire<S>,
 )
-    ensures { DoesCommand (HandsTo S.sends S.traffic) S.answers board.old board.new wire.old wire.new }
+    ensures { DoesCommand S.around board.old board.new wire.old wire.new }
 {
     let Ok(typed) = command_in(alloc, &wire.lines) else {
         return wire.answer_all(NO_MEMORY);
@@ -320,7 +319,7 @@ fn answer_command<S: Surroundings + Drop>(
 
 // Does what is typed next, if anything is, and answers that.
 fn take_line<S: Surroundings + Drop>(alloc: Global, board: &mut Switchboard, wire: &mut Wire<S>)
-    ensures { TakesTyped S.sockets (HandsTo S.sends S.traffic) S.hears S.answers board.old board.new wire.old wire.new }
+    ensures { TakesTyped S.around board.old board.new wire.old wire.new }
 {
     wire.hear_lines();
     let request = request_in(&wire.lines);
@@ -342,7 +341,7 @@ fn take_line<S: Surroundings + Drop>(alloc: Global, board: &mut Switchboard, wir
 
 // What is given up by now of the commands to a gateway, one behind another.
 fn give_up<S: Surroundings + Drop>(board: &mut Switchboard, wire: &mut Wire<S>, place: usize)
-    ensures { GivesUpAll (HandsTo S.sends S.traffic) place board.old wire.old board.new wire.new }
+    ensures { GivesUpAll S.around place board.old wire.old board.new wire.new }
 {
     for _ in 0..MOST_AT_ONCE {
         if !board.give_up(&mut wire.journal, place, wire.now.time) {
@@ -358,7 +357,7 @@ fn give_up_each<S: Surroundings + Drop>(
     wire: &mut Wire<S>,
     gateways: usize,
 )
-    ensures { GivesUpEach (HandsTo S.sends S.traffic) gateways board.old wire.old board.new wire.new }
+    ensures { GivesUpEach S.around gateways board.old wire.old board.new wire.new }
 {
     for place in 0..gateways {
         give_up(board, wire, place);
@@ -392,7 +391,7 @@ fn tick_each<S: Surroundings + Drop>(
     to: u64,
     gateways: usize,
 )
-    ensures { TicksEach (HandsTo S.sends S.traffic) to gateways board.old wire.old board.new wire.new }
+    ensures { TicksEach S.around to gateways board.old wire.old board.new wire.new }
 {
     for place in 0..gateways {
         let outputs = board.tick(place, to);
@@ -427,8 +426,8 @@ fn situation<S: Surroundings + Drop>(
     board: &Switchboard,
     wire: &Wire<S>,
 ) -> Result<Situation, Fault>
-    ensures stands { IfOk result (λ at. IsSituation S.passes S.tells board.now wire.entry.now at) }
-    ensures failed { IfErr result (λ fault. S.passes wire.entry.now.around (Err fault)) }
+    ensures stands { IfOk result (λ at. IsSituation S.around board.now wire.entry.now at) }
+    ensures failed { IfErr result (λ fault. S.around.passes wire.entry.now.around (Err fault)) }
 {
     let moment = match wire.around.moment() {
         Ok(moment) => moment,
@@ -471,7 +470,7 @@ fn do_turn<S: Surroundings + Drop>(
     turn: Turn,
     moment: u64,
 )
-    ensures { DoesTurn S.traffic S.sockets S.sleeps (HandsTo S.sends S.traffic) S.receives S.hears S.answers moment turn
+    ensures { DoesTurn S.around moment turn
         board.old board.new wire.old wire.new }
 {
     match turn {
@@ -515,8 +514,7 @@ pub(crate) fn serve<S: Surroundings + Drop, W: Recorder>(
     wire: &mut Wire<S>,
     recorder: &mut W,
 ) -> Result<(), Fault>
-    ensures { Serves S.passes S.tells (TurnsOnce S.traffic S.sockets (HandsTo S.sends S.traffic) S.passes S.dates S.tells S.sleeps
-        S.receives S.hears S.answers W.writes) result board.old wire.old board.new wire.new }
+    ensures { Serves S.around (TurnsOnce S.around W.writes) result board.old wire.old board.new wire.new }
 {
     // What the start took isn't a pause.
     let start = match wire.around.moment() {

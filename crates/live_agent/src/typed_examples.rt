@@ -11,7 +11,7 @@ ghost use Rattle.surroundings.specs.declared.lines.Lines.{Lines};
 ghost use Rattle.live_agent.specs.declared.session.Request.{Request};
 ghost use Rattle.live_agent.specs.declared.session.Request.TheVariants as requests;
 ghost use Rattle.live_agent.specs.declared.wire.Wire.{Wire};
-ghost use Rattle.live_agent.specs.AnyAround.{answers_any, hears_any, no_sockets};
+ghost use Rattle.live_agent.specs.AnyAround.{anywhere};
 ghost use Rattle.live_agent.specs.Turning.{AnswersWith, AsksFirst, HearsTyped};
 
 /// What the next line asks for.
@@ -41,21 +41,24 @@ pub fn what_is_asked_first_has_examples()
 pub fn what_is_heard_of_who_types_has_examples()
     // Where a line is left it isn't looked for more.
     ensures waits { (piece : List ℕ) (more : List (List ℕ)) (was is : Wire ℕ) → left_of was.lines ≡ piece ∷ more →
-        HearsTyped no_sockets (λ before found room after. ⊥) was is →
+        HearsTyped (record anywhere { hears = λ before found room after. ⊥ }) was is →
         (is.lines ≡ was.lines) × (is.around ≡ was.around) × (is.read ≡ was.read) }
     // Else it is looked once: where nothing came nothing is read; what came is of who sent it, and is read.
     ensures nothing { (was is : Wire ℕ) → left_of was.lines ≡ [] →
-        HearsTyped no_sockets (λ before found room after. (found ≡ None) × (after ≡ before + 1)) was is →
+        HearsTyped (record anywhere { hears = λ before found room after. (found ≡ None) × (after ≡ before + 1) }) was is →
         (is.lines ≡ was.lines) × (is.around ≡ was.around + 1) × (is.read ≡ was.read) }
     ensures came { (source : SocketAddrV4) (was is : Wire ℕ) → left_of was.lines ≡ [] → was.read ≡ 5 →
-        HearsTyped no_sockets (λ before found room after. found ≡ Some (V4 source, 4)) was is →
+        HearsTyped (record anywhere { hears = λ before found room after. found ≡ Some (V4 source, 4) }) was is →
         (is.lines.sender ≡ Some (V4 source)) × (is.read ≡ 6) }
     // Nothing is made of what came from the program's own socket, but it is read.
     ensures own { (was is : Wire ℕ) → left_of was.lines ≡ [] → was.read ≡ 5 →
-        HearsTyped (λ around. socket_at here 4000 ∷ []) (λ before found room after. found ≡ Some (V4 (socket_at here 4000), 4)) was is →
+        HearsTyped (record anywhere {
+          sockets = λ around. socket_at here 4000 ∷ [];
+          hears = λ before found room after. found ≡ Some (V4 (socket_at here 4000), 4);
+        }) was is →
         (is.lines ≡ was.lines) × (is.read ≡ 6) }
     // Nothing else of the wire changes by it.
-    ensures stays { (was is : Wire ℕ) → HearsTyped no_sockets hears_any was is →
+    ensures stays { (was is : Wire ℕ) → HearsTyped anywhere was is →
         (is.network ≡ was.network) × (is.journal ≡ was.journal) × (is.now ≡ was.now) × (is.is_behind ≡ was.is_behind)
         × (is.end ≡ was.end) × (is.is_offering ≡ was.is_offering) }
 {}
@@ -70,9 +73,9 @@ pub fn what_who_types_is_answered_has_examples()
         is.around ≡ was.around }
     // The next that asks for something is answered next.
     ensures next { (was is : Wire ℕ) → left_of was.lines ≡ codes "counts\n" ∷ codes "\n" ∷ codes "stop\n" ∷ codes "quit\n" ∷ [] →
-        AnswersWith answers_any (codes "done\n") was is → left_of is.lines ≡ codes "stop\n" ∷ codes "quit\n" ∷ [] }
+        AnswersWith anywhere.answers (codes "done\n") was is → left_of is.lines ≡ codes "stop\n" ∷ codes "quit\n" ∷ [] }
     // Nothing else of the wire changes by it.
-    ensures stays { (was is : Wire ℕ) → AnswersWith answers_any (codes "done\n") was is →
+    ensures stays { (was is : Wire ℕ) → AnswersWith anywhere.answers (codes "done\n") was is →
         (is.network ≡ was.network) × (is.journal ≡ was.journal) × (is.now ≡ was.now) × (is.is_behind ≡ was.is_behind)
         × (is.read ≡ was.read) × (is.end ≡ was.end) × (is.is_offering ≡ was.is_offering) }
 {}

@@ -7,7 +7,7 @@ ghost use Rattle.exchange_log.specs.Pausing.{pause_line};
 ghost use Rattle.live_ends.specs.Waiting.{longest_wait};
 ghost use Rattle.mg_bytes.specs.Lists.{is_empty};
 ghost use Rattle.live_agent.specs.Wiring.{due_of, with_read, read_at, heard_at, ready_by};
-ghost use Rattle.live_agent.specs.Handing.{comes_in, HandsOver, HandsTo, Leaves, Offers, OffersTo};
+ghost use Rattle.live_agent.specs.Handing.{comes_in, HandsOver, Leaves, Offers, OffersTo};
 ghost use Rattle.live_agent.specs.Sending.{SendsAll, SendsOne, SendsOver};
 ghost use Rattle.live_agent.specs.Tallying.{looked_counted, waited_counted, with_fate};
 ghost use Rattle.live_agent.specs.Tallying.{CountsLeaving, CountsOffer, CountsSent, OnlyCounts, OnlyNotes};
@@ -156,7 +156,7 @@ impl<S: Surroundings + Drop> Wire<S> {
         ensures journal { IfOk result (λ wire. wire.journal ≡ journal) }
         ensures lines { IfOk result (λ wire. left_of wire.lines ≡ []) }
         ensures moments { IfOk result (λ wire. (wire.now.clock ≡ 0) × (wire.read ≡ 0) × (wire.end ≡ end)) }
-        ensures dated { IfOk result (λ wire. S.dates around wire.now.time) }
+        ensures dated { IfOk result (λ wire. S.around.dates around wire.now.time) }
         ensures quiet { IfOk result (λ wire. (wire.is_behind ≡ false) × (wire.is_offering ≡ false)) }
     {
         // By hand: a question mark is some twenty steps more, at each of which a check pays for all that stands there.
@@ -192,7 +192,7 @@ impl<S: Surroundings + Drop> Wire<S> {
 
     /// What may come now.
     pub(crate) fn ready(&self) -> Ready
-        ensures { (told : Told) × S.tells self.entry.now.around told
+        ensures { (told : Told) × S.around.tells self.entry.now.around told
             × (result ≡ ready_by told (not (is_empty (left_of self.entry.now.lines))) (due_of self.entry.now.network)
             self.entry.now.now.clock) }
     {
@@ -212,7 +212,7 @@ impl<S: Surroundings + Drop> Wire<S> {
     pub(crate) fn receive(&mut self, room: &mut [u8]) -> Option<(SocketAddrV4, usize)>
         ensures length { length room.new ≡ length room.old }
         ensures within { IfSome result (λ p. p.1 ≤ length room.new) }
-        ensures looked { (outcome : Result (Option (Peer × ℕ)) Fault) × S.receives self.old.around outcome room.new self.new.around
+        ensures looked { (outcome : Result (Option (Peer × ℕ)) Fault) × S.around.receives self.old.around outcome room.new self.new.around
             × (result ≡ heard_at outcome) × (self.new.read ≡ read_at outcome self.old.read)
             × (self.new.journal.value.tally ≡ looked_counted outcome self.old.journal.value.tally) }
         ensures alone { OnlyCounts self.old.journal.value self.new.journal.value }
@@ -236,7 +236,7 @@ impl<S: Surroundings + Drop> Wire<S> {
 
     /// Takes a datagram of lines, where one has come and none is left of the one before.
     pub(crate) fn hear_lines(&mut self)
-        ensures heard { (taken : Bool) × Hears S.sockets S.hears self.old.around self.old.lines taken self.new.around self.new.lines
+        ensures heard { (taken : Bool) × Hears S.around self.old.around self.old.lines taken self.new.around self.new.lines
             × (self.new.read ≡ with_read taken self.old.read) }
         ensures rest { self.new ≡ record self.old { around = self.new.around; lines = self.new.lines; read = self.new.read } }
     {
@@ -247,7 +247,7 @@ impl<S: Surroundings + Drop> Wire<S> {
 
     /// Answers the line that was typed, and goes on to the next.
     pub(crate) fn answer(&mut self, text: &[u8])
-        ensures answered { AnswersTo S.answers self.old.lines.sender self.old.around text.now self.new.around }
+        ensures answered { AnswersTo S.around.answers self.old.lines.sender self.old.around text.now self.new.around }
         ensures left { left_of self.new.lines ≡ requests_from (behind (left_of self.old.lines)) }
         ensures rest { self.new ≡ record self.old { around = self.new.around; lines = self.new.lines } }
     {
@@ -256,7 +256,7 @@ impl<S: Surroundings + Drop> Wire<S> {
 
     /// Answers it together with all that stands behind it in its datagram.
     pub(crate) fn answer_all(&mut self, text: &[u8])
-        ensures answered { AnswersTo S.answers self.old.lines.sender self.old.around text.now self.new.around }
+        ensures answered { AnswersTo S.around.answers self.old.lines.sender self.old.around text.now self.new.around }
         ensures left { left_of self.new.lines ≡ [] }
         ensures rest { self.new ≡ record self.old { around = self.new.around; lines = self.new.lines } }
     {
@@ -290,7 +290,7 @@ impl<S: Surroundings + Drop> Wire<S> {
     pub(crate) fn handed_over(&mut self) -> Option<Packet>
         ensures comes { IfSome result (λ packet. packet.way ≡ In) }
         ensures over { SendsOver self.old self.new }
-        ensures hands { HandsOver (HandsTo S.sends S.traffic) result self.old self.new }
+        ensures hands { HandsOver S.around result self.old self.new }
     {
         for _ in 0..MOST_AT_ONCE {
             let Some(network) = &mut self.network else {
@@ -309,11 +309,11 @@ impl<S: Surroundings + Drop> Wire<S> {
 
     // Puts a datagram onto the machine's network. One that doesn't leave is counted, and noted in the log.
     fn transmit(&mut self, to: SocketAddrV4, bytes: &[u8])
-        ensures sent { Grows (S.traffic self.old.around).sent (record { to = to; bytes = bytes.now } ∷ [])
-            (S.traffic self.new.around).sent }
-        ensures received { (S.traffic self.new.around).received ≡ (S.traffic self.old.around).received }
+        ensures sent { Grows (S.around.traffic self.old.around).sent (record { to = to; bytes = bytes.now } ∷ [])
+            (S.around.traffic self.new.around).sent }
+        ensures received { (S.around.traffic self.new.around).received ≡ (S.around.traffic self.old.around).received }
         ensures tally { CountsLeaving self.old.journal.value.tally self.new.journal.value.tally }
-        ensures leaves { Leaves (HandsTo S.sends S.traffic) to bytes.now self.old self.new }
+        ensures leaves { Leaves S.around to bytes.now self.old self.new }
         ensures rest { self.new ≡ record self.old { around = self.new.around; journal = self.new.journal } }
     {
         let sent = self.around.send(to, bytes);
@@ -333,11 +333,12 @@ impl<S: Surroundings + Drop> Wire<S> {
     /// Sends a datagram, for the first time or again.
     pub(crate) fn send(&mut self, to: SocketAddrV4, bytes: &[u8], is_repeat: bool)
         ensures sent { is_some self.old.network ≡ false →
-            Grows (S.traffic self.old.around).sent (record { to = to; bytes = bytes.now } ∷ []) (S.traffic self.new.around).sent }
+            Grows (S.around.traffic self.old.around).sent (record { to = to; bytes = bytes.now } ∷ [])
+            (S.around.traffic self.new.around).sent }
         ensures offered { is_some self.old.network ≡ true → self.new.around ≡ self.old.around }
         ensures tally { CountsSent is_repeat self.old.network self.old.journal.value.tally self.new.journal.value.tally }
         ensures over { SendsOver self.old self.new }
-        ensures one { SendsOne (HandsTo S.sends S.traffic) is_repeat to bytes.now self.old self.new }
+        ensures one { SendsOne S.around is_repeat to bytes.now self.old self.new }
     {
         self.journal.sent(self.now.time, to, bytes, is_repeat);
         if self.offer(Way::Out, to, bytes) {
@@ -348,7 +349,7 @@ impl<S: Surroundings + Drop> Wire<S> {
 
     /// Sends datagrams, for the first time or again.
     pub(crate) fn send_all(&mut self, datagrams: &[OutDatagram], is_repeat: bool)
-        ensures { SendsAll (HandsTo S.sends S.traffic) is_repeat datagrams.now self.old self.new }
+        ensures { SendsAll S.around is_repeat datagrams.now self.old self.new }
     {
         for datagram in datagrams {
             self.send(datagram.to, datagram.bytes.as_bytes(), is_repeat);
@@ -357,9 +358,9 @@ impl<S: Surroundings + Drop> Wire<S> {
 
     /// Waits until something comes, but no longer than this, in ms, nor than until what waits to be taken is offered again.
     pub(crate) fn wait(&mut self, longest: u64)
-        ensures traffic { S.traffic self.new.around ≡ S.traffic self.old.around }
+        ensures traffic { S.around.traffic self.new.around ≡ S.around.traffic self.old.around }
         ensures waited { (outcome : Result ⊤ Fault)
-            × S.sleeps self.old.around (longest_wait self.old.is_offering longest) outcome self.new.around
+            × S.around.sleeps self.old.around (longest_wait self.old.is_offering longest) outcome self.new.around
             × (self.new.journal.value.tally ≡ waited_counted outcome self.old.journal.value.tally) }
         ensures journal { self.new.journal.value ≡ record self.old.journal.value { tally = self.new.journal.value.tally } }
         ensures rest { self.new ≡ record self.old { around = self.new.around; journal = self.new.journal } }

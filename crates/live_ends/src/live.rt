@@ -137,28 +137,9 @@ impl<'a, R: Net + Clock> Live<'a, R> {
 }
 
 impl<R: Net + Clock> Surroundings for Live<'_, R> {
-    ghost use Rattle.std.specs.Prelude.{⊤};
-    ghost use Rattle.surroundings.specs.Sending.{untold};
+    ghost use Rattle.surroundings.specs.Around.{unasked};
 
-    ghost traffic = { λ live. untold };
-
-    ghost sockets = { λ live. live.own };
-
-    ghost passes = { λ live given. ⊤ };
-
-    ghost dates = { λ live time. ⊤ };
-
-    ghost tells = { λ live given. ⊤ };
-
-    ghost sleeps = { λ was longest outcome is. ⊤ };
-
-    ghost receives = { λ was given room is. ⊤ };
-
-    ghost sends = { λ was to bytes outcome is. ⊤ };
-
-    ghost hears = { λ was given room is. ⊤ };
-
-    ghost answers = { λ was to text is. ⊤ };
+    ghost around = { record unasked { sockets = λ live. live.own } };
 
     fn moment(&self) -> Result<u64, Fault> {
         match self.clock.passed() {

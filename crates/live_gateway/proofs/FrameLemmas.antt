@@ -1,12 +1,12 @@
 -- What of an exchange, and of a desk, stays as it was.
 use Rattle.std.proofs.Common.{◌≡◌, ◌⊎◌, inl, inr, ℕ, Bool, List, Option, refl, ◌∙◌, ap, subst}
-use Rattle.std.specs.Prelude.{⊤, nat_lt, if◌then◌else◌, true, false, Result, Ok, Err}
+use Rattle.std.specs.Prelude.{nat_lt, if◌then◌else◌, true, false, Result, Ok, Err}
 use Rattle.std.specs.Global.{Box}
 use Rattle.message_counts.specs.declared.reporting.Faults.{Faults}
 use Rattle.page_board.specs.Showing.{BoardState}
+use Rattle.surroundings.specs.Around.{Around}
 use Rattle.surroundings.specs.Sending.{Traffic}
 use Rattle.surroundings.specs.declared.lines.Lines.{Lines}
-use Rattle.surroundings.specs.declared.surroundings.Fault.{Fault}
 use Rattle.surroundings.specs.declared.surroundings.Told.{Told}
 use Rattle.turns.specs.declared.schedule.Schedule.{Schedule}
 use Rattle.turns.specs.declared.turn.Turn.{Turn}
@@ -117,13 +117,12 @@ page_same {S} {T} told traffic tells is_its_turn is_of_page was is page = (
 )
 
 -- nor to others where a visitor is served
-pub visit_same : {S T V : Type 0} (told : T → Option (List ℕ)) (traffic : S → Traffic) (tells : S → Told → Type 0)
-    (serves : V → S → BoardState → ℕ → V → S → BoardState → Type 0)
-    (moment : ℕ) (visitors left : Option (Box V)) (was is : Desk S T) → DoesVisit traffic tells serves moment visitors left was is
-    → (at_desk told traffic is ≡ at_desk told traffic was) × (is.admission ≡ was.admission)
-visit_same {S} {T} told traffic tells serves moment visitors left was is visit =
-    let page = page_same told traffic tells false was.is_of_page visit.served is visit.page in (
-      page.0 ∙ ap (at_desk told traffic) visit.before ∙ ap (λ (x : Traffic). at_desk told (λ (s : S). x) was) visit.kept,
+pub visit_same : {S T V : Type 0} (told : T → Option (List ℕ)) (around : Around S)
+    (serves : V → S → BoardState → ℕ → V → S → BoardState → Type 0) (moment : ℕ) (visitors left : Option (Box V)) (was is : Desk S T) → DoesVisit around serves moment visitors left was is
+    → (at_desk told around.traffic is ≡ at_desk told around.traffic was) × (is.admission ≡ was.admission)
+visit_same {S} {T} told around serves moment visitors left was is visit =
+    let page = page_same told around.traffic around.tells false was.is_of_page visit.served is visit.page in (
+      page.0 ∙ ap (at_desk told around.traffic) visit.before ∙ ap (λ (x : Traffic). at_desk told (λ (s : S). x) was) visit.kept,
       page.1 ∙ ap (λ (x : Desk S T). x.admission) visit.before,
     )
 
@@ -133,16 +132,14 @@ pub dated_before : {S : Type 0} (dates : S → ℕ → Type 0) (was looked : Exc
 dated_before {S} dates was looked time same dated = subst (λ (x : Exchange S). dates x.around time) same dated
 
 -- a turn leaves the schedule
-pub leaves_schedule : {S T V : Type 0} (traffic : S → Traffic) (dates : S → ℕ → Type 0) (tells : S → Told → Type 0)
-    (sleeps : S → ℕ → Result ⊤ Fault → S → Type 0)
-    (serves : V → S → BoardState → ℕ → V → S → BoardState → Type 0) (now : ℕ) (turn : Turn)
-    (visitors left : Option (Box V)) (was is : Desk S T) → Leaves traffic dates tells sleeps serves now turn visitors left was is → is.schedule ≡ was.schedule
-leaves_schedule {S} {T} traffic dates tells sleeps serves now End visitors left was is leaves = ap (λ (x : Desk S T). x.schedule) leaves.0
-leaves_schedule {S} {T} traffic dates tells sleeps serves now Look visitors left was is leaves = ap (λ (x : Desk S T). x.schedule) leaves.0.rest
-leaves_schedule {S} {T} traffic dates tells sleeps serves now (Wait until) visitors left was is leaves = ap (λ (x : Desk S T). x.schedule) leaves.0.rest
-leaves_schedule {S} {T} traffic dates tells sleeps serves now (Tick moment) visitors left was is leaves = ap (λ (x : Desk S T). x.schedule) leaves.0.0
-leaves_schedule traffic dates tells sleeps serves now Command visitors left was is leaves = leaves.1
-leaves_schedule {S} {T} traffic dates tells sleeps serves now Datagram visitors left was is leaves = ap (λ (x : Desk S T). x.schedule) leaves.0
-leaves_schedule {S} {T} traffic dates tells sleeps serves now Visit visitors left was is leaves =
+pub leaves_schedule : {S T V : Type 0} (around : Around S) (serves : V → S → BoardState → ℕ → V → S → BoardState → Type 0) (now : ℕ)
+    (turn : Turn) (visitors left : Option (Box V)) (was is : Desk S T) → Leaves around serves now turn visitors left was is → is.schedule ≡ was.schedule
+leaves_schedule {S} {T} around serves now End visitors left was is leaves = ap (λ (x : Desk S T). x.schedule) leaves.0
+leaves_schedule {S} {T} around serves now Look visitors left was is leaves = ap (λ (x : Desk S T). x.schedule) leaves.0.rest
+leaves_schedule {S} {T} around serves now (Wait until) visitors left was is leaves = ap (λ (x : Desk S T). x.schedule) leaves.0.rest
+leaves_schedule {S} {T} around serves now (Tick moment) visitors left was is leaves = ap (λ (x : Desk S T). x.schedule) leaves.0.0
+leaves_schedule around serves now Command visitors left was is leaves = leaves.1
+leaves_schedule {S} {T} around serves now Datagram visitors left was is leaves = ap (λ (x : Desk S T). x.schedule) leaves.0
+leaves_schedule {S} {T} around serves now Visit visitors left was is leaves =
     ap (λ (x : Desk S T). x.schedule) leaves.page.rest ∙ ap (λ (x : Desk S T). x.schedule) leaves.before
-leaves_schedule {S} {T} traffic dates tells sleeps serves now (Note pause) visitors left was is leaves = ap (λ (x : Desk S T). x.schedule) leaves.0.0
+leaves_schedule {S} {T} around serves now (Note pause) visitors left was is leaves = ap (λ (x : Desk S T). x.schedule) leaves.0.0

@@ -4,6 +4,7 @@ use Rattle.std.specs.Prelude.{⊤, is_some, Result}
 use Rattle.std.specs.Global.{Box}
 use Rattle.std.specs.declared.net.socket_addr.SocketAddrV4.{SocketAddrV4}
 use Rattle.bad_network.specs.declared.packet.Packet.{Packet}
+use Rattle.surroundings.specs.Around.{Around}
 use Rattle.surroundings.specs.Sending.{Sent, Traffic}
 use Rattle.surroundings.specs.declared.surroundings.Fault.{Fault}
 use Rattle.live_journal.specs.declared.journal.Journal.{Journal}
@@ -73,17 +74,15 @@ module _ {S : Type 0} where
       ap (λ (o : Option (Box SpoiltWay)). handed_by o (traffic is.around).sent) network ∙ behind (traffic is.around).sent
 
   -- where no network is, a look is one at the socket
-  pub looks_here : (receives : S → Result (Option (SocketAddrV4 × ℕ)) Fault → List ℕ → S → Type 0)
-      (sends : S → SocketAddrV4 → List ℕ → Result ⊤ Fault → S → Type 0) (admission : Admission) (given : Option (SocketAddrV4 × ℕ)) (room : List ℕ)
-      (was is : Exchange S) → is_some was.network ≡ false → LooksDirectly receives admission given room was is
-      → Looks receives sends admission given room was is
-  looks_here receives sends admission given room was is none directly =
-      subst (λ (b : Bool). LooksBy receives sends b admission given room was is) (sym none) directly
+  pub looks_here : (around : Around S) (admission : Admission) (given : Option (SocketAddrV4 × ℕ)) (room : List ℕ)
+      (was is : Exchange S) → is_some was.network ≡ false → LooksDirectly around.receives admission given room was is
+      → Looks around admission given room was is
+  looks_here around admission given room was is none directly =
+      subst (λ (b : Bool). LooksBy around b admission given room was is) (sym none) directly
 
   -- and where one is, it is one at that first
-  pub looks_over : (receives : S → Result (Option (SocketAddrV4 × ℕ)) Fault → List ℕ → S → Type 0)
-      (sends : S → SocketAddrV4 → List ℕ → Result ⊤ Fault → S → Type 0) (admission : Admission) (given : Option (SocketAddrV4 × ℕ)) (room : List ℕ)
-      (was is : Exchange S) → is_some was.network ≡ true → LooksOver receives sends admission given room was is
-      → Looks receives sends admission given room was is
-  looks_over receives sends admission given room was is some over =
-      subst (λ (b : Bool). LooksBy receives sends b admission given room was is) (sym some) over
+  pub looks_over : (around : Around S) (admission : Admission) (given : Option (SocketAddrV4 × ℕ)) (room : List ℕ)
+      (was is : Exchange S) → is_some was.network ≡ true → LooksOver around admission given room was is
+      → Looks around admission given room was is
+  looks_over around admission given room was is some over =
+      subst (λ (b : Bool). LooksBy around b admission given room was is) (sym some) over

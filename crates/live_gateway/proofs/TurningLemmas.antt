@@ -1,6 +1,6 @@
 -- What a turn does, from what its calls say.
 use Rattle.std.proofs.Common.{◌≡◌, ◌⊎◌, inl, inr, ℕ, ◌+◌, ◌<◌, ◌≤◌, ◌^◌, [], sym, ◌∙◌, ap, subst, arith}
-use Rattle.std.specs.Prelude.{⊤, Bool, not, is_ok, Result, Ok, Err, OnOk, OnErr, List}
+use Rattle.std.specs.Prelude.{⊤, not, is_ok, Result, Ok, Err, OnOk, OnErr, List}
 use Rattle.std.specs.Result.{result_err}
 use Rattle.std.specs.declared.net.socket_addr.SocketAddrV4.{SocketAddrV4}
 use Rattle.gateway_core.specs.Stands.{Stands}
@@ -17,7 +17,7 @@ use Rattle.turns.specs.declared.turn.Turn.TheVariants.{Tick}
 use Rattle.turns.specs.Schedule.{next_of}
 use Rattle.turns.proofs.ScheduleLaws.{ticks_within}
 use Rattle.live_outlets.specs.declared.now.Now.{Now}
-use Rattle.live_journal.specs.declared.journal.Journal.{Journal}
+use Rattle.live_journal.specs.Writing.{WriterBy}
 use Rattle.live_play.specs.Running.{Live, Ran, Takes, TakesBy}
 use Rattle.live_gateway.specs.Desk.{Standing, with_input}
 use Rattle.live_play.specs.Readable.{first_unread}
@@ -100,16 +100,16 @@ tick_is_short s at turn next to now few comes is same (inr still) =
 
 -- one turn more, and what was recorded at it was written
 pub runs_once_more : {S T V W : Type 0} (passes : S → Result ℕ Fault → Type 0) (does : Desk S T → V → Desk S T → V → Type 0)
-    (writes : W → Journal → T → ℕ → W → Journal → T → Type 0) (offers : W → Bool → Type 0) (count : ℕ) (was : Desk S T) (came : V) (before : W) (between : Desk S T) (there : V) (amid : W) (done is : Desk S T) (left : V) (after : W)
-    → RunsTurns passes does writes offers count was came before between there amid → does between there done left
-    → writes amid done.exchange.journal done.play.teller done.exchange.now.time after is.exchange.journal is.play.teller
-    → offers after is.exchange.is_offering
+    (writer : WriterBy W T) (count : ℕ) (was : Desk S T) (came : V) (before : W) (between : Desk S T) (there : V) (amid : W) (done is : Desk S T) (left : V) (after : W)
+    → RunsTurns passes does writer count was came before between there amid → does between there done left
+    → writer.writes amid done.exchange.journal done.play.teller done.exchange.now.time after is.exchange.journal is.play.teller
+    → writer.offers after is.exchange.is_offering
     → is.play ≡ record done.play { teller = is.play.teller } → OnlyWrites done.exchange is.exchange
     → is ≡ record done { play = is.play; exchange = is.exchange }
-    → RunsTurns passes does writes offers (count + 1) was came before is left after
-runs_once_more passes does writes offers count was came before between there amid done is left after some turn wrote offering teller exchange rest = record {
+    → RunsTurns passes does writer (count + 1) was came before is left after
+runs_once_more passes does writer count was came before between there amid done is left after some turn wrote offering teller exchange rest = record {
   begun = some.begun;
   starts = some.starts;
-  turns = wrote_once_more (TurnsAndWrites does writes offers) count (some.begun, came, before) (between, there, amid) (is, left, after) some.turns
+  turns = wrote_once_more (TurnsAndWrites does writer) count (some.begun, came, before) (between, there, amid) (is, left, after) some.turns
       (record { done = done; turn = turn; wrote = wrote; offering = offering; teller = teller; exchange = exchange; rest = rest });
 }

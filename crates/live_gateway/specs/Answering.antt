@@ -7,9 +7,9 @@ use Rattle.std.specs.declared.net.socket_addr.SocketAddrV4.{SocketAddrV4}
 use Rattle.mg_bytes.specs.Lines.{line_of}
 use Rattle.mg_bytes.specs.Words.{words}
 use Rattle.mg_line.specs.declared.phone.Act.{Act}
+use Rattle.surroundings.specs.Around.{Around}
 use Rattle.surroundings.specs.Hearing.{AnswersTo}
 use Rattle.surroundings.specs.Requests.{requests_from}
-use Rattle.surroundings.specs.Sending.{Traffic}
 use Rattle.surroundings.specs.Speaking.{Admitted, admitted_by}
 use Rattle.surroundings.specs.Typing.{left_of, behind, v4_of}
 use Rattle.surroundings.specs.declared.lines.Lines.{Lines}
@@ -147,53 +147,46 @@ AnswersRequest answers Unknown was is = Answers answers (short_text Unknown) was
 AnswersRequest answers OutOfMemory was is = Answers answers (short_text OutOfMemory) was is
 
 -- the gateway does nothing, and what the line asks for is answered
-abbrev pub OnlyAnswers :
-    {S T : Type 0} → (T → Option (List ℕ)) → (S → Traffic) → (S → SocketAddr → List ℕ → S → Type 0)
-    → TelephoneRequest → Desk S T → Desk S T → Type 0
-OnlyAnswers told traffic answers request was is =
-    (at_desk told traffic is ≡ at_desk told traffic was) × AnswersRequest answers request was is
+abbrev pub OnlyAnswers : {S T : Type 0} → (T → Option (List ℕ)) → Around S → TelephoneRequest → Desk S T → Desk S T → Type 0
+OnlyAnswers told around request was is =
+    (at_desk told around.traffic is ≡ at_desk told around.traffic was) × AnswersRequest around.answers request was is
 
 -- An act that a line asks for: the page is shown that, then it is done, or refused, and who typed it is answered behind what goes out at
 -- it, which the page is shown too. Nothing else is done.
-pub record DoesAct {S T : Type 0}
-    (told : T → Option (List ℕ)) (traffic : S → Traffic) (sends : S → SocketAddrV4 → List ℕ → Result ⊤ Fault → S → Type 0)
-    (answers : S → SocketAddr → List ℕ → S → Type 0) (text : List ℕ) (line : ℕ) (act : Act) (was is : Desk S T) : Type 0 where
+pub record DoesAct {S T : Type 0} (told : T → Option (List ℕ)) (around : Around S) (text : List ℕ) (line : ℕ) (act : Act)
+    (was is : Desk S T) : Type 0 where
   pub asked : Exchange S
   pub done : Exchange S
   pub answer : List ℕ
   pub before : OnlyShows was.exchange asked
   pub shown : GoesOn (Happened was.exchange.now.clock OfAct nobody text) was.exchange.journal.board asked.journal.board
-  pub tries : TriesAct sends (admitted_by was.admission.speakers) text line act answer
-      (at_desk told traffic was) asked (at_desk told traffic is) done
-  pub says : AnswersLine answers done.around answer was is
-  pub kept : traffic is.exchange.around ≡ traffic done.around
+  pub tries : TriesAct around.sends (admitted_by was.admission.speakers) text line act answer
+      (at_desk told around.traffic was) asked (at_desk told around.traffic is) done
+  pub says : AnswersLine around.answers done.around answer was is
+  pub kept : around.traffic is.exchange.around ≡ around.traffic done.around
   pub told_so : GoesOn (Happened done.now.clock OfTold nobody answer) done.journal.board is.exchange.journal.board
   pub behind : OnlyTells done is.exchange
   pub rest : is ≡ record was { play = is.play; exchange = is.exchange; lines = is.lines }
 
 -- What a line asks for is done, and answered to who typed it.
-abbrev pub DoesRequest :
-    {S T : Type 0} → (T → Option (List ℕ)) → (S → Traffic) → (S → SocketAddrV4 → List ℕ → Result ⊤ Fault → S → Type 0)
-    → (S → SocketAddr → List ℕ → S → Type 0) → List ℕ → TelephoneRequest → Desk S T → Desk S T → Type 0
-DoesRequest told traffic sends answers text (AsksAct line act) was is = DoesAct told traffic sends answers text line act was is
-DoesRequest told traffic sends answers text (Show line) was is = (answer : List ℕ) × AnswersLine answers was.exchange.around answer was is
-    × Asks text line answer (at_desk told traffic was).live (at_desk told traffic is).live
+abbrev pub DoesRequest : {S T : Type 0} → (T → Option (List ℕ)) → Around S → List ℕ → TelephoneRequest → Desk S T → Desk S T → Type 0
+DoesRequest told around text (AsksAct line act) was is = DoesAct told around text line act was is
+DoesRequest told around text (Show line) was is = (answer : List ℕ) × AnswersLine around.answers was.exchange.around answer was is
+    × Asks text line answer (at_desk told around.traffic was).live (at_desk told around.traffic is).live
     × OnlyReplies (record was { play = is.play }) is
-DoesRequest told traffic sends answers text ShowAll was is = OnlyAnswers told traffic answers ShowAll was is
-DoesRequest told traffic sends answers text (AsksWatch seconds) was is = OnlyAnswers told traffic answers (AsksWatch seconds) was is
-DoesRequest told traffic sends answers text Counts was is = OnlyAnswers told traffic answers Counts was is
-DoesRequest told traffic sends answers text Stop was is = OnlyAnswers told traffic answers Stop was is
-DoesRequest told traffic sends answers text StopFromAfar was is = OnlyAnswers told traffic answers StopFromAfar was is
-DoesRequest told traffic sends answers text Refused was is = OnlyAnswers told traffic answers Refused was is
-DoesRequest told traffic sends answers text Unknown was is = OnlyAnswers told traffic answers Unknown was is
-DoesRequest told traffic sends answers text OutOfMemory was is = OnlyAnswers told traffic answers OutOfMemory was is
+DoesRequest told around text ShowAll was is = OnlyAnswers told around ShowAll was is
+DoesRequest told around text (AsksWatch seconds) was is = OnlyAnswers told around (AsksWatch seconds) was is
+DoesRequest told around text Counts was is = OnlyAnswers told around Counts was is
+DoesRequest told around text Stop was is = OnlyAnswers told around Stop was is
+DoesRequest told around text StopFromAfar was is = OnlyAnswers told around StopFromAfar was is
+DoesRequest told around text Refused was is = OnlyAnswers told around Refused was is
+DoesRequest told around text Unknown was is = OnlyAnswers told around Unknown was is
+DoesRequest told around text OutOfMemory was is = OnlyAnswers told around OutOfMemory was is
 
 -- No line is left, and nothing is done. Or what the first one asks for is, and nothing else: no act is done that nobody typed, and nobody
 -- is answered another text than that line's.
-abbrev pub DoesLine :
-    {S T : Type 0} → (T → Option (List ℕ)) → (S → Traffic) → (S → SocketAddrV4 → List ℕ → Result ⊤ Fault → S → Type 0)
-    → (S → SocketAddr → List ℕ → S → Type 0) → Desk S T → Desk S T → Type 0
-DoesLine told traffic sends answers was is =
+abbrev pub DoesLine : {S T : Type 0} → (T → Option (List ℕ)) → Around S → Desk S T → Desk S T → Type 0
+DoesLine told around was is =
     ((left_of was.lines ≡ []) × (is ≡ was))
     ⊎ ((text : List ℕ) × (request : TelephoneRequest) × IsFirst was.lines text
-    × IsRequest was.lines was.admission.are_phones_open text request × DoesRequest told traffic sends answers text request was is)
+    × IsRequest was.lines was.admission.are_phones_open text request × DoesRequest told around text request was is)

@@ -6,7 +6,7 @@ use Rattle.gateway_core.specs.Stands.{Stands}
 use Rattle.plain_machine.specs.Event.{GatewayEvent}
 use Rattle.plain_machine.specs.Lists.{plain}
 use Rattle.page_board.specs.Showing.{BoardState}
-use Rattle.surroundings.specs.Sending.{Traffic}
+use Rattle.surroundings.specs.Around.{Around}
 use Rattle.surroundings.specs.Typing.{left_of}
 use Rattle.surroundings.specs.declared.lines.Lines.{Lines}
 use Rattle.surroundings.specs.declared.surroundings.Fault.{Fault}
@@ -90,8 +90,7 @@ pub record TakesFromPage {S T : Type 0} (tells : S → Told → Type 0) (is_its_
 -- The page is shown the gateway as it is, whose clock is so far behind this moment, and what was counted; or, for want of memory, what it
 -- was shown before. Then its visitors have a turn by that board, once: only what is around the desk changes, though not what went over
 -- that, and what the page is shown. Then the page is asked for the next line, where nobody may have typed.
-pub record DoesVisit {S T V : Type 0}
-    (traffic : S → Traffic) (tells : S → Told → Type 0) (serves : V → S → BoardState → ℕ → V → S → BoardState → Type 0) (moment : ℕ)
+pub record DoesVisit {S T V : Type 0} (around : Around S) (serves : V → S → BoardState → ℕ → V → S → BoardState → Type 0) (moment : ℕ)
     (visitors left : Option (Box V)) (was is : Desk S T) : Type 0 where
   pub served : Desk S T
   pub lag : ℕ
@@ -107,8 +106,8 @@ pub record DoesVisit {S T V : Type 0}
   }
   pub turn : ServesOnce serves moment visitors was.exchange.around shown.board
       left served.exchange.around served.exchange.journal.board
-  pub kept : traffic served.exchange.around ≡ traffic was.exchange.around
-  pub page : TakesFromPage tells false was.is_of_page served is
+  pub kept : around.traffic served.exchange.around ≡ around.traffic was.exchange.around
+  pub page : TakesFromPage around.tells false was.is_of_page served is
 
 -- it begins now: its schedule starts at the moment that the clock told, or, where that failed, to which ticks have come; and that it failed
 -- is counted
@@ -126,15 +125,14 @@ pub record Starts {S T : Type 0} (passes : S → Result ℕ Fault → Type 0) (w
 
 -- What a turn of this kind leaves, at this moment; of ticks, datagrams and lines `Does` says more. It waits until its moment, or only looks
 -- what has come. Visitors have a turn where it is theirs.
-abbrev pub Leaves :
-    {S T V : Type 0} → (S → Traffic) → (S → ℕ → Type 0) → (S → Told → Type 0) → (S → ℕ → Result ⊤ Fault → S → Type 0)
-    → (V → S → BoardState → ℕ → V → S → BoardState → Type 0) → ℕ → Turn → Option (Box V) → Option (Box V) → Desk S T → Desk S T → Type 0
-Leaves traffic dates tells sleeps serves now End visitors left was is = (is ≡ was) × (left ≡ visitors)
-Leaves traffic dates tells sleeps serves now Look visitors left was is = OnlyWaits sleeps 0 was is × (left ≡ visitors)
-Leaves traffic dates tells sleeps serves now (Wait until) visitors left was is = OnlyWaits sleeps (until - now) was is × (left ≡ visitors)
-Leaves traffic dates tells sleeps serves now (Tick moment) visitors left was is = OnlyTicks dates moment was is × (left ≡ visitors)
-Leaves traffic dates tells sleeps serves now Command visitors left was is =
+abbrev pub Leaves : {S T V : Type 0} → Around S → (V → S → BoardState → ℕ → V → S → BoardState → Type 0) → ℕ → Turn → Option (Box V)
+    → Option (Box V) → Desk S T → Desk S T → Type 0
+Leaves around serves now End visitors left was is = (is ≡ was) × (left ≡ visitors)
+Leaves around serves now Look visitors left was is = OnlyWaits around.sleeps 0 was is × (left ≡ visitors)
+Leaves around serves now (Wait until) visitors left was is = OnlyWaits around.sleeps (until - now) was is × (left ≡ visitors)
+Leaves around serves now (Tick moment) visitors left was is = OnlyTicks around.dates moment was is × (left ≡ visitors)
+Leaves around serves now Command visitors left was is =
     (is.admission ≡ was.admission) × (is.schedule ≡ was.schedule) × (left ≡ visitors)
-Leaves traffic dates tells sleeps serves now Datagram visitors left was is = OnlyPlays was is × (left ≡ visitors)
-Leaves traffic dates tells sleeps serves now Visit visitors left was is = DoesVisit traffic tells serves now visitors left was is
-Leaves traffic dates tells sleeps serves now (Note pause) visitors left was is = NotesPause pause was is × (left ≡ visitors)
+Leaves around serves now Datagram visitors left was is = OnlyPlays was is × (left ≡ visitors)
+Leaves around serves now Visit visitors left was is = DoesVisit around serves now visitors left was is
+Leaves around serves now (Note pause) visitors left was is = NotesPause pause was is × (left ≡ visitors)

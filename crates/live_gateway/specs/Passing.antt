@@ -5,6 +5,7 @@ use Rattle.std.specs.declared.net.socket_addr.SocketAddrV4.{SocketAddrV4}
 use Rattle.bad_network.specs.declared.packet.Packet.{Packet}
 use Rattle.bad_network.specs.declared.packet.Way.TheVariants.{In, Out}
 use Rattle.exchange_log.specs.declared.note.Note.TheVariants as notes
+use Rattle.surroundings.specs.Around.{Around}
 use Rattle.surroundings.specs.declared.surroundings.Fault.{Fault}
 use Rattle.told_messages.specs.Logging.{LeavesOut}
 use Rattle.live_gateway.specs.declared.admission.Admission.{Admission}
@@ -115,28 +116,23 @@ TakesFound sends admission (Some found) front given room was is =
     GoesWhereHeard sends (is_heard admission found.0) admission found.0 (take found.1 front) given room was is
 
 -- the network gave nothing on: it was looked then for a datagram of the socket, once, with all the room that there is
-pub record LooksBehind {S : Type 0}
-    (receives : S → Result (Option (SocketAddrV4 × ℕ)) Fault → List ℕ → S → Type 0)
-    (sends : S → SocketAddrV4 → List ℕ → Result ⊤ Fault → S → Type 0) (admission : Admission)
-    (given : Option (SocketAddrV4 × ℕ)) (room : List ℕ) (was is : Exchange S) : Type 0 where
+pub record LooksBehind {S : Type 0} (around : Around S) (admission : Admission) (given : Option (SocketAddrV4 × ℕ)) (room : List ℕ)
+    (was is : Exchange S) : Type 0 where
   pub before : Exchange S
   pub after : Exchange S
   pub found : Option (SocketAddrV4 × ℕ)
   pub first : List ℕ
   pub front : List ℕ
   pub whole : length front ≡ length room
-  pub none : HandsOut sends admission None first was before
-  pub looked : LooksOnce receives before found front after
+  pub none : HandsOut around.sends admission None first was before
+  pub looked : LooksOnce around.receives before found front after
   pub only : after ≡ record before { around = after.around; read = after.read; faults = after.faults }
-  pub takes : TakesFound sends admission found front given room after is
+  pub takes : TakesFound around.sends admission found front given room after is
 
 -- with a network before the socket: that gave one on, or it was looked for one of the socket
-abbrev pub LooksOver :
-    {S : Type 0} → (S → Result (Option (SocketAddrV4 × ℕ)) Fault → List ℕ → S → Type 0)
-    → (S → SocketAddrV4 → List ℕ → Result ⊤ Fault → S → Type 0) → Admission → Option (SocketAddrV4 × ℕ) → List ℕ
-    → Exchange S → Exchange S → Type 0
-LooksOver receives sends admission given room was is =
-    (IsSome given × HandsOut sends admission given room was is) ⊎ LooksBehind receives sends admission given room was is
+abbrev pub LooksOver : {S : Type 0} → Around S → Admission → Option (SocketAddrV4 × ℕ) → List ℕ → Exchange S → Exchange S → Type 0
+LooksOver around admission given room was is =
+    (IsSome given × HandsOut around.sends admission given room was is) ⊎ LooksBehind around admission given room was is
 
 -- Where no network is
 
@@ -165,15 +161,9 @@ pub record LooksDirectly {S : Type 0}
   pub gives : GivesFound admission found given room after is
 
 -- A look for a datagram, where a network is before the socket or none is. Of an exchange that alone changes which it changes.
-abbrev pub LooksBy :
-    {S : Type 0} → (S → Result (Option (SocketAddrV4 × ℕ)) Fault → List ℕ → S → Type 0)
-    → (S → SocketAddrV4 → List ℕ → Result ⊤ Fault → S → Type 0) → Bool → Admission → Option (SocketAddrV4 × ℕ) → List ℕ
-    → Exchange S → Exchange S → Type 0
-LooksBy receives sends true admission given room was is = LooksOver receives sends admission given room was is
-LooksBy receives sends false admission given room was is = LooksDirectly receives admission given room was is
+abbrev pub LooksBy : {S : Type 0} → Around S → Bool → Admission → Option (SocketAddrV4 × ℕ) → List ℕ → Exchange S → Exchange S → Type 0
+LooksBy around true admission given room was is = LooksOver around admission given room was is
+LooksBy around false admission given room was is = LooksDirectly around.receives admission given room was is
 
-abbrev pub Looks :
-    {S : Type 0} → (S → Result (Option (SocketAddrV4 × ℕ)) Fault → List ℕ → S → Type 0)
-    → (S → SocketAddrV4 → List ℕ → Result ⊤ Fault → S → Type 0) → Admission → Option (SocketAddrV4 × ℕ) → List ℕ
-    → Exchange S → Exchange S → Type 0
-Looks receives sends admission given room was is = LooksBy receives sends (is_some was.network) admission given room was is
+abbrev pub Looks : {S : Type 0} → Around S → Admission → Option (SocketAddrV4 × ℕ) → List ℕ → Exchange S → Exchange S → Type 0
+Looks around admission given room was is = LooksBy around (is_some was.network) admission given room was is

@@ -1,7 +1,6 @@
 -- What a turn does, by its kind.
 use Rattle.std.specs.Prelude.{◌≡◌, ◌⊎◌, ⊤, ℕ, ◌+◌, Bool, false, ◌||◌, not, List, [], length, take, Option, None, Some, option_map, Result}
 use Rattle.std.specs.Global.{Box}
-use Rattle.std.specs.declared.net.socket_addr.SocketAddr.{SocketAddr}
 use Rattle.std.specs.declared.net.socket_addr.SocketAddrV4.{SocketAddrV4}
 use Rattle.mg_bytes.specs.Lists.{is_empty}
 use Rattle.gateway_core.specs.Changing.{Changes}
@@ -11,9 +10,8 @@ use Rattle.gateway_rules.specs.declared.refusal.Refusal.{Refusal}
 use Rattle.plain_machine.specs.Event.{GatewayEvent, datagram, tick}
 use Rattle.plain_machine.specs.Falling.{first_due}
 use Rattle.plain_machine.specs.Lists.{plain}
-use Rattle.page_board.specs.Showing.{BoardState}
+use Rattle.surroundings.specs.Around.{Around}
 use Rattle.surroundings.specs.Hearing.{Hears}
-use Rattle.surroundings.specs.Sending.{Traffic}
 use Rattle.surroundings.specs.Speaking.{Admitted, admitted_by}
 use Rattle.surroundings.specs.Typing.{left_of}
 use Rattle.surroundings.specs.declared.surroundings.Fault.{Fault}
@@ -26,7 +24,7 @@ use Rattle.turns.specs.declared.situation.Situation.{Situation}
 use Rattle.turns.specs.declared.turn.Turn.{Turn}
 use Rattle.turns.specs.declared.turn.Turn.TheVariants.{End, Look, Wait, Tick, Command, Datagram, Visit, Note}
 use Rattle.turns.specs.Schedule.{next_of}
-use Rattle.live_journal.specs.declared.journal.Journal.{Journal}
+use Rattle.live_journal.specs.Writing.{WriterBy}
 use Rattle.live_play.specs.Running.{Ran}
 use Rattle.live_telephones.specs.Watching.{WatchesOn, WatchesStill}
 use Rattle.live_gateway.specs.Leaving.{OnlyHears, TakesFromPage, Starts, Leaves}
@@ -34,7 +32,7 @@ use Rattle.live_gateway.specs.declared.desk.Desk.{Desk}
 use Rattle.live_gateway.specs.declared.exchange.Exchange.{Exchange}
 use Rattle.live_gateway.specs.Answering.{DoesLine}
 use Rattle.live_gateway.specs.Passing.{Looks}
-use Rattle.live_gateway.specs.Visiting.{AreReady, ClosesAt}
+use Rattle.live_gateway.specs.Visiting.{VisitsBy, AreReady, ClosesAt}
 use Rattle.live_gateway.specs.Ending.{WroteTimes}
 use Rattle.live_gateway.specs.Desk.{Standing, at_desk, MayRefuse, IsHeard}
 use Rattle.live_gateway.specs.Exchanging.{CountsReceived, FoundSince, OnlyWrites, TakesOver, NotesRefused, came_by, next_due, moment_at, faults_by}
@@ -51,16 +49,15 @@ Tries sends admitted input event was from is to =
 
 -- None came that is heard, and nothing changed but at the exchange that looked. Or this one did, at the front of this room, and the
 -- gateway took or refused it, over that exchange: what goes out at it changes nothing of what came.
-abbrev pub TriesFound :
-    {S T : Type 0} → (T → Option (List ℕ)) → (S → Traffic) → (S → SocketAddrV4 → List ℕ → Result ⊤ Fault → S → Type 0)
-    → Exchange S → Option (SocketAddrV4 × ℕ) → List ℕ → Desk S T → Desk S T → Type 0
-TriesFound told traffic sends looked None room was is =
-    (is ≡ record was { exchange = looked }) × ((at_desk told traffic is).live ≡ (at_desk told traffic was).live)
+abbrev pub TriesFound : {S T : Type 0} → (T → Option (List ℕ)) → Around S → Exchange S → Option (SocketAddrV4 × ℕ) → List ℕ → Desk S T
+    → Desk S T → Type 0
+TriesFound told around looked None room was is =
+    (is ≡ record was { exchange = looked }) × ((at_desk told around.traffic is).live ≡ (at_desk told around.traffic was).live)
     × (looked.faults.refused ≡ was.exchange.faults.refused)
-TriesFound told traffic sends looked (Some found) room was is =
-    IsHeard was.admission found.0 × ((came_by traffic is.exchange).received ≡ (came_by traffic looked).received)
-    × Tries sends (admitted_by was.admission.speakers) (arrived found.0 (take found.1 room)) (datagram found.0 (take found.1 room))
-    (at_desk told traffic was) looked (at_desk told traffic is) is.exchange
+TriesFound told around looked (Some found) room was is =
+    IsHeard was.admission found.0 × ((came_by around.traffic is.exchange).received ≡ (came_by around.traffic looked).received)
+    × Tries around.sends (admitted_by was.admission.speakers) (arrived found.0 (take found.1 room)) (datagram found.0 (take found.1 room))
+    (at_desk told around.traffic was) looked (at_desk told around.traffic is) is.exchange
 
 -- room for the largest datagram, and for one byte more, which tells one that is too long from it
 abbrev pub IsRoom : List ℕ → Type 0
@@ -68,53 +65,40 @@ IsRoom room = length room ≡ largest_datagram + 1
 
 -- It was looked for a datagram at the desk's own exchange, once, with room for a whole one, and what was found was tried; nothing else
 -- came of the look.
-pub record LooksForOne {S T : Type 0}
-    (told : T → Option (List ℕ)) (traffic : S → Traffic)
-    (receives : S → Result (Option (SocketAddrV4 × ℕ)) Fault → List ℕ → S → Type 0)
-    (sends : S → SocketAddrV4 → List ℕ → Result ⊤ Fault → S → Type 0) (was is : Desk S T) : Type 0 where
+pub record LooksForOne {S T : Type 0} (told : T → Option (List ℕ)) (around : Around S) (was is : Desk S T) : Type 0 where
   pub found : Option (SocketAddrV4 × ℕ)
   pub room : List ℕ
   pub whole : IsRoom room
   pub looked : Exchange S
-  pub counts : CountsReceived receives was.admission was.exchange found room looked
-  pub came : FoundSince traffic was.admission was.exchange found room looked
-  pub looks : Looks receives sends was.admission found room was.exchange looked
-  pub tried : TriesFound told traffic sends looked found room was is
+  pub counts : CountsReceived around.receives was.admission was.exchange found room looked
+  pub came : FoundSince around.traffic was.admission was.exchange found room looked
+  pub looks : Looks around was.admission found room was.exchange looked
+  pub tried : TriesFound told around looked found room was is
 
 -- Lines are heard where none is left; the first that is left is done, and no other one. Where none is left then, the page is asked for its
 -- next act, unless it was the page's line that was left, and somebody may have typed.
-pub record DoesLines {S T : Type 0}
-    (told : T → Option (List ℕ)) (traffic : S → Traffic) (sockets : S → List SocketAddrV4) (tells : S → Told → Type 0)
-    (sends : S → SocketAddrV4 → List ℕ → Result ⊤ Fault → S → Type 0)
-    (hears : S → Option (SocketAddr × ℕ) → List ℕ → S → Type 0) (answers : S → SocketAddr → List ℕ → S → Type 0) (was is : Desk S T)
-    : Type 0 where
+pub record DoesLines {S T : Type 0} (told : T → Option (List ℕ)) (around : Around S) (was is : Desk S T) : Type 0 where
   pub heard : Desk S T
   pub done : Desk S T
   pub taken : Bool
-  pub hearing : Hears sockets hears was.exchange.around was.lines taken heard.exchange.around heard.lines
+  pub hearing : Hears around was.exchange.around was.lines taken heard.exchange.around heard.lines
   pub before : OnlyHears taken was heard
-  pub kept : traffic heard.exchange.around ≡ traffic was.exchange.around
-  pub line : DoesLine told traffic sends answers heard done
-  pub behind : TakesFromPage tells (not was.is_of_page) false done is
+  pub kept : around.traffic heard.exchange.around ≡ around.traffic was.exchange.around
+  pub line : DoesLine told around heard done
+  pub behind : TakesFromPage around.tells (not was.is_of_page) false done is
 
 -- what a turn of this kind does
-abbrev pub Does :
-    {S T : Type 0} → (T → Option (List ℕ)) → (S → Traffic) → (S → List SocketAddrV4) → (S → Told → Type 0)
-    → (S → Result (Option (SocketAddrV4 × ℕ)) Fault → List ℕ → S → Type 0)
-    → (S → SocketAddrV4 → List ℕ → Result ⊤ Fault → S → Type 0)
-    → (S → Option (SocketAddr × ℕ) → List ℕ → S → Type 0) → (S → SocketAddr → List ℕ → S → Type 0)
-    → Turn → Desk S T → Desk S T → Type 0
-Does told traffic sockets tells receives sends hears answers End was is = at_desk told traffic is ≡ at_desk told traffic was
-Does told traffic sockets tells receives sends hears answers Look was is = at_desk told traffic is ≡ at_desk told traffic was
-Does told traffic sockets tells receives sends hears answers (Wait until) was is = at_desk told traffic is ≡ at_desk told traffic was
-Does told traffic sockets tells receives sends hears answers (Tick moment) was is =
-    Tries sends (admitted_by was.admission.speakers) (passed moment) (tick moment)
-    (at_desk told traffic was) (record was.exchange { now = is.exchange.now }) (at_desk told traffic is) is.exchange
-Does told traffic sockets tells receives sends hears answers Command was is =
-    DoesLines told traffic sockets tells sends hears answers was is
-Does told traffic sockets tells receives sends hears answers Datagram was is = LooksForOne told traffic receives sends was is
-Does told traffic sockets tells receives sends hears answers Visit was is = at_desk told traffic is ≡ at_desk told traffic was
-Does told traffic sockets tells receives sends hears answers (Note pause) was is = at_desk told traffic is ≡ at_desk told traffic was
+abbrev pub Does : {S T : Type 0} → (T → Option (List ℕ)) → Around S → Turn → Desk S T → Desk S T → Type 0
+Does told around End was is = at_desk told around.traffic is ≡ at_desk told around.traffic was
+Does told around Look was is = at_desk told around.traffic is ≡ at_desk told around.traffic was
+Does told around (Wait until) was is = at_desk told around.traffic is ≡ at_desk told around.traffic was
+Does told around (Tick moment) was is =
+    Tries around.sends (admitted_by was.admission.speakers) (passed moment) (tick moment)
+    (at_desk told around.traffic was) (record was.exchange { now = is.exchange.now }) (at_desk told around.traffic is) is.exchange
+Does told around Command was is = DoesLines told around was is
+Does told around Datagram was is = LooksForOne told around was is
+Does told around Visit was is = at_desk told around.traffic is ≡ at_desk told around.traffic was
+Does told around (Note pause) was is = at_desk told around.traffic is ≡ at_desk told around.traffic was
 
 -- an event may be taken at a turn of this kind; at the others none is
 abbrev pub MayTake : Turn → Bool → Type 0
@@ -137,18 +121,17 @@ ready_at told is_line_left network ticked is_visited = record {
 }
 
 -- How things stand at a desk: by what the clock, the sockets and visitors told when they were asked.
-pub record IsSituation {S T V : Type 0}
-    (passes : S → Result ℕ Fault → Type 0) (tells : S → Told → Type 0) (waits : V → S → ℕ → Bool → Type 0) (closes : V → Option ℕ → Type 0)
-    (visitors : Option (Box V)) (was : Desk S T) (at : Situation) : Type 0 where
+pub record IsSituation {S T V : Type 0} (around : Around S) (visits : VisitsBy V S) (visitors : Option (Box V)) (was : Desk S T)
+    (at : Situation) : Type 0 where
   pub clock : Result ℕ Fault
-  pub read_so : passes was.exchange.around clock
+  pub read_so : around.passes was.exchange.around clock
   pub told : Told
-  pub told_so : tells was.exchange.around told
+  pub told_so : around.tells was.exchange.around told
   pub is_visited : Bool
-  pub visited_so : AreReady waits visitors was.exchange.around at.moment is_visited
+  pub visited_so : AreReady visits.waits visitors was.exchange.around at.moment is_visited
   pub own : Option ℕ
   pub deadline : Option ℕ
-  pub closes_so : ClosesAt closes visitors deadline
+  pub closes_so : ClosesAt visits.closes visitors deadline
   pub moment : at.moment ≡ moment_at clock at.ticked
   pub ticked : (events : List GatewayEvent) → Stands was.play.gateway.value events
       → at.ticked ≡ (plain was.play.gateway.value.setup events).now
@@ -162,59 +145,50 @@ pub record IsSituation {S T V : Type 0}
 -- It does what comes next by its schedule, as things stand, and goes on with the schedule behind that; what it records has the time of day
 -- that was told as the turn began. The gateway took an event at it, or none, and then no line of it changed; who watches is told then what
 -- changed, where it took one. Visitors have a turn where that is what comes next, and no other one.
-pub record DoesNext {S T V : Type 0}
-    (told : T → Option (List ℕ)) (traffic : S → Traffic) (sockets : S → List SocketAddrV4)
-    (passes : S → Result ℕ Fault → Type 0) (dates : S → ℕ → Type 0) (tells : S → Told → Type 0)
-    (sleeps : S → ℕ → Result ⊤ Fault → S → Type 0)
-    (receives : S → Result (Option (SocketAddrV4 × ℕ)) Fault → List ℕ → S → Type 0)
-    (sends : S → SocketAddrV4 → List ℕ → Result ⊤ Fault → S → Type 0)
-    (hears : S → Option (SocketAddr × ℕ) → List ℕ → S → Type 0) (answers : S → SocketAddr → List ℕ → S → Type 0)
-    (waits : V → S → ℕ → Bool → Type 0) (closes : V → Option ℕ → Type 0) (serves : V → S → BoardState → ℕ → V → S → BoardState → Type 0)
-    (was : Desk S T) (visitors : Option (Box V)) (is : Desk S T) (left : Option (Box V)) : Type 0 where
+pub record DoesNext {S T V : Type 0} (told : T → Option (List ℕ)) (around : Around S) (visits : VisitsBy V S) (was : Desk S T)
+    (visitors : Option (Box V)) (is : Desk S T) (left : Option (Box V)) : Type 0 where
   pub at : Situation
   pub turn : Turn
   pub begun : Desk S T
   pub done : Desk S T
-  pub situation : IsSituation passes tells waits closes visitors was at
+  pub situation : IsSituation around visits visitors was at
   pub next : (turn, is.schedule) ≡ next_of was.schedule at
   pub before : begun ≡ record was {
     exchange = record was.exchange { now = begun.exchange.now; faults = begun.exchange.faults };
     schedule = begun.schedule;
   }
   pub clock : begun.exchange.now.clock ≡ at.ticked
-  pub dated : dates was.exchange.around begun.exchange.now.time
+  pub dated : around.dates was.exchange.around begun.exchange.now.time
   pub faults : begun.exchange.faults ≡ faults_by situation.clock was.exchange.faults
-  pub does : Does told traffic sockets tells receives sends hears answers turn begun done
-  pub leaves : Leaves traffic dates tells sleeps serves at.moment turn visitors left begun done
+  pub does : Does told around turn begun done
+  pub leaves : Leaves around visits.serves at.moment turn visitors left begun done
   pub taken : Bool
   pub may : MayTake turn taken
   pub changes : Changes taken done.play.gateway.value.changed begun.play.gateway.value.machine.endpoints
       done.play.gateway.value.machine.endpoints
   pub behind : is ≡ record done { exchange = record done.exchange { around = is.exchange.around }; watch = is.watch }
-  pub kept : traffic is.exchange.around ≡ traffic done.exchange.around
-  pub still : WatchesStill answers done.watch.watchers.places is.exchange.around is.watch.watchers.places
+  pub kept : around.traffic is.exchange.around ≡ around.traffic done.exchange.around
+  pub still : WatchesStill around.answers done.watch.watchers.places is.exchange.around is.watch.watchers.places
   pub watch : (events : List GatewayEvent) → Stands done.play.gateway.value events
-      → WatchesOn taken answers done.play.gateway.value.changed done.play.gateway.value.setup (plain done.play.gateway.value.setup events)
-      done.exchange.around done.watch is.exchange.around is.watch
+      → WatchesOn taken around.answers done.play.gateway.value.changed done.play.gateway.value.setup
+      (plain done.play.gateway.value.setup events) done.exchange.around done.watch is.exchange.around is.watch
 
 -- A turn was done, and then what was recorded at it was written, at its time: of the desk, that changes only what is recorded and told, as
 -- who wrote left it, and whether some of it waits to be taken, as they say.
 pub record TurnsAndWrites {S T V W : Type 0}
-    (does : Desk S T → V → Desk S T → V → Type 0) (writes : W → Journal → T → ℕ → W → Journal → T → Type 0) (offers : W → Bool → Type 0)
-    (was is : Desk S T × V × W) : Type 0 where
+    (does : Desk S T → V → Desk S T → V → Type 0) (writer : WriterBy W T) (was is : Desk S T × V × W) : Type 0 where
   pub done : Desk S T
   pub turn : does was.0 was.1 done is.1
-  pub wrote : writes was.2 done.exchange.journal done.play.teller done.exchange.now.time is.2 is.0.exchange.journal is.0.play.teller
-  pub offering : offers is.2 is.0.exchange.is_offering
+  pub wrote : writer.writes was.2 done.exchange.journal done.play.teller done.exchange.now.time is.2 is.0.exchange.journal is.0.play.teller
+  pub offering : writer.offers is.2 is.0.exchange.is_offering
   pub teller : is.0.play ≡ record done.play { teller = is.0.play.teller }
   pub exchange : OnlyWrites done.exchange is.0.exchange
   pub rest : is.0 ≡ record done { play = is.0.play; exchange = is.0.exchange }
 
 -- it began, and then there were so many turns, and nothing else
 pub record RunsTurns {S T V W : Type 0}
-    (passes : S → Result ℕ Fault → Type 0) (does : Desk S T → V → Desk S T → V → Type 0)
-    (writes : W → Journal → T → ℕ → W → Journal → T → Type 0) (offers : W → Bool → Type 0)
+    (passes : S → Result ℕ Fault → Type 0) (does : Desk S T → V → Desk S T → V → Type 0) (writer : WriterBy W T)
     (count : ℕ) (was : Desk S T) (visitors : V) (before : W) (is : Desk S T) (left : V) (after : W) : Type 0 where
   pub begun : Desk S T
   pub starts : Starts passes was begun
-  pub turns : WroteTimes (TurnsAndWrites does writes offers) count (begun, visitors, before) (is, left, after)
+  pub turns : WroteTimes (TurnsAndWrites does writer) count (begun, visitors, before) (is, left, after)

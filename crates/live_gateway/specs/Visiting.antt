@@ -4,6 +4,15 @@ use Rattle.std.specs.Global.{Box}
 pub use Rattle.turns.specs.Clock.{has_come}
 use Rattle.page_board.specs.Showing.{BoardState}
 
+-- what visitors can be held to
+pub record VisitsBy (V S : Type 0) : Type 1 where
+  -- they were asked whether they are ready over these surroundings, at this moment in ms: that gave this
+  pub waits : V → S → ℕ → Bool → Type 0
+  -- they were asked when somebody's time is over, in ms: that gave this
+  pub closes : V → Option ℕ → Type 0
+  -- they had a turn at this moment, in ms, and were answered by this board, once
+  pub serves : V → S → BoardState → ℕ → V → S → BoardState → Type 0
+
 -- whether they are ready over these surroundings, at this moment, as they said; where there are none, none is
 abbrev pub AreReady : {V S : Type 0} → (V → S → ℕ → Bool → Type 0) → Option (Box V) → S → ℕ → Bool → Type 0
 AreReady waits None around moment ready = ready ≡ false

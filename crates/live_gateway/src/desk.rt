@@ -149,8 +149,8 @@ pub fn open_desk<S: Surroundings + Drop>(
 impl<S: Surroundings + Drop, T: Teller + Drop> Desk<S, T> {
     // A datagram is taken, if one is there, and who sent it is heard: whether the gateway took it.
     fn datagram(&mut self) -> bool
-        ensures play { GoesOn T.told S.traffic self.old self.new }
-        ensures looked { LooksForOne T.told S.traffic S.receives S.sends self.old self.new }
+        ensures play { GoesOn T.told S.around.traffic self.old self.new }
+        ensures looked { LooksForOne T.told S.around self.old self.new }
         ensures rest { OnlyPlays self.old self.new }
         ensures changes { Changes result self.new.play.gateway.value.changed self.old.play.gateway.value.machine.endpoints
             self.new.play.gateway.value.machine.endpoints }
@@ -197,8 +197,8 @@ impl<S: Surroundings + Drop, T: Teller + Drop> Desk<S, T> {
     // gateway has ended.
     fn answer_request(&mut self, request: TelephoneRequest)
         requires { (said : Option ScriptLine) × AsksFor request said }
-        ensures play { at_desk T.told S.traffic self.new ≡ at_desk T.told S.traffic self.old }
-        ensures answered { AnswersRequest S.answers request self.old self.new }
+        ensures play { at_desk T.told S.around.traffic self.new ≡ at_desk T.told S.around.traffic self.old }
+        ensures answered { AnswersRequest S.around.answers request self.old self.new }
         ensures admission { self.new.admission ≡ self.old.admission }
         ensures schedule { self.new.schedule ≡ self.old.schedule }
     {
@@ -237,8 +237,8 @@ impl<S: Surroundings + Drop, T: Teller + Drop> Desk<S, T> {
     // What the line asks for that is to be answered next is done: whether the gateway took it.
     #[tactic(auto, using(crate::proofs::DeskLemmas::stays_so, crate::proofs::DeskLemmas::stays))]
     fn take_line(&mut self) -> bool
-        ensures play { GoesOn T.told S.traffic self.old self.new }
-        ensures line { DoesLine T.told S.traffic S.sends S.answers self.old self.new }
+        ensures play { GoesOn T.told S.around.traffic self.old self.new }
+        ensures line { DoesLine T.told S.around self.old self.new }
         ensures changes { Changes result self.new.play.gateway.value.changed self.old.play.gateway.value.machine.endpoints
             self.new.play.gateway.value.machine.endpoints }
         ensures schedule { self.new.schedule ≡ self.old.schedule }
@@ -283,7 +283,7 @@ impl<S: Surroundings + Drop, T: Teller + Drop> Desk<S, T> {
 
     // A visitor is served, if one is there.
     fn visit<V: Visitors<S>>(&mut self, visitors: &mut Option<Box<V>>, moment: u64)
-        ensures { DoesVisit S.traffic S.tells V.serves moment visitors.old visitors.new self.old self.new }
+        ensures { DoesVisit S.around V.visits.serves moment visitors.old visitors.new self.old self.new }
     {
         let faults = self.exchange.faults;
         let behind = moment.saturating_sub(self.play.gateway.now());
@@ -314,9 +314,9 @@ impl<S: Surroundings + Drop, T: Teller + Drop> Desk<S, T> {
         requires { (to : ℕ) → turn ≡ Turn.Tick to
             → (to < first_unread) × ((events : List GatewayEvent) → Stands self.old.play.gateway.value events
             → (plain self.old.play.gateway.value.setup events).now < to) }
-        ensures play { GoesOn T.told S.traffic self.old self.new }
-        ensures does { Does T.told S.traffic S.sockets S.tells S.receives S.sends S.hears S.answers turn self.old self.new }
-        ensures leaves { Leaves S.traffic S.dates S.tells S.sleeps V.serves moment turn visitors.old visitors.new self.old self.new }
+        ensures play { GoesOn T.told S.around.traffic self.old self.new }
+        ensures does { Does T.told S.around turn self.old self.new }
+        ensures leaves { Leaves S.around V.visits.serves moment turn visitors.old visitors.new self.old self.new }
         ensures over { is_end turn ≡ true → (self.new.play ≡ self.old.play) × (self.new.end ≡ self.old.end) }
         ensures may { MayTake turn result }
         ensures changes { Changes result self.new.play.gateway.value.changed self.old.play.gateway.value.machine.endpoints
@@ -375,10 +375,9 @@ impl<S: Surroundings + Drop, T: Teller + Drop> Desk<S, T> {
     /// Asks what comes next and does that, and who watches is told what changed, where an event was taken: whether the end hasn't come. Once ticks have come to the
     /// end nothing more is done.
     pub fn turn<V: Visitors<S>>(&mut self, visitors: &mut Option<Box<V>>) -> bool
-        ensures play { GoesOn T.told S.traffic self.old self.new }
+        ensures play { GoesOn T.told S.around.traffic self.old self.new }
         ensures end { EndsAt self.old.end self.old.play.gateway.value (not result) }
-        ensures does { DoesNext T.told S.traffic S.sockets S.passes S.dates S.tells S.sleeps S.receives S.sends S.hears S.answers
-            V.waits V.closes V.serves self.old visitors.old self.new visitors.new }
+        ensures does { DoesNext T.told S.around V.visits self.old visitors.old self.new visitors.new }
         ensures over { result ≡ false → (self.new.play ≡ self.old.play) × (self.new.end ≡ self.old.end) }
     {
         let ticked = self.play.gateway.now();
@@ -407,12 +406,12 @@ impl<S: Surroundings + Drop, T: Teller + Drop> Desk<S, T> {
     /// Writes what was recorded at the turn that is over, as far as it is taken at once.
     #[tactic(auto, using(crate::proofs::DeskLemmas::written_off))]
     pub fn write<W: Recorder<T>>(&mut self, recorder: &mut W)
-        ensures play { GoesOn T.told S.traffic self.old self.new }
+        ensures play { GoesOn T.told S.around.traffic self.old self.new }
         ensures lines { self.new.lines ≡ self.old.lines }
         ensures gateway { self.new.play.gateway ≡ self.old.play.gateway }
-        ensures wrote { W.writes recorder.old self.old.exchange.journal self.old.play.teller self.old.exchange.now.time
+        ensures wrote { W.writer.writes recorder.old self.old.exchange.journal self.old.play.teller self.old.exchange.now.time
             recorder.new self.new.exchange.journal self.new.play.teller }
-        ensures offering { W.offers recorder.new self.new.exchange.is_offering }
+        ensures offering { W.writer.offers recorder.new self.new.exchange.is_offering }
         ensures teller { self.new.play ≡ record self.old.play { teller = self.new.play.teller } }
         ensures exchange { OnlyWrites self.old.exchange self.new.exchange }
         ensures rest { self.new ≡ record self.old { play = self.new.play; exchange = self.new.exchange } }
@@ -429,10 +428,10 @@ impl<S: Surroundings + Drop, T: Teller + Drop> Desk<S, T> {
         visitors: &mut Option<Box<V>>,
         recorder: &mut W,
     )
-        ensures play { GoesOn T.told S.traffic self.old self.new }
+        ensures play { GoesOn T.told S.around.traffic self.old self.new }
         ensures end { (count : ℕ)
-            × RunsTurns S.passes (DoesNext T.told S.traffic S.sockets S.passes S.dates S.tells S.sleeps S.receives S.sends S.hears S.answers
-            V.waits V.closes V.serves) W.writes W.offers count self.old visitors.old recorder.old self.new visitors.new recorder.new
+            × RunsTurns S.around.passes (DoesNext T.told S.around V.visits) W.writer count
+            self.old visitors.old recorder.old self.new visitors.new recorder.new
             × ((EndsAt self.new.end self.new.play.gateway.value true) ⊎ (count ≡ 2 ^ 64 - 1)) }
     {
         // It begins now: what its start took isn't a pause.
@@ -450,9 +449,9 @@ impl<S: Surroundings + Drop, T: Teller + Drop> Desk<S, T> {
     /// The gateway has ended, and all is written that is told of it: who asked for the end is answered, where somebody did. What
     /// stands behind that in the datagram isn't done.
     pub fn answer_stop(&mut self)
-        ensures play { at_desk T.told S.traffic self.new ≡ at_desk T.told S.traffic self.old }
+        ensures play { at_desk T.told S.around.traffic self.new ≡ at_desk T.told S.around.traffic self.old }
         ensures stopped { AsksForEnd self.old.lines →
-            AnswersTo S.answers self.old.lines.sender self.old.exchange.around (codes "done\n") self.new.exchange.around }
+            AnswersTo S.around.answers self.old.lines.sender self.old.exchange.around (codes "done\n") self.new.exchange.around }
         ensures other { (AsksForEnd self.old.lines → ⊥) → self.new.exchange ≡ self.old.exchange }
         ensures kept { self.new.exchange ≡ record self.old.exchange { around = self.new.exchange.around } }
         ensures rest { self.new ≡ record self.old { exchange = self.new.exchange; lines = self.new.lines } }

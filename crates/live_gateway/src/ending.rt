@@ -49,10 +49,10 @@ pub fn end_desk<S: Surroundings + Drop, W: Recorder<Trace> + Finisher, R: Clock>
     desk: &mut Desk<S, Trace>,
     recorder: &mut W,
 ) -> CommonEnding
-    ensures ended { (between : W) × WritesLast W.writes desk.old recorder.old desk.new between
+    ensures ended { (between : W) × WritesLast W.writer.writes desk.old recorder.old desk.new between
         × EndsWith W.ends desk.new between recorder.new result }
     ensures stopped { AsksForEnd desk.old.lines
-        → AnswersTo S.answers desk.old.lines.sender desk.old.exchange.around (codes "done\n") desk.new.exchange.around }
+        → AnswersTo S.around.answers desk.old.lines.sender desk.old.exchange.around (codes "done\n") desk.new.exchange.around }
     ensures other { (AsksForEnd desk.old.lines → ⊥) → desk.new.exchange.around ≡ desk.old.exchange.around }
     ensures rest { OnlyEnds desk.old desk.new }
 {

@@ -110,7 +110,7 @@ impl<S: Surroundings + Drop> Exchange<S> {
         ensures network { self.new.network ≡ self.old.network }
         ensures around { self.new.around ≡ self.old.around }
         ensures clock { self.new.now.clock ≡ ticked }
-        ensures time { S.dates self.old.around self.new.now.time }
+        ensures time { S.around.dates self.old.around self.new.now.time }
         ensures journal { self.new.journal ≡ self.old.journal }
         ensures read { self.new.read ≡ self.old.read }
         ensures faults { self.new.faults ≡ self.old.faults }
@@ -138,7 +138,7 @@ impl<S: Surroundings + Drop> Exchange<S> {
         ensures network { self.new.network ≡ self.old.network }
         ensures around { self.new.around ≡ self.old.around }
         ensures short { (result < first_unread) ⊎ (result ≡ ticked) }
-        ensures clock { (clock : Result ℕ Fault) × S.passes self.old.around clock × (result ≡ moment_at clock ticked)
+        ensures clock { (clock : Result ℕ Fault) × S.around.passes self.old.around clock × (result ≡ moment_at clock ticked)
             × (self.new.faults ≡ faults_by clock self.old.faults) }
         ensures refused { self.new.faults.refused ≡ self.old.faults.refused }
         ensures journal { self.new.journal ≡ self.old.journal }
@@ -156,9 +156,9 @@ impl<S: Surroundings + Drop> Exchange<S> {
 
     /// A visitor is served, at this moment in ms, if one is there.
     pub fn serve_visitor<V: Visitors<S>>(&mut self, visitors: &mut Option<Box<V>>, moment: u64)
-        ensures traffic { S.traffic self.new.around ≡ S.traffic self.old.around }
+        ensures traffic { S.around.traffic self.new.around ≡ S.around.traffic self.old.around }
         ensures rest { OnlyTells self.old self.new }
-        ensures served { ServesOnce V.serves moment visitors.old self.old.around self.old.journal.board
+        ensures served { ServesOnce V.visits.serves moment visitors.old self.old.around self.old.journal.board
             visitors.new self.new.around self.new.journal.board }
     {
         if let Some(visitors) = visitors {
@@ -170,9 +170,9 @@ impl<S: Surroundings + Drop> Exchange<S> {
 
     /// A datagram of lines is taken, where no line is left and one has come.
     pub fn hear(&mut self, lines: &mut Lines)
-        ensures traffic { S.traffic self.new.around ≡ S.traffic self.old.around }
+        ensures traffic { S.around.traffic self.new.around ≡ S.around.traffic self.old.around }
         ensures rest { self.new ≡ record self.old { around = self.new.around; read = self.new.read } }
-        ensures heard { (taken : Bool) × Hears S.sockets S.hears self.old.around lines.old taken self.new.around lines.new
+        ensures heard { (taken : Bool) × Hears S.around self.old.around lines.old taken self.new.around lines.new
             × (self.new.read ≡ with_read taken self.old.read) }
         ensures read { ((self.new.read ≡ self.old.read) × (lines.new ≡ lines.old)) ⊎ (self.new.read ≡ counted self.old.read 1) }
     {
@@ -183,11 +183,11 @@ impl<S: Surroundings + Drop> Exchange<S> {
 
     /// Waits until something comes, but no longer than this, in ms, nor than until what waits to be taken is offered again.
     pub fn wait(&mut self, longest: u64)
-        ensures handed { handed_by self.new.network (S.traffic self.new.around).sent
-            ≡ handed_by self.old.network (S.traffic self.old.around).sent }
-        ensures waited { Waits S.sleeps longest self.old self.new }
-        ensures received { received_by self.new.network (S.traffic self.new.around).received
-            ≡ received_by self.old.network (S.traffic self.old.around).received }
+        ensures handed { handed_by self.new.network (S.around.traffic self.new.around).sent
+            ≡ handed_by self.old.network (S.around.traffic self.old.around).sent }
+        ensures waited { Waits S.around.sleeps longest self.old self.new }
+        ensures received { received_by self.new.network (S.around.traffic self.new.around).received
+            ≡ received_by self.old.network (S.around.traffic self.old.around).received }
         ensures refused { self.new.faults.refused ≡ self.old.faults.refused }
         ensures rest { self.new ≡ record self.old { around = self.new.around; faults = self.new.faults } }
     {
@@ -205,12 +205,12 @@ impl<S: Surroundings + Drop> Exchange<S> {
         ensures within { IfSome result (λ found. found.1 ≤ length room.new) }
         ensures rest { self.new ≡ record self.old { network = self.new.network } }
         ensures spoilt { is_some self.new.network ≡ is_some self.old.network }
-        ensures handed { handed_by self.new.network (S.traffic self.new.around).sent
-            ≡ handed_by self.old.network (S.traffic self.old.around).sent }
+        ensures handed { handed_by self.new.network (S.around.traffic self.new.around).sent
+            ≡ handed_by self.old.network (S.around.traffic self.old.around).sent }
         ensures behind { IfSome result (λ _. (sent : Option (List Sent)) →
-            handed_by self.new.network sent ≡ handed_by self.old.network (S.traffic self.old.around).sent) }
-        ensures came { Grows (received_by self.old.network (S.traffic self.old.around).received) (brought result room.new)
-            (received_by self.new.network (S.traffic self.new.around).received) }
+            handed_by self.new.network sent ≡ handed_by self.old.network (S.around.traffic self.old.around).sent) }
+        ensures came { Grows (received_by self.old.network (S.around.traffic self.old.around).received) (brought result room.new)
+            (received_by self.new.network (S.around.traffic self.new.around).received) }
         ensures due { TakesDue self.old.now.clock self.old.network (option_map (λ found. found.0) result) self.new.network }
         ensures put { IfSome result (λ found. found.0.way ≡ Way.In → take found.1 room.new ≡ take (length room.old) found.0.bytes) }
     {
@@ -250,8 +250,8 @@ impl<S: Surroundings + Drop> Exchange<S> {
     // A datagram that the network hands out now is sent. That it couldn't be the log alone tells: the turn that it is of is over.
     fn send_late(&mut self, to: SocketAddrV4, bytes: &[u8])
         ensures rest { self.new ≡ record self.old { around = self.new.around; journal = self.new.journal } }
-        ensures received { (S.traffic self.new.around).received ≡ (S.traffic self.old.around).received }
-        ensures noted { (sent : Result ⊤ Fault) × S.sends self.old.around to bytes.now sent self.new.around
+        ensures received { (S.around.traffic self.new.around).received ≡ (S.around.traffic self.old.around).received }
+        ensures noted { (sent : Result ⊤ Fault) × S.around.sends self.old.around to bytes.now sent self.new.around
             × NotesLate self.old.journal self.old.now.time to sent self.new.journal }
         ensures tally { self.new.journal.tally ≡ self.old.journal.tally }
     {
@@ -270,15 +270,15 @@ impl<S: Surroundings + Drop> Exchange<S> {
         ensures length { length room.new ≡ length room.old }
         ensures within { IfSome result (λ p. p.1 ≤ length room.new) }
         ensures admitted { IfSome result (λ p. is_heard admission.now p.0 ≡ true) }
-        ensures handed { handed_by self.new.network (S.traffic self.new.around).sent
-            ≡ handed_by self.old.network (S.traffic self.old.around).sent }
+        ensures handed { handed_by self.new.network (S.around.traffic self.new.around).sent
+            ≡ handed_by self.old.network (S.around.traffic self.old.around).sent }
         ensures faults { self.new.faults ≡ self.old.faults }
         ensures read { self.new.read ≡ self.old.read }
         ensures turn { IsSameTurn self.old self.new }
         ensures spoilt { is_some self.new.network ≡ is_some self.old.network }
-        ensures came { FoundSince S.traffic admission.now self.old result room.new self.new }
+        ensures came { FoundSince S.around.traffic admission.now self.old result room.new self.new }
         ensures tally { CountsFound self.old.journal.tally.value result self.new.journal.tally.value }
-        ensures hands { HandsOut S.sends admission.now result room.new self.old self.new }
+        ensures hands { HandsOut S.around.sends admission.now result room.new self.old self.new }
     {
         for _ in 0..MOST_AT_ONCE {
             let (packet, len) = self.take_due(room)?;
@@ -297,10 +297,10 @@ impl<S: Surroundings + Drop> Exchange<S> {
 
     // A datagram that has come goes over the network: whether that loses it.
     fn is_lost(&mut self, source: SocketAddrV4, bytes: &[u8]) -> bool
-        ensures received { received_by self.new.network (S.traffic self.new.around).received
-            ≡ received_by self.old.network (S.traffic self.old.around).received }
-        ensures handed { handed_by self.new.network (S.traffic self.new.around).sent
-            ≡ handed_by self.old.network (S.traffic self.old.around).sent }
+        ensures received { received_by self.new.network (S.around.traffic self.new.around).received
+            ≡ received_by self.old.network (S.around.traffic self.old.around).received }
+        ensures handed { handed_by self.new.network (S.around.traffic self.new.around).sent
+            ≡ handed_by self.old.network (S.around.traffic self.old.around).sent }
         ensures rest { self.new ≡ record self.old { network = self.new.network } }
         ensures spoilt { is_some self.new.network ≡ is_some self.old.network }
         ensures lost { LosesOver source bytes.now self.old.now.clock result self.old.network self.new.network }
@@ -320,10 +320,11 @@ impl<S: Surroundings + Drop> Exchange<S> {
         ensures length { length room.new ≡ length room.old }
         ensures within { IfSome result (λ p. p.1 ≤ length room.new) }
         ensures rest { self.new ≡ record self.old { around = self.new.around; read = self.new.read; faults = self.new.faults } }
-        ensures sent { (S.traffic self.new.around).sent ≡ (S.traffic self.old.around).sent }
-        ensures received { Grows (S.traffic self.old.around).received (found_by result room.new) (S.traffic self.new.around).received }
+        ensures sent { (S.around.traffic self.new.around).sent ≡ (S.around.traffic self.old.around).sent }
+        ensures received { Grows (S.around.traffic self.old.around).received (found_by result room.new)
+            (S.around.traffic self.new.around).received }
         ensures refused { self.new.faults.refused ≡ self.old.faults.refused }
-        ensures counts { LooksOnce S.receives self.old result room.new self.new }
+        ensures counts { LooksOnce S.around.receives self.old result room.new self.new }
     {
         match self.around.receive(room) {
             Ok(Some(found)) => {
@@ -350,14 +351,14 @@ impl<S: Surroundings + Drop> Exchange<S> {
         ensures length { length room.new ≡ length room.old }
         ensures within { IfSome result (λ p. p.1 ≤ length room.new) }
         ensures admitted { IfSome result (λ p. is_heard admission.now p.0 ≡ true) }
-        ensures handed { handed_by self.new.network (S.traffic self.new.around).sent
-            ≡ handed_by self.old.network (S.traffic self.old.around).sent }
+        ensures handed { handed_by self.new.network (S.around.traffic self.new.around).sent
+            ≡ handed_by self.old.network (S.around.traffic self.old.around).sent }
         ensures refused { self.new.faults.refused ≡ self.old.faults.refused }
-        ensures counts { CountsReceived S.receives admission.now self.old result room.new self.new }
+        ensures counts { CountsReceived S.around.receives admission.now self.old result room.new self.new }
         ensures turn { IsSameTurn self.old self.new }
-        ensures came { FoundSince S.traffic admission.now self.old result room.new self.new }
+        ensures came { FoundSince S.around.traffic admission.now self.old result room.new self.new }
         ensures tally { CountsFound self.old.journal.tally.value result self.new.journal.tally.value }
-        ensures looks { LooksOver S.receives S.sends admission.now result room.new self.old self.new }
+        ensures looks { LooksOver S.around admission.now result room.new self.old self.new }
     {
         if let Some(found) = self.handed_over(admission, room) {
             return Some(found);
@@ -385,14 +386,14 @@ impl<S: Surroundings + Drop> Exchange<S> {
         ensures length { length room.new ≡ length room.old }
         ensures within { IfSome result (λ p. p.1 ≤ length room.new) }
         ensures admitted { IfSome result (λ p. is_heard admission.now p.0 ≡ true) }
-        ensures handed { handed_by self.new.network (S.traffic self.new.around).sent
-            ≡ handed_by self.old.network (S.traffic self.old.around).sent }
+        ensures handed { handed_by self.new.network (S.around.traffic self.new.around).sent
+            ≡ handed_by self.old.network (S.around.traffic self.old.around).sent }
         ensures refused { self.new.faults.refused ≡ self.old.faults.refused }
-        ensures counts { CountsReceived S.receives admission.now self.old result room.new self.new }
+        ensures counts { CountsReceived S.around.receives admission.now self.old result room.new self.new }
         ensures turn { IsSameTurn self.old self.new }
-        ensures came { FoundSince S.traffic admission.now self.old result room.new self.new }
+        ensures came { FoundSince S.around.traffic admission.now self.old result room.new self.new }
         ensures tally { CountsFound self.old.journal.tally.value result self.new.journal.tally.value }
-        ensures looks { Looks S.receives S.sends admission.now result room.new self.old self.new }
+        ensures looks { Looks S.around admission.now result room.new self.old self.new }
     {
         if self.network.is_some() {
             return self.receive_spoilt(admission, room);
@@ -406,11 +407,11 @@ impl<S: Surroundings + Drop> Exchange<S> {
 
     // Sends a datagram, over the network where there is one: what becomes of it.
     fn send(&mut self, to: SocketAddrV4, bytes: &[u8]) -> Result<Fate, Fault>
-        ensures handed { Grows (handed_by self.old.network (S.traffic self.old.around).sent) (record { to = to; bytes = bytes.now } ∷ [])
-            (handed_by self.new.network (S.traffic self.new.around).sent) }
-        ensures received { received_by self.new.network (S.traffic self.new.around).received
-            ≡ received_by self.old.network (S.traffic self.old.around).received }
-        ensures became { Becomes S.sends self.old to bytes.now result self.new }
+        ensures handed { Grows (handed_by self.old.network (S.around.traffic self.old.around).sent)
+            (record { to = to; bytes = bytes.now } ∷ []) (handed_by self.new.network (S.around.traffic self.new.around).sent) }
+        ensures received { received_by self.new.network (S.around.traffic self.new.around).received
+            ≡ received_by self.old.network (S.around.traffic self.old.around).received }
+        ensures became { Becomes S.around.sends self.old to bytes.now result self.new }
         ensures faults { self.new.faults ≡ self.old.faults }
         ensures rest { (self.new.read ≡ self.old.read) × IsSameTurn self.old self.new }
         ensures journal { self.new.journal ≡ self.old.journal }
@@ -429,13 +430,13 @@ impl<S: Surroundings + Drop> Exchange<S> {
 impl<S: Surroundings + Drop> Outlet for Exchange<S> {
     ghost use Rattle.live_gateway.specs.Exchanging.{handed_by, came_by, IsTold, HandsOver};
 
-    ghost handed = { λ e. handed_by e.network (S.traffic e.around).sent };
+    ghost handed = { λ e. handed_by e.network (S.around.traffic e.around).sent };
 
-    ghost came = { λ e. came_by S.traffic e };
+    ghost came = { λ e. came_by S.around.traffic e };
 
     ghost turns = { λ was gateway is. IsTold was gateway is };
 
-    ghost hands = { λ was to bytes messages mark is. HandsOver S.sends was to bytes messages mark is };
+    ghost hands = { λ was to bytes messages mark is. HandsOver S.around.sends was to bytes messages mark is };
 
     fn turned(&mut self, gateway: &Gateway) {
         let taken = Taken {
@@ -448,10 +449,10 @@ impl<S: Surroundings + Drop> Outlet for Exchange<S> {
     }
 
     fn hand(&mut self, to: SocketAddrV4, bytes: &[u8], messages: &[SentMessage]) -> Option<Mark>
-        ensures handed { Grows (handed_by self.old.network (S.traffic self.old.around).sent)
-            (record { to = to; bytes = bytes.now } ∷ []) (handed_by self.new.network (S.traffic self.new.around).sent) }
-        ensures came { came_by S.traffic self.new ≡ came_by S.traffic self.old }
-        ensures hands { HandsOver S.sends self.old to bytes.now messages.now result self.new }
+        ensures handed { Grows (handed_by self.old.network (S.around.traffic self.old.around).sent)
+            (record { to = to; bytes = bytes.now } ∷ []) (handed_by self.new.network (S.around.traffic self.new.around).sent) }
+        ensures came { came_by S.around.traffic self.new ≡ came_by S.around.traffic self.old }
+        ensures hands { HandsOver S.around.sends self.old to bytes.now messages.now result self.new }
     {
         self.journal.sent(self.now, to, bytes, messages);
         match self.send(to, bytes) {

@@ -44,13 +44,13 @@ pub(crate) fn situation<S: Surroundings + Drop, V: Visitors<S>>(
     ensures end { result.end ≡ end }
     ensures ticked { result.ticked ≡ ticked }
     ensures short { (result.moment < first_unread) ⊎ (result.moment ≡ ticked) }
-    ensures due { (deadline : Option ℕ) × ClosesAt V.closes visitors.now deadline
+    ensures due { (deadline : Option ℕ) × ClosesAt V.visits.closes visitors.now deadline
         × (result.due ≡ earlier (earlier due (next_due exchange.old.network)) deadline) }
     ensures read { result.read ≡ exchange.old.read }
-    ensures clock { (clock : Result ℕ Fault) × S.passes exchange.old.around clock × (result.moment ≡ moment_at clock ticked)
+    ensures clock { (clock : Result ℕ Fault) × S.around.passes exchange.old.around clock × (result.moment ≡ moment_at clock ticked)
         × (exchange.new.faults ≡ faults_by clock exchange.old.faults) }
-    ensures ready { (told : Told) × (is_visited : Bool) × S.tells exchange.old.around told
-        × AreReady V.waits visitors.now exchange.old.around result.moment is_visited
+    ensures ready { (told : Told) × (is_visited : Bool) × S.around.tells exchange.old.around told
+        × AreReady V.visits.waits visitors.now exchange.old.around result.moment is_visited
         × (result.ready ≡ ready_at told is_line_left (next_due exchange.old.network) ticked is_visited) }
 {
     let moment = exchange.moment(ticked);
@@ -110,7 +110,7 @@ pub(crate) fn note_datagram<S: Surroundings + Drop>(
 
 // Whether the page is asked for its next act: where it is its turn, or nobody may have typed.
 fn is_page_asked<S: Surroundings + Drop>(around: &S, is_its_turn: bool) -> bool
-    ensures { IsAsked S.tells around.now is_its_turn result }
+    ensures { IsAsked S.around.tells around.now is_its_turn result }
 {
     if is_its_turn {
         return true;
@@ -128,7 +128,7 @@ pub(crate) fn take_from_page<S: Surroundings + Drop>(
     is_of_page: bool,
 ) -> bool
     ensures shown { OnlyShows exchange.old exchange.new }
-    ensures took { (asked : Bool) × IsAsked S.tells exchange.old.around is_its_turn asked
+    ensures took { (asked : Bool) × IsAsked S.around.tells exchange.old.around is_its_turn asked
         × TakesIf (asked && is_empty (left_of lines.old)) exchange.old.journal lines.old is_of_page exchange.new.journal lines.new result }
 {
     if !is_page_asked(&exchange.around, is_its_turn) {

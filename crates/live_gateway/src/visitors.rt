@@ -8,30 +8,23 @@ use surroundings::Surroundings;
 /// Visitors of a page, who come over the same surroundings and are served between the gateway's turns. They can be held to what they said
 /// when they were asked, and to each turn that they had.
 pub trait Visitors<S: Surroundings> {
-    ghost use Rattle.std.specs.Prelude.{ℕ, Bool, Option};
-    ghost use Rattle.page_board.specs.Showing.{BoardState};
+    ghost use Rattle.live_gateway.specs.Visiting.{VisitsBy};
 
-    /// They were asked whether they are ready over these surroundings, at this moment in ms: that gave this.
-    ghost waits: { Self → S → ℕ → Bool → Type 0 };
-
-    /// They were asked when somebody's time is over, in ms: that gave this.
-    ghost closes: { Self → Option ℕ → Type 0 };
-
-    /// They had a turn at this moment, in ms, and were answered by this board, once.
-    ghost serves: { Self → S → BoardState → ℕ → Self → S → BoardState → Type 0 };
+    /// All that they can be held to.
+    ghost visits: { VisitsBy Self S };
 
     /// Whether one has more to do at this moment, in ms, somebody may have come, or somebody's time is over.
     fn is_ready(&self, around: &S, moment: u64) -> bool
-        ensures { waits self.now around.now moment result };
+        ensures { visits.waits self.now around.now moment result };
 
     /// The moment at which somebody's time is over, in ms, if there is one.
     fn next_deadline(&self) -> Option<u64>
-        ensures { closes self.now result };
+        ensures { visits.closes self.now result };
 
     /// A turn: those whose time is over go, somebody is let in, and one who has more to do is answered by the board.
     fn turn(&mut self, around: &mut S, board: &mut Board, moment: u64)
-        ensures traffic { S.traffic around.new ≡ S.traffic around.old }
-        ensures served { serves self.old around.old board.old moment self.new around.new board.new };
+        ensures traffic { S.around.traffic around.new ≡ S.around.traffic around.old }
+        ensures served { visits.serves self.old around.old board.old moment self.new around.new board.new };
 }
 
 /// Whether one of them has more to do at this moment, in ms, or comes, where there are visitors.
@@ -40,7 +33,7 @@ pub(crate) fn are_ready<S: Surroundings, V: Visitors<S>>(
     around: &S,
     moment: u64,
 ) -> bool
-    ensures { AreReady V.waits visitors.now around.now moment result }
+    ensures { AreReady V.visits.waits visitors.now around.now moment result }
 {
     match visitors {
         Some(visitors) => visitors.is_ready(around, moment),
@@ -52,7 +45,7 @@ pub(crate) fn are_ready<S: Surroundings, V: Visitors<S>>(
 pub(crate) fn next_deadline<S: Surroundings, V: Visitors<S>>(
     visitors: &Option<Box<V>>,
 ) -> Option<u64>
-    ensures { ClosesAt V.closes visitors.now result }
+    ensures { ClosesAt V.visits.closes visitors.now result }
 {
     match visitors {
         Some(visitors) => visitors.next_deadline(),

@@ -1,5 +1,5 @@
 -- What is left of what was recorded once it is kept for its outlets, and what is told of it.
-use Rattle.std.specs.Prelude.{◌≡◌, ℕ, [], Option, Some, None}
+use Rattle.std.specs.Prelude.{◌≡◌, ⊤, ℕ, Bool, [], Option, Some, None}
 use Rattle.std.specs.Global.{Box}
 use Rattle.live_outlets.specs.declared.outlet.Outlet.{Outlet}
 use Rattle.live_outlets.specs.declared.outlets.Outlets.{Outlets}
@@ -9,6 +9,7 @@ use Rattle.live_outlets.specs.Backlog.{sum_within}
 use Rattle.live_outlets.specs.Recording.{faults_of}
 use Rattle.told_messages.specs.declared.log.Log.{Log}
 use Rattle.live_journal.specs.declared.capture.Capture.{Capture}
+use Rattle.live_journal.specs.declared.journal.Journal.{Journal}
 
 -- what a record had is kept, so that it isn't kept once more, and it is told on as before
 abbrev pub IsKept : Record → Record → Type 0
@@ -38,3 +39,14 @@ IsWritten outlets written =
     × (written.output ≡ faults_of outlets.output.value.state)
     × (written.error ≡ faults_of outlets.error.value.state)
     × (written.capture ≡ capture_faults outlets.capture)
+
+-- what can be asked of who writes what a journal and a trace T have
+pub record WriterBy (W T : Type 0) : Type 1 where
+  -- it was told once to write that, at a moment: that left this of them
+  pub writes : W → Journal → T → ℕ → W → Journal → T → Type 0
+  -- it was asked whether something waits to be taken: that gave this
+  pub offers : W → Bool → Type 0
+
+-- of whom nothing is asked
+abbrev pub any_writer : {W T : Type 0} → WriterBy W T
+any_writer = record { writes = λ was journal trace time is left told. ⊤; offers = λ recorder waits. ⊤ }

@@ -16,25 +16,21 @@ use surroundings::Teller;
 
 /// Where what was recorded is written. What it makes of that is its own; that it was told to write it is said.
 pub trait Recorder<T: Teller> {
-    ghost use Rattle.std.specs.Prelude.{⊤, ℕ, Bool};
-    ghost use Rattle.live_journal.specs.declared.journal.Journal.{Journal};
+    ghost use Rattle.live_journal.specs.Writing.{WriterBy, any_writer};
 
-    /// It was told once to write what a journal and a trace have, at a moment: that left this of them.
-    ghost writes: { Self → Journal → T → ℕ → Self → Journal → T → Type 0 } = { λ was journal trace time is left told. ⊤ };
-
-    /// It was asked whether something waits to be taken: that gave this.
-    ghost offers: { Self → Bool → Type 0 } = { λ recorder waits. ⊤ };
+    /// All that it can be held to.
+    ghost writer: { WriterBy Self T } = { any_writer };
 
     /// Keeps what was recorded at a turn, at this moment, in microseconds since 1970, and writes of what is kept as much as is taken. What
     /// was counted stays, and what the page is shown.
     fn write(&mut self, journal: &mut Journal, trace: &mut T, time: u64)
         ensures told { Grows (T.told trace.old) [] (T.told trace.new) }
         ensures kept { (journal.new.tally ≡ journal.old.tally) × (journal.new.board ≡ journal.old.board) }
-        ensures wrote { writes self.old journal.old trace.old time self.new journal.new trace.new };
+        ensures wrote { writer.writes self.old journal.old trace.old time self.new journal.new trace.new };
 
     /// Whether something waits to be taken: so it is offered again soon, whether anything comes or not.
     fn is_offering(&self) -> bool
-        ensures { offers self.now result };
+        ensures { writer.offers self.now result };
 }
 
 // What the log says is kept for standard error, or that memory was refused for it.

@@ -1,6 +1,6 @@
 -- What the worked examples of lines, looks and ends at a desk, and of whom a gateway knows, want shown.
-use Rattle.std.proofs.Common.{◌≡◌, ◌⊎◌, inl, inr, ℕ, Bool, true, false, List, [], ◌∷◌, Option, None, Some, ◌∙◌, refl, sym, ap, subst, true≢false}
-use Rattle.std.specs.Prelude.{⊤, IsTrue, IsSomeAnd, Result, Ok, Err, codes, is_some}
+use Rattle.std.proofs.Common.{◌≡◌, ◌⊎◌, inl, inr, ℕ, true, false, List, [], ◌∷◌, Option, None, Some, ◌∙◌, sym, ap, subst, true≢false}
+use Rattle.std.specs.Prelude.{IsTrue, IsSomeAnd, Result, Ok, codes, is_some}
 use Rattle.std.specs.List.{fold}
 use Rattle.std.specs.Net.Addr.{IsLoopbackV4, IsLoopbackV6, MatchIp}
 use Rattle.std.specs.Net.Socket.{socket_ip}
@@ -15,9 +15,7 @@ use Rattle.gateway_core.specs.GatewayState.{GatewayState}
 use Rattle.gateway_core.specs.Stands.{Stands}
 use Rattle.plain_machine.specs.Event.{GatewayEvent}
 use Rattle.plain_machine.specs.declared.setup.Setup.{Setup}
-use Rattle.surroundings.specs.Hearing.{AnswersTo}
-use Rattle.surroundings.specs.Sending.{untold}
-use Rattle.surroundings.specs.Speaking.{Admitted, nobody, with_host}
+use Rattle.surroundings.specs.Speaking.{nobody, with_host}
 use Rattle.surroundings.specs.Typing.{left_of}
 use Rattle.surroundings.specs.declared.lines.Lines.{Lines}
 use Rattle.surroundings.specs.declared.surroundings.Fault.{Fault}
@@ -34,8 +32,9 @@ use Rattle.live_gateway.specs.Admitting.{hosts_of, known_to, with_hosts, with_na
 use Rattle.live_gateway.specs.Answering.{AsksToWatch, DoesLine, IsPut, IsRequest, IsTypist}
 use Rattle.live_gateway.specs.Ending.{is_stop, AsksForEnd}
 use Rattle.live_gateway.specs.Exchanging.{found_at, heard_in, read_at, CountsReceived, LooksHere, LooksOnce}
-use Rattle.live_gateway.specs.Naming.{known_word, no_word, with_all, with_each, Word}
+use Rattle.live_gateway.specs.Naming.{known_word, no_word, with_all, with_each}
 use Rattle.live_gateway.specs.Noting.{with_looked}
+use Rattle.live_laws.specs.TurnExample.{anywhere}
 use Rattle.live_laws.specs.Example.{host, at_port}
 use Rattle.live_laws.proofs.Computing.{on_examples}
 
@@ -73,8 +72,7 @@ not_empty piece more [] none some = absurd cc
 not_empty piece more (first ∷ rest) none some = absurd cc
 
 pub no_line_left : (was is : Desk ℕ ℕ) → left_of was.lines ≡ []
-    → DoesLine (λ (told : ℕ). None) (λ (around : ℕ). untold) (λ (before : ℕ) (to : SocketAddrV4) (bytes : List ℕ) (sent : Result ⊤ Fault) (after : ℕ). ⊤)
-    (λ (before : ℕ) (to : SocketAddr) (text : List ℕ) (after : ℕ). ⊤) was is → is ≡ was
+    → DoesLine (λ (told : ℕ). None) anywhere was is → is ≡ was
 no_line_left was is none (inl nothing) = nothing.1
 no_line_left was is none (inr line) = absurd (not_empty line.2.0 _ (left_of was.lines) none line.2.1)
 

@@ -10,7 +10,7 @@ use Rattle.live_gateway.specs.declared.spoilt_way.SpoiltWay.{SpoiltWay}
 use Rattle.live_gateway.specs.Offering.{TakesDue, next_fate}
 use Rattle.live_gateway.specs.Passing.{HandsNext, HandsLast, HandsOut, LooksOver, LooksBy, Looks}
 use Rattle.live_laws.specs.Example.{at_port}
-use Rattle.live_laws.specs.WayExample.{sends_any, looks_never, OffersOne, copy_behind, LooksSeeing, arrival, arrivals}
+use Rattle.live_laws.specs.WayExample.{sends_any, none_looks, OffersOne, copy_behind, LooksSeeing, arrival, arrivals}
 use Rattle.bad_network.specs.declared.fate.Fate.{Fate}
 use Rattle.bad_network.specs.declared.fate.Fate.TheVariants.{Lost as NeverComes, Once}
 use Rattle.bad_network.specs.declared.network.BadNetwork.{BadNetwork}
@@ -61,16 +61,16 @@ still_kept count admission was is (inl none) = ap (λ (e : Exchange ℕ). e.jour
 still_kept count admission was is (inr many) = ap (λ (e : Exchange ℕ). e.journal) many.1
 
 -- nobody looked at the socket: so the network handed it out
-pub handed_alone : (admission : Admission) (was is : Exchange ℕ) → LooksOver looks_never sends_any admission (Some (at_port 9 2727, 5)) [] was is
+pub handed_alone : (admission : Admission) (was is : Exchange ℕ) → LooksOver none_looks admission (Some (at_port 9 2727, 5)) [] was is
     → HandsOut sends_any admission (Some (at_port 9 2727, 5)) [] was is
 handed_alone admission was is (inl hands) = hands.1
 handed_alone admission was is (inr looks) = absurd looks.looked.looked
 
 -- where there is no network somebody looks at the socket
 pub looked_there : (admission : Admission) (given : Option (SocketAddrV4 × ℕ)) (was is : Exchange ℕ) → was.network ≡ None
-    → Looks looks_never sends_any admission given [] was is → ⊥
+    → Looks none_looks admission given [] was is → ⊥
 looked_there admission given was is none looks =
-    (subst (λ (b : Bool). LooksBy looks_never sends_any b admission given [] was is) (ap (λ (o : Option (Box SpoiltWay)). is_some o) none) looks).looked.looked
+    (subst (λ (b : Bool). LooksBy none_looks b admission given [] was is) (ap (λ (o : Option (Box SpoiltWay)). is_some o) none) looks).looked.looked
 
 -- ---- what is offered
 

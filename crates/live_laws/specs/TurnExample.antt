@@ -4,13 +4,13 @@ use Rattle.std.specs.declared.net.socket_addr.SocketAddrV4.{SocketAddrV4}
 use Rattle.bad_network.specs.declared.fate.Fate.{Fate}
 use Rattle.bad_network.specs.declared.fate.Fate.TheVariants.{Lost, Once}
 use Rattle.live_ends.specs.declared.ending.CommonEnding.{CommonEnding}
-use Rattle.live_journal.specs.declared.journal.Journal.{Journal}
+use Rattle.live_journal.specs.Writing.{WriterBy, any_writer}
 use Rattle.live_journal.specs.declared.trace.Trace.{Trace}
 use Rattle.plain_machine.specs.declared.label.SentMessage.{SentMessage}
 use Rattle.plain_machine.specs.Event.{GatewayEvent}
 use Rattle.plain_machine.specs.Machine.{Machine}
 use Rattle.plain_machine.specs.Refusing.{refusal_of, takes_none}
-use Rattle.surroundings.specs.Sending.{untold}
+use Rattle.surroundings.specs.Around.{Around, unasked}
 use Rattle.surroundings.specs.Speaking.{anybody}
 use Rattle.traces.specs.declared.telling.Mark.{Mark}
 use Rattle.traces.specs.Writing.{Input}
@@ -30,6 +30,7 @@ use Rattle.live_gateway.specs.Ending.{EndsWith}
 use Rattle.live_gateway.specs.Exchanging.{Becomes, HandsOver}
 use Rattle.live_gateway.specs.Leaving.{Leaves}
 use Rattle.live_gateway.specs.Noting.{with_looked}
+use Rattle.live_gateway.specs.Visiting.{VisitsBy}
 use Rattle.live_gateway.specs.Turning.{Tries, TriesFound, LooksForOne, DoesNext, TurnsAndWrites}
 
 -- a datagram of 5 bytes from 10.0.0.9:2727
@@ -48,27 +49,30 @@ tells_long before longest outcome after = after ≡ longest
 abbrev pub comes_to : Result ⊤ Fault → ℕ → ℕ → Result ⊤ Fault → ℕ → Type 0
 comes_to this before longest outcome after = outcome ≡ this
 
+-- surroundings and visitors of which nothing is asked: of each a number
+abbrev pub anywhere : Around ℕ
+anywhere = unasked
+
+abbrev pub anybody_visits : VisitsBy ℕ ℕ
+anybody_visits = record { waits = λ visitors around moment ready. ⊤; closes = λ visitors deadline. ⊤; serves = λ v s b at w t c. ⊤ }
+
 -- such a turn left a desk so, over surroundings that become how long they wait
 abbrev pub LeavesLong : ℕ → Turn → Option (Box ℕ) → Option (Box ℕ) → Desk ℕ ℕ → Desk ℕ ℕ → Type 0
 LeavesLong now turn visitors left was is =
-    Leaves {V = ℕ} (λ around. untold) (λ around time. ⊤) (λ around told. ⊤) tells_long (λ v s b at w t c. ⊤) now turn visitors left was is
+    Leaves (record anywhere { sleeps = tells_long }) anybody_visits.serves now turn visitors left was is
 
 -- such a turn was had by a desk over surroundings that tell 7 for the time of day, and nothing else
 abbrev pub DoesNextAnywhere : Desk ℕ ℕ → Option (Box ℕ) → Desk ℕ ℕ → Option (Box ℕ) → Type 0
 DoesNextAnywhere was visitors is left =
-    DoesNext {S = ℕ} {T = ℕ} {V = ℕ} (λ told. None) (λ around. untold) (λ around. []) (λ around clock. ⊤) (λ around time. time ≡ 7)
-    (λ around told. ⊤) (λ before longest outcome after. ⊤) (λ before outcome room after. ⊤) (λ before to bytes sent after. ⊤)
-    (λ before found room after. ⊤) (λ before sender text after. ⊤) (λ visitors around moment ready. ⊤) (λ visitors deadline. ⊤)
-    (λ v s b at w t c. ⊤) was visitors is left
+    DoesNext {T = ℕ} (λ told. None) (record anywhere { dates = λ around time. time ≡ 7 }) anybody_visits was visitors is left
 
 -- a desk looked for a datagram, where nobody looks for one
 abbrev pub LooksNowhere : Desk ℕ ℕ → Desk ℕ ℕ → Type 0
-LooksNowhere was is =
-    LooksForOne (λ told. None) (λ around. untold) (λ before outcome room after. ⊥) (λ before to bytes sent after. ⊤) was is
+LooksNowhere was is = LooksForOne (λ told. None) (record anywhere { receives = λ before outcome room after. ⊥ }) was is
 
 -- nothing was found by an exchange that looked so
 abbrev pub FindsNothing : Exchange ℕ → Desk ℕ ℕ → Desk ℕ ℕ → Type 0
-FindsNothing looked was is = TriesFound (λ told. None) (λ around. untold) (λ before to bytes sent after. ⊤) looked None [] was is
+FindsNothing looked was is = TriesFound (λ told. None) anywhere looked None [] was is
 
 -- an event can be taken, and wants no memory
 abbrev pub CanFreely : Machine → GatewayEvent → Type 0
@@ -82,26 +86,21 @@ abbrev pub TriesOffHook : List ℕ → Standing → Exchange ℕ → Standing �
 TriesOffHook answer was from is to =
     TriesAct (λ before at bytes sent after. ⊤) anybody (codes "off-hook 1") 1 OffHook answer was from is to
 
--- who writes what was recorded was told to, whatever that left; or nobody was
-abbrev pub writes_any : ℕ → Journal → ℕ → ℕ → ℕ → Journal → ℕ → Type 0
-writes_any was journal trace time is left told = ⊤
-
-abbrev pub writes_never : ℕ → Journal → ℕ → ℕ → ℕ → Journal → ℕ → Type 0
-writes_never was journal trace time is left told = ⊥
+-- nobody writes what was recorded
+abbrev pub writes_never : WriterBy ℕ ℕ
+writes_never = record any_writer { writes = λ was journal trace time is left told. ⊥ }
 
 -- a turn was had, and written at the time 7 by who says that something waits; none was had; or nobody wrote
 abbrev pub WritesAtSeven : Desk ℕ ℕ × ℕ × ℕ → Desk ℕ ℕ × ℕ × ℕ → Type 0
 WritesAtSeven was is =
-    TurnsAndWrites {S = ℕ} {T = ℕ} {V = ℕ} {W = ℕ} (λ before seen after left. ⊤) (λ by journal trace time to kept told. time ≡ 7)
-    (λ by offering. offering ≡ true) was is
+    TurnsAndWrites {S = ℕ} {T = ℕ} {V = ℕ} {W = ℕ} (λ before seen after left. ⊤)
+    (record { writes = λ by journal trace time to kept told. time ≡ 7; offers = λ by offering. offering ≡ true }) was is
 
 abbrev pub HasNoTurn : Desk ℕ ℕ × ℕ × ℕ → Desk ℕ ℕ × ℕ × ℕ → Type 0
-HasNoTurn was is =
-    TurnsAndWrites {S = ℕ} {T = ℕ} {V = ℕ} {W = ℕ} (λ before seen after left. ⊥) writes_any (λ by offering. ⊤) was is
+HasNoTurn was is = TurnsAndWrites {S = ℕ} {T = ℕ} {V = ℕ} {W = ℕ} (λ before seen after left. ⊥) any_writer was is
 
 abbrev pub WritesNothing : Desk ℕ ℕ × ℕ × ℕ → Desk ℕ ℕ × ℕ × ℕ → Type 0
-WritesNothing was is =
-    TurnsAndWrites {S = ℕ} {T = ℕ} {V = ℕ} {W = ℕ} (λ before seen after left. ⊤) writes_never (λ by offering. ⊤) was is
+WritesNothing was is = TurnsAndWrites {S = ℕ} {T = ℕ} {V = ℕ} {W = ℕ} (λ before seen after left. ⊤) writes_never was is
 
 -- a desk ended so, and who writes what was recorded was told these words last, if any
 abbrev pub EndsSaying : List ℕ → Desk ℕ Trace → CommonEnding → Type 0
@@ -135,6 +134,4 @@ HandsWith message was is = HandsOver (λ before to bytes sent after. ⊤) was on
 
 -- an act was asked for at the first line, whoever is sent something or answered
 abbrev pub ActsAnywhere : Desk ℕ ℕ → Desk ℕ ℕ → Type 0
-ActsAnywhere was is =
-    DoesAct (λ told. None) (λ around. untold) (λ before to bytes sent after. ⊤) (λ before to text after. ⊤) (codes "off-hook") 1 OffHook
-    was is
+ActsAnywhere was is = DoesAct (λ told. None) anywhere (codes "off-hook") 1 OffHook was is

@@ -7,6 +7,7 @@ use Rattle.bad_network.specs.declared.packet.Packet.{Packet}
 use Rattle.bad_network.specs.declared.packet.Way.TheVariants.{In}
 use Rattle.bad_network.specs.Waiting.{packet_of}
 use Rattle.gateway_core.specs.GatewayState.{GatewayState}
+use Rattle.surroundings.specs.Around.{Around, unasked}
 use Rattle.surroundings.specs.Sending.{Received, Traffic}
 use Rattle.surroundings.specs.declared.surroundings.Fault.{Fault}
 use Rattle.live_gateway.specs.declared.exchange.Exchange.{Exchange}
@@ -59,3 +60,6 @@ sends_none before to bytes sent after = ⊥
 
 abbrev pub looks_never : ℕ → Result (Option (SocketAddrV4 × ℕ)) Fault → List ℕ → ℕ → Type 0
 looks_never before outcome room after = ⊥
+
+abbrev pub none_looks : Around ℕ
+none_looks = record unasked { receives = looks_never }

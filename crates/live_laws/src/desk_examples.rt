@@ -20,7 +20,6 @@ ghost use Rattle.plain_machine.specs.Event.{GatewayEvent};
 ghost use Rattle.plain_machine.specs.Lists.{plain};
 ghost use Rattle.plain_machine.specs.declared.setup.Setup.{Setup};
 ghost use Rattle.surroundings.specs.Requests.{requests_from};
-ghost use Rattle.surroundings.specs.Sending.{untold};
 ghost use Rattle.surroundings.specs.Speaking.{nobody, with_host};
 ghost use Rattle.surroundings.specs.Typing.{left_of, behind};
 ghost use Rattle.surroundings.specs.declared.lines.Lines.{Lines};
@@ -48,6 +47,7 @@ ghost use Rattle.live_gateway.specs.Turning.{ready_at, IsSituation};
 ghost use Rattle.told_messages.specs.Recording.{Records, unsent_text};
 ghost use Rattle.told_messages.specs.declared.log.Log.{Log};
 ghost use Rattle.live_laws.specs.Example.{host, at_port};
+ghost use Rattle.live_laws.specs.TurnExample.{anywhere, anybody_visits};
 
 /// The first line that is left is read, as who typed it may ask; a page's line is nobody's from this machine. What isn't want of memory is
 /// what the line asks for, and memory is wanted where there may be too little.
@@ -85,29 +85,29 @@ pub fn what_a_line_is_answered_has_examples()
     ensures unknown { (was is : Desk ℕ ℕ) → AnswersRequest (λ before to text after. ⊤) Unknown was is
         → left_of is.lines ≡ requests_from (behind (left_of was.lines)) }
     ensures none_left { (was is : Desk ℕ ℕ) → left_of was.lines ≡ []
-        → DoesLine (λ told. None) (λ around. untold) (λ before to bytes sent after. ⊤) (λ before to text after. ⊤) was is → is ≡ was }
+        → DoesLine (λ told. None) anywhere was is → is ≡ was }
 {}
 
 /// How things stand is as the clock, the sockets and visitors told, as the gateway's clock has come, and as what falls due first. A clock
 /// that fails, or tells a moment of no trace, leaves the moment that ticks have come to.
 pub fn how_things_stand_has_examples()
     ensures asked { (was : Desk ℕ ℕ) (at : Situation)
-        (stand : IsSituation {V = ℕ} (λ around clock. clock ≡ Ok 700) (λ around told. ⊤) (λ v a m r. ⊤) (λ v d. ⊤) None was at)
+        (stand : IsSituation (record anywhere { passes = λ around clock. clock ≡ Ok 700 }) anybody_visits None was at)
         → stand.clock ≡ Ok 700 }
     ensures moment { (was : Desk ℕ ℕ) (at : Situation)
-        (stand : IsSituation {V = ℕ} (λ around clock. ⊤) (λ around told. ⊤) (λ v a m r. ⊤) (λ v d. ⊤) None was at)
+        (stand : IsSituation anywhere anybody_visits None was at)
         → at.moment ≡ moment_at stand.clock at.ticked }
     ensures ticked { (was : Desk ℕ ℕ) (at : Situation) (events : List GatewayEvent)
-        (stand : IsSituation {V = ℕ} (λ around clock. ⊤) (λ around told. ⊤) (λ v a m r. ⊤) (λ v d. ⊤) None was at)
+        (stand : IsSituation anywhere anybody_visits None was at)
         → Stands was.play.gateway.value events → at.ticked ≡ (plain was.play.gateway.value.setup events).now }
     ensures due { (was : Desk ℕ ℕ) (at : Situation)
-        (stand : IsSituation {V = ℕ} (λ around clock. ⊤) (λ around told. ⊤) (λ v a m r. ⊤) (λ v d. ⊤) None was at)
+        (stand : IsSituation anywhere anybody_visits None was at)
         → at.due ≡ earlier (earlier stand.own (next_due was.exchange.network)) None }
     ensures ends { (was : Desk ℕ ℕ) (at : Situation)
-        (stand : IsSituation {V = ℕ} (λ around clock. ⊤) (λ around told. ⊤) (λ v a m r. ⊤) (λ v d. ⊤) None was at)
+        (stand : IsSituation anywhere anybody_visits None was at)
         → (at.end ≡ was.end) × (at.read ≡ was.exchange.read) }
     ensures ready { (was : Desk ℕ ℕ) (at : Situation)
-        (stand : IsSituation {V = ℕ} (λ around clock. ⊤) (λ around told. ⊤) (λ v a m r. ⊤) (λ v d. ⊤) None was at)
+        (stand : IsSituation anywhere anybody_visits None was at)
         → at.ready ≡ ready_at stand.told (not (is_empty (left_of was.lines))) (next_due was.exchange.network) at.ticked false }
     ensures unspoilt { next_due None ≡ None }
     ensures spoilt { (way : Box SpoiltWay) → next_due (Some way) ≡ first_due way.value.network.waiting.items }

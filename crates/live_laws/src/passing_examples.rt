@@ -1,7 +1,7 @@
 //! Worked examples of what a look for a datagram gives, over a network before the socket and without one, as theorems.
 #![tactic(auto)]
 
-ghost use Rattle.std.specs.Prelude.{◌≡◌, ◌⊎◌, ⊤, [], ◌∷◌, true, false, nat_lt, ℕ, List, Option, Some, None, take, length};
+ghost use Rattle.std.specs.Prelude.{◌≡◌, ◌⊎◌, [], ◌∷◌, true, false, nat_lt, ℕ, List, Option, Some, None, take, length};
 ghost use Rattle.std.specs.declared.net.socket_addr.SocketAddrV4.{SocketAddrV4};
 ghost use Rattle.bad_network.specs.declared.packet.Packet.{Packet};
 ghost use Rattle.bad_network.specs.declared.packet.Way.TheVariants.{In, Out};
@@ -14,7 +14,7 @@ ghost use Rattle.live_gateway.specs.Admitting.{is_heard};
 ghost use Rattle.live_gateway.specs.Noting.{NotesReceived};
 ghost use Rattle.live_gateway.specs.Passing.{HandsNext, SendsNext, TurnsNextAway, PassesEach, GivesNext, HandsLast, HandsOut, HandsUnlessLost, GoesOver, GoesWhereHeard, TakesFound, LooksBehind, LooksOver, GivesWhereHeard, GivesFound, LooksBy, LooksDirectly, Looks};
 ghost use Rattle.live_laws.specs.Example.{at_port};
-ghost use Rattle.live_laws.specs.WayExample.{sends_any, sends_none, looks_never};
+ghost use Rattle.live_laws.specs.WayExample.{sends_any, sends_none, looks_never, none_looks};
 
 /// Where there is no network none of its packets is handed out. One that goes out is sent; a stranger's is turned away, and counted; one of
 /// who is heard is given on, and counted once. Where none is given on any more nothing else changes.
@@ -70,11 +70,11 @@ pub fn what_a_look_gives_has_examples()
     ensures nothing { (admission : Admission) (given : Option (SocketAddrV4 × ℕ)) (was is : Exchange ℕ)
         → TakesFound sends_any admission None [] given [] was is → (given ≡ None) × (is ≡ was) }
     ensures unlooked { (admission : Admission) (given : Option (SocketAddrV4 × ℕ)) (was is : Exchange ℕ)
-        → LooksBehind looks_never sends_any admission given [] was is → ⊥ }
+        → LooksBehind none_looks admission given [] was is → ⊥ }
     ensures whole { (admission : Admission) (given : Option (SocketAddrV4 × ℕ)) (room : List ℕ) (was is : Exchange ℕ)
-        (looks : LooksBehind looks_never sends_any admission given room was is) → length looks.front ≡ length room }
+        (looks : LooksBehind none_looks admission given room was is) → length looks.front ≡ length room }
     ensures handed { (admission : Admission) (was is : Exchange ℕ)
-        → LooksOver looks_never sends_any admission (Some (at_port 9 2727, 5)) [] was is
+        → LooksOver none_looks admission (Some (at_port 9 2727, 5)) [] was is
         → HandsOut sends_any admission (Some (at_port 9 2727, 5)) [] was is }
     ensures heard { (given : Option (SocketAddrV4 × ℕ)) (was is : Exchange ℕ) → GivesWhereHeard true (at_port 9 2727, 1) given [] was is
         → given ≡ Some (at_port 9 2727, 1) }
@@ -85,11 +85,11 @@ pub fn what_a_look_gives_has_examples()
     ensures never { (admission : Admission) (given : Option (SocketAddrV4 × ℕ)) (was is : Exchange ℕ)
         → LooksDirectly looks_never admission given [] was is → ⊥ }
     ensures direct { (admission : Admission) (given : Option (SocketAddrV4 × ℕ)) (was is : Exchange ℕ) → was.network ≡ None
-        → Looks looks_never sends_any admission given [] was is → ⊥ }
+        → Looks none_looks admission given [] was is → ⊥ }
     ensures by_network { (admission : Admission) (given : Option (SocketAddrV4 × ℕ)) (room : List ℕ) (was is : Exchange ℕ)
-        → LooksBy looks_never sends_any true admission given room was is → LooksOver looks_never sends_any admission given room was is }
+        → LooksBy none_looks true admission given room was is → LooksOver none_looks admission given room was is }
     ensures by_socket { (admission : Admission) (given : Option (SocketAddrV4 × ℕ)) (room : List ℕ) (was is : Exchange ℕ)
-        → LooksBy looks_never sends_any false admission given room was is → ⊥ }
+        → LooksBy none_looks false admission given room was is → ⊥ }
     ensures counted { (was is : Journal) → NotesReceived (record { clock = 5; time = 7000 }) 2 (at_port 9 2727) (1 ∷ []) was is
         → (is.tally.value ≡ with_received was.tally.value) × (is.written ≡ was.written) }
     ensures logged { (was is : Journal) → NotesReceived (record { clock = 5; time = 7000 }) 2 (at_port 9 2727) (1 ∷ []) was is

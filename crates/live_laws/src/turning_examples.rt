@@ -8,13 +8,14 @@ ghost use Rattle.gateway_rules.specs.declared.refusal.Refusal.{Refusal as Why};
 ghost use Rattle.live_ends.specs.declared.ending.CommonEnding.{CommonEnding};
 ghost use Rattle.live_ends.specs.declared.ending.CommonEnding.TheVariants.{OutOfMemory};
 ghost use Rattle.live_journal.specs.declared.trace.Trace.{Trace};
+ghost use Rattle.live_journal.specs.Writing.{any_writer};
 ghost use Rattle.live_gateway.specs.declared.admission.Admission.{Admission};
 ghost use Rattle.live_gateway.specs.declared.desk.Desk.{Desk};
 ghost use Rattle.live_gateway.specs.declared.exchange.Exchange.{Exchange};
 ghost use Rattle.live_gateway.specs.Admitting.{is_heard};
 ghost use Rattle.live_gateway.specs.Answering.{IsActAnswer};
 ghost use Rattle.live_gateway.specs.Ending.{is_record_refused, IsCounted, WritesLast, OnlyEnds};
-ghost use Rattle.live_laws.specs.TurnExample.{one, lost_one, once, failed, CanFreely, TriesNowhere, TriesOffHook, DoesNextAnywhere, LeavesLong, tells_long, comes_to, LooksNowhere, FindsNothing, SendsNowhere, HandsAnywhere, HandsNowhere, HandsWith, EndsSaying, CountsStranger, ActsAnywhere, writes_any, writes_never};
+ghost use Rattle.live_laws.specs.TurnExample.{anywhere, anybody_visits, one, lost_one, once, failed, CanFreely, TriesNowhere, TriesOffHook, DoesNextAnywhere, LeavesLong, tells_long, comes_to, LooksNowhere, FindsNothing, SendsNowhere, HandsAnywhere, HandsNowhere, HandsWith, EndsSaying, CountsStranger, ActsAnywhere, writes_never};
 ghost use Rattle.live_gateway.specs.Exchanging.{heard_in, mark_of, is_lost, faults_by, faultless, with_unreceived, unsent_in, IsTold, OnlySends, OnlyWrites, NotesTaken, NotesRefused, LosesOver, TakesOver};
 ghost use Rattle.live_gateway.specs.Noting.{SaysWhy, SaysUntaken};
 ghost use Rattle.live_gateway.specs.Desk.{Standing, MayRefuse};
@@ -43,7 +44,6 @@ ghost use Rattle.exchange_log.specs.Pausing.{pause_line};
 ghost use Rattle.exchange_log.specs.declared.note.Note.TheVariants as notes;
 ghost use Rattle.live_outlets.specs.declared.record.RecordState.TheVariants.{Off, On};
 ghost use Rattle.live_gateway.specs.Turning.{ready_at, RunsTurns};
-ghost use Rattle.surroundings.specs.Sending.{untold};
 ghost use Rattle.surroundings.specs.declared.surroundings.Fault.{Fault};
 ghost use Rattle.turns.specs.Schedule.{next_of};
 ghost use Rattle.turns.specs.declared.turn.Turn.TheVariants.{Look, Wait};
@@ -67,10 +67,10 @@ pub fn what_stays_has_examples()
     ensures waited { (was is : Desk ℕ ℕ) → OnlyWaits (λ before longest outcome after. ⊤) 700 was is
         → (is.exchange.read ≡ was.exchange.read) × (is.end ≡ was.end) }
     ensures visited { (visitors left : Option (Box ℕ)) (was is : Desk ℕ ℕ)
-        → DoesVisit {V = ℕ} (λ around. untold) (λ around told. ⊤) (λ v s b at w t c. ⊤) 5 visitors left was is
+        → DoesVisit anywhere anybody_visits.serves 5 visitors left was is
         → is.exchange.read ≡ was.exchange.read }
     ensures unasked { (desk : Desk ℕ ℕ) → TakesIf false desk.exchange.journal desk.lines true desk.exchange.journal desk.lines true }
-    ensures unrun { (was is : Desk ℕ ℕ) → RunsTurns {V = ℕ} {W = ℕ} (λ s told. ⊤) (λ a v b w. ⊤) writes_any (λ w o. ⊤) 0 was 3 7 is 3 7
+    ensures unrun { (was is : Desk ℕ ℕ) → RunsTurns {V = ℕ} {W = ℕ} (λ s told. ⊤) (λ a v b w. ⊤) any_writer 0 was 3 7 is 3 7
         → is.end ≡ was.end }
 {}
 
@@ -245,9 +245,9 @@ pub fn what_writing_leaves_has_examples()
     ensures wrote { (was is : Exchange ℕ) → OnlyWrites was is
         → (is.journal.tally ≡ was.journal.tally) × (is.journal.board ≡ was.journal.board) × (is.faults ≡ was.faults) }
     ensures unwritten { (was is : Desk ℕ ℕ)
-        → RunsTurns {V = ℕ} {W = ℕ} (λ s told. ⊤) (λ a v b w. ⊤) writes_never (λ w o. ⊤) 1 was 3 7 is 3 7 → ⊥ }
+        → RunsTurns {V = ℕ} {W = ℕ} (λ s told. ⊤) (λ a v b w. ⊤) writes_never 1 was 3 7 is 3 7 → ⊥ }
     ensures offering { (was is : Desk ℕ ℕ)
-        → RunsTurns {V = ℕ} {W = ℕ} (λ s told. ⊤) (λ a v b w. ⊤) writes_any (λ w o. o ≡ true) 1 was 3 7 is 3 7
+        → RunsTurns {V = ℕ} {W = ℕ} (λ s told. ⊤) (λ a v b w. ⊤) (record any_writer { offers = λ w o. o ≡ true }) 1 was 3 7 is 3 7
         → is.exchange.is_offering ≡ true }
     ensures last { (was is : Desk ℕ Trace) → WritesLast {W = ℕ} (λ b j t n a k u. n ≡ 7) was 0 is 0 → was.exchange.now.time ≡ 7 }
     ensures ended { (was is : Desk ℕ ℕ) → OnlyEnds was is

@@ -19,7 +19,7 @@ ghost use Rattle.piggyback.specs.Parts.{parts_of};
 ghost use Rattle.plain_machine.specs.declared.label.SentMessage.{SentMessage};
 ghost use Rattle.plain_machine.specs.Event.{GatewayEvent};
 ghost use Rattle.plain_machine.specs.Lists.{plain};
-ghost use Rattle.surroundings.specs.Sending.{Sent, untold, found_by};
+ghost use Rattle.surroundings.specs.Sending.{Sent, found_by};
 ghost use Rattle.mg_bytes.specs.Lists.{is_empty};
 ghost use Rattle.surroundings.specs.Typing.{left_of};
 ghost use Rattle.surroundings.specs.declared.lines.Lines.{Lines};
@@ -44,7 +44,7 @@ ghost use Rattle.live_gateway.specs.Leaving.{IsAsked, TakesIf, TakesFromPage, St
 ghost use Rattle.live_gateway.specs.Offering.{next_copies, next_fate, TakesFirst, TakesDue};
 ghost use Rattle.live_gateway.specs.Visiting.{HaveTurn};
 ghost use Rattle.live_laws.specs.Example.{at_port};
-ghost use Rattle.live_laws.specs.TurnExample.{HasNoTurn, WritesAtSeven, WritesNothing};
+ghost use Rattle.live_laws.specs.TurnExample.{anywhere, anybody_visits, HasNoTurn, WritesAtSeven, WritesNothing};
 ghost use Rattle.live_laws.specs.WayExample.{due_at, OffersOne, copy_behind, LooksSeeing, arrival, arrivals, counts_turns, is_told_by, stays_where_told};
 
 /// What becomes of a datagram that is offered is what the network draws next, and its copies wait; where memory is refused those that stand
@@ -154,18 +154,18 @@ pub fn the_page_is_asked_by_turns()
 /// memory, by what the page was shown before. Where the clock fails at the start, turns begin at the moment to which ticks have come.
 pub fn what_a_visitor_sees_is_the_gateway()
     ensures lag { (visitors left : Option (Box ℕ)) (was is : Desk ℕ ℕ) (events : List GatewayEvent)
-        (visit : DoesVisit {V = ℕ} (λ around. untold) (λ around told. ⊤) (λ v s b at w t c. ⊤) 5 visitors left was is)
+        (visit : DoesVisit anywhere anybody_visits.serves 5 visitors left was is)
         → Stands was.play.gateway.value events → (plain was.play.gateway.value.setup events).now ≡ 3 → visit.lag ≡ 2 }
     ensures nobody { (visitors left : Option (Box ℕ)) (was is : Desk ℕ ℕ)
-        (visit : DoesVisit {V = ℕ} (λ around. untold) (λ around told. ⊤) (λ v s b at w t c. ⊤) 5 visitors left was is)
+        (visit : DoesVisit anywhere anybody_visits.serves 5 visitors left was is)
         → was.exchange.journal.board ≡ None → visit.shown.board ≡ None }
     ensures shown { (visitors left : Option (Box ℕ)) (was is : Desk ℕ ℕ) (board shown : Box BoardState)
-        (visit : DoesVisit {V = ℕ} (λ around. untold) (λ around told. ⊤) (λ v s b at w t c. ⊤) 5 visitors left was is)
+        (visit : DoesVisit anywhere anybody_visits.serves 5 visitors left was is)
         → was.exchange.journal.board ≡ Some board → visit.shown.board ≡ Some shown → (visit.shown ≡ was.exchange.journal)
         ⊎ IsOf was.play.gateway.value was.exchange.journal was.exchange.faults visit.lag shown.value.picture }
     ensures begun { (fault : Fault) (was is : Desk ℕ ℕ) (events : List GatewayEvent) → Starts (λ around clock. clock ≡ Err fault) was is
         → Stands was.play.gateway.value events → (plain was.play.gateway.value.setup events).now ≡ 7 → is.schedule ≡ opening 7 }
-    ensures nothing { (was is : Desk ℕ ℕ) → DoesVisit {V = ℕ} (λ around. untold) (λ around told. ⊤) (λ v s b at w t c. ⊥) 5 None None was is
+    ensures nothing { (was is : Desk ℕ ℕ) → DoesVisit {V = ℕ} anywhere (λ v s b at w t c. ⊥) 5 None None was is
         → is.exchange.around ≡ was.exchange.around }
 {}
 

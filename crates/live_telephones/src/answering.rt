@@ -70,11 +70,11 @@ pub fn answer_put<S: Surroundings>(
     around: &mut S,
     answer: Result<Vec<u8>, OutOfMemory>,
 )
-    ensures answered { IfOk answer (λ text. AnswersTo S.answers lines.old.sender around.old text.items around.new) }
-    ensures refused { IfErr answer (λ _. AnswersTo S.answers lines.old.sender around.old (codes "! 1 OutOfMemory\n") around.new) }
+    ensures answered { IfOk answer (λ text. AnswersTo S.around.answers lines.old.sender around.old text.items around.new) }
+    ensures refused { IfErr answer (λ _. AnswersTo S.around.answers lines.old.sender around.old (codes "! 1 OutOfMemory\n") around.new) }
     ensures left { left_of lines.new ≡ requests_from (behind (left_of lines.old)) }
     ensures sender { lines.new.sender ≡ lines.old.sender }
-    ensures traffic { S.traffic around.new ≡ S.traffic around.old }
+    ensures traffic { S.around.traffic around.new ≡ S.around.traffic around.old }
 {
     match answer {
         Ok(answer) => lines.answer(around, answer.as_slice()),

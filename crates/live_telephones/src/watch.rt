@@ -62,8 +62,8 @@ fn seen_lines(alloc: Global, gateway: &Gateway) -> Result<Vec<SeenLine>, OutOfMe
 
 // Who has a place is told this, if its time isn't over.
 fn tell_one<S: Surroundings>(around: &mut S, held: Option<Watcher>, now: u64, text: &[u8])
-    ensures told { AnswersTo S.answers (sender_at now held) around.old text.now around.new }
-    ensures traffic { S.traffic around.new ≡ S.traffic around.old }
+    ensures told { AnswersTo S.around.answers (sender_at now held) around.old text.now around.new }
+    ensures traffic { S.around.traffic around.new ≡ S.around.traffic around.old }
 {
     if let Some(address) = told_at(now, held) {
         around.answer(SocketAddr::V4(address), text);
@@ -72,8 +72,8 @@ fn tell_one<S: Surroundings>(around: &mut S, held: Option<Watcher>, now: u64, te
 
 // Each who watches is told this.
 fn tell_all<S: Surroundings>(around: &mut S, places: &[Option<Watcher>], now: u64, text: &[u8])
-    ensures told { TellsEach S.answers now places.now around.old text.now around.new }
-    ensures traffic { S.traffic around.new ≡ S.traffic around.old }
+    ensures told { TellsEach S.around.answers now places.now around.old text.now around.new }
+    ensures traffic { S.around.traffic around.new ≡ S.around.traffic around.old }
 {
     for held in places {
         tell_one(around, *held, now, text);
@@ -215,12 +215,12 @@ impl Watch {
     ) -> Result<(), OutOfMemory>
         requires low { 1 ≤ line }
         requires high { line ≤ gateway.now.setup.names.lines }
-        ensures told { (events : List GatewayEvent) → Stands gateway.now events → IfOk result (λ _. TellsLine S.answers
+        ensures told { (events : List GatewayEvent) → Stands gateway.now events → IfOk result (λ _. TellsLine S.around.answers
             gateway.now.setup (plain gateway.now.setup events) line around.old self.old around.new self.new) }
         ensures refused { IfErr result (λ _. around.new ≡ around.old) }
         ensures left { (events : List GatewayEvent) → Stands gateway.now events → IfErr result (λ _. RefusesLine
             gateway.now.setup (plain gateway.now.setup events) line self.old self.new) }
-        ensures traffic { S.traffic around.new ≡ S.traffic around.old }
+        ensures traffic { S.around.traffic around.new ≡ S.around.traffic around.old }
         ensures watchers { self.new.watchers ≡ self.old.watchers }
     {
         let is = seen_line(alloc, gateway, line)?;
@@ -245,12 +245,12 @@ impl Watch {
         requires low { 1 ≤ line }
         requires high { line ≤ gateway.now.setup.names.lines }
         ensures told { (events : List GatewayEvent) → Stands gateway.now events → IfOk result (λ _.
-            TellsIf (is_marked gateway.now.changed line) S.answers gateway.now.setup (plain gateway.now.setup events) line
+            TellsIf (is_marked gateway.now.changed line) S.around.answers gateway.now.setup (plain gateway.now.setup events) line
             around.old self.old around.new self.new) }
         ensures refused { IfErr result (λ _. (is_marked gateway.now.changed line ≡ true) × (around.new ≡ around.old)) }
         ensures left { (events : List GatewayEvent) → Stands gateway.now events → IfErr result (λ _. RefusesLine
             gateway.now.setup (plain gateway.now.setup events) line self.old self.new) }
-        ensures traffic { S.traffic around.new ≡ S.traffic around.old }
+        ensures traffic { S.around.traffic around.new ≡ S.around.traffic around.old }
         ensures watchers { self.new.watchers ≡ self.old.watchers }
     {
         if !gateway.is_changed(line) {
@@ -266,12 +266,12 @@ impl Watch {
         around: &mut S,
         gateway: &Gateway,
     ) -> Result<(), OutOfMemory>
-        ensures told { (events : List GatewayEvent) → Stands gateway.now events → IfOk result (λ _. TellsLines S.answers
+        ensures told { (events : List GatewayEvent) → Stands gateway.now events → IfOk result (λ _. TellsLines S.around.answers
             gateway.now.changed gateway.now.setup (plain gateway.now.setup events) gateway.now.setup.names.lines
             around.old self.old around.new self.new) }
-        ensures refused { (events : List GatewayEvent) → Stands gateway.now events → IfErr result (λ _. TellsSome S.answers
+        ensures refused { (events : List GatewayEvent) → Stands gateway.now events → IfErr result (λ _. TellsSome S.around.answers
             gateway.now.changed gateway.now.setup (plain gateway.now.setup events) around.old self.old around.new self.new) }
-        ensures traffic { S.traffic around.new ≡ S.traffic around.old }
+        ensures traffic { S.around.traffic around.new ≡ S.around.traffic around.old }
         ensures watchers { self.new.watchers ≡ self.old.watchers }
     {
         for before in 0..gateway.lines() {
@@ -289,9 +289,9 @@ impl Watch {
         gateway: &Gateway,
         is_taken: bool,
     )
-        ensures traffic { S.traffic around.new ≡ S.traffic around.old }
-        ensures watchers { WatchesStill S.answers self.old.watchers.places around.new self.new.watchers.places }
-        ensures watch { (events : List GatewayEvent) → Stands gateway.now events → WatchesOn is_taken S.answers gateway.now.changed
+        ensures traffic { S.around.traffic around.new ≡ S.around.traffic around.old }
+        ensures watchers { WatchesStill S.around.answers self.old.watchers.places around.new self.new.watchers.places }
+        ensures watch { (events : List GatewayEvent) → Stands gateway.now events → WatchesOn is_taken S.around.answers gateway.now.changed
             gateway.now.setup (plain gateway.now.setup events) around.old self.old around.new self.new }
     {
         if !is_taken {

@@ -22,13 +22,13 @@ impl<'a, R: Net + Clock + RandomSource, P: Reception> Visitors<Live<'a, R>> for 
     ghost use Rattle.live_ends.specs.Looking.{has_visits};
     ghost use Rattle.live_gateway.specs.Visiting.{has_come};
 
-    ghost waits = { λ page around moment ready. ready
-        ≡ (P.busy page.site || has_visits around.ready.value.listener around.ready.value.visits || has_come (P.closes page.site) moment) };
-
-    ghost closes = { λ page deadline. deadline ≡ P.closes page.site };
-
-    ghost serves = { λ was before board moment is after shown.
-        P.serves was.site before.ready.value board moment is.site after.ready.value shown };
+    ghost visits = { record {
+      waits = λ page around moment ready. ready ≡ (P.busy page.site
+          || has_visits around.ready.value.listener around.ready.value.visits || has_come (P.closes page.site) moment);
+      closes = λ page deadline. deadline ≡ P.closes page.site;
+      serves = λ was before board moment is after shown.
+          P.serves was.site before.ready.value board moment is.site after.ready.value shown;
+    } };
 
     fn is_ready(&self, around: &Live<'a, R>, moment: u64) -> bool {
         self.site.is_busy()

@@ -65,11 +65,12 @@ impl<R: Files + Clock> Recorder<Trace> for Recording<R> {
     ghost use Rattle.mg_bytes.specs.Lists.{is_empty};
     ghost use Rattle.live_journal.specs.Writing.{KeepsLog, IsWritten};
 
-    ghost writes = { λ was journal trace time is left told. KeepsLog journal.log.value left.log.value
-        × (told.record.out.items ≡ []) × IsWritten is.outlets left.written };
-
-    ghost offers = { λ recording waits. waits ≡ not (is_empty recording.outlets.output.value.backlog.waiting
-        && is_empty recording.outlets.error.value.backlog.waiting) };
+    ghost writer = { record {
+      writes = λ was journal trace time is left told. KeepsLog journal.log.value left.log.value
+          × (told.record.out.items ≡ []) × IsWritten is.outlets left.written;
+      offers = λ recording waits. waits ≡ not (is_empty recording.outlets.output.value.backlog.waiting
+          && is_empty recording.outlets.error.value.backlog.waiting);
+    } };
 
     fn write(&mut self, journal: &mut Journal, trace: &mut Trace, time: u64) {
         if let Some(files) = &mut self.files {

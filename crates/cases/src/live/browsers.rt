@@ -112,12 +112,12 @@ impl Visitors<Machine<'_>> for Browsers {
     ghost use Rattle.live_page.specs.Visiting.{AnswersBy};
     ghost use Rattle.cases.specs.Browsing.{next_of};
 
-    ghost waits = { λ browsers around moment ready. ready ≡ has_come (next_of browsers.visits.items) moment };
-
-    ghost closes = { λ browsers deadline. deadline ≡ next_of browsers.visits.items };
-
-    ghost serves = { λ was before board moment is after shown. AnswersBy was.site (names_of was.names) board shown
-        × (is.visits.items ≡ drop 1 was.visits.items) × (after ≡ before) };
+    ghost visits = { record {
+      waits = λ browsers around moment ready. ready ≡ has_come (next_of browsers.visits.items) moment;
+      closes = λ browsers deadline. deadline ≡ next_of browsers.visits.items;
+      serves = λ was before board moment is after shown. AnswersBy was.site (names_of was.names) board shown
+          × (is.visits.items ≡ drop 1 was.visits.items) × (after ≡ before);
+    } };
 
     fn is_ready(&self, _around: &Machine<'_>, moment: u64) -> bool {
         match self.next() {

@@ -281,28 +281,14 @@ impl<'c> Machine<'c> {
 }
 
 impl Surroundings for Machine<'_> {
-    ghost use Rattle.std.specs.Prelude.{⊤};
+    ghost use Rattle.surroundings.specs.Around.{unasked};
     ghost use Rattle.surroundings.specs.Keeping.{told_by, Answers};
 
-    ghost traffic = { λ machine. told_by machine.sockets };
-
-    ghost sockets = { λ machine. machine.sockets.own };
-
-    ghost passes = { λ machine given. ⊤ };
-
-    ghost dates = { λ machine time. ⊤ };
-
-    ghost tells = { λ machine given. ⊤ };
-
-    ghost sleeps = { λ was longest outcome is. ⊤ };
-
-    ghost receives = { λ was given room is. ⊤ };
-
-    ghost sends = { λ was to bytes outcome is. ⊤ };
-
-    ghost hears = { λ was given room is. ⊤ };
-
-    ghost answers = { λ was to text is. Answers was.sockets to text is.sockets };
+    ghost around = { record unasked {
+      traffic = λ machine. told_by machine.sockets;
+      sockets = λ machine. machine.sockets.own;
+      answers = λ was to text is. Answers was.sockets to text is.sockets;
+    } };
 
     fn moment(&self) -> Result<u64, Fault> {
         match self.clock.passed() {

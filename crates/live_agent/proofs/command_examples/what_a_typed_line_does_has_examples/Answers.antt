@@ -3,13 +3,14 @@ use Rattle.std.specs.Prelude.{codes}
 use Rattle.std.specs.declared.net.socket_addr.SocketAddr.{SocketAddr}
 use Rattle.call_agent.specs.declared.issuing.Issued.{Issued}
 use Rattle.mg_bytes.specs.Lines.{cut, line_of}
+use Rattle.surroundings.specs.Around.{Around}
 use Rattle.surroundings.specs.Hearing.{AnswersTo}
 use Rattle.surroundings.specs.Typing.{left_of}
 use Rattle.switchboard.specs.Typed.{typed_text}
 use Rattle.switchboard.specs.declared.switchboard.Switchboard.{Switchboard}
 use Rattle.switchboard.specs.declared.typed.TypedFault.{TypedFault}
 use Rattle.switchboard.specs.declared.typed.TypedFault.TheVariants.{OutOfMemory, Unknown}
-use Rattle.live_agent.specs.AnyAround.{sends_any}
+use Rattle.live_agent.specs.AnyAround.{anywhere}
 use Rattle.live_agent.specs.TypedCommands.{fault_text, AnswersAll, AnswersCommand, AnswersIssued, DoesCommand, IsTypedNext}
 use Rattle.live_agent.specs.declared.wire.Wire.{Wire}
 use Rattle.live_agent.proofs.command_examples.what_a_typed_line_does_has_examples.Goals as goal
@@ -26,27 +27,27 @@ pub returns-clause-before : goal.returns-clause-before
 returns-clause-before c = λ board was is answered. inl (refl, answered)
 
 -- a text that is no command is answered as none, or memory is refused
-by_answer : {answers : ℕ → SocketAddr → List ℕ → ℕ → Type 0} (C : Type 0) (board now : Switchboard) (was is : Wire ℕ)
-    → (now ≡ board → (fault : TypedFault) → (fault ≡ OutOfMemory) ⊎ (fault ≡ Unknown) → AnswersAll answers (fault_text fault) was is → C)
-    → AnswersCommand sends_any answers [] board now was is → C
+by_answer : (around : Around ℕ) (C : Type 0) (board now : Switchboard) (was is : Wire ℕ)
+    → (now ≡ board → (fault : TypedFault) → (fault ≡ OutOfMemory) ⊎ (fault ≡ Unknown) → AnswersAll around.answers (fault_text fault) was is → C)
+    → AnswersCommand around [] board now was is → C
 unfolding cut
-by_answer C board now was is told (inl none) = told none.0 OutOfMemory (inl refl) none.1
-by_answer {answers} C board now was is told (inr some) =
+by_answer around C board now was is told (inl none) = told none.0 OutOfMemory (inl refl) none.1
+by_answer around C board now was is told (inr some) =
     told some.1.1 Unknown (inr refl)
-    (subst (λ (result : Result Issued TypedFault). AnswersIssued sends_any answers result was is) some.1.0 some.2)
+    (subst (λ (result : Result Issued TypedFault). AnswersIssued around result was is) some.1.0 some.2)
 
 -- where no line is left
-by_nothing : {answers : ℕ → SocketAddr → List ℕ → ℕ → Type 0} (C : Type 0) (board now : Switchboard) (was is : Wire ℕ)
-    → (now ≡ board → (fault : TypedFault) → (fault ≡ OutOfMemory) ⊎ (fault ≡ Unknown) → AnswersAll answers (fault_text fault) was is → C)
-    → left_of was.lines ≡ [] → DoesCommand sends_any answers board now was is → C
-by_nothing C board now was is told left (inl none) = told none.0 OutOfMemory (inl refl) none.1
-by_nothing {answers} C board now was is told left (inr some) =
-    by_answer C board now was is told
-    (subst (λ (text : List ℕ). AnswersCommand sends_any answers text board now was is)
+by_nothing : (around : Around ℕ) (C : Type 0) (board now : Switchboard) (was is : Wire ℕ)
+    → (now ≡ board → (fault : TypedFault) → (fault ≡ OutOfMemory) ⊎ (fault ≡ Unknown) → AnswersAll around.answers (fault_text fault) was is → C)
+    → left_of was.lines ≡ [] → DoesCommand around board now was is → C
+by_nothing around C board now was is told left (inl none) = told none.0 OutOfMemory (inl refl) none.1
+by_nothing around C board now was is told left (inr some) =
+    by_answer around C board now was is told
+    (subst (λ (text : List ℕ). AnswersCommand around text board now was is)
     (subst (λ (pieces : List (List ℕ)). IsTypedNext pieces some.0) left some.1) some.2)
 
 pub returns-clause-nothing : goal.returns-clause-nothing
-returns-clause-nothing c = λ board now was is. by_nothing _ board now was is (λ stays fault which answered.
+returns-clause-nothing c = λ board now was is. by_nothing anywhere _ board now was is (λ stays fault which answered.
     (stays, ap (λ (wire : Wire ℕ). wire.journal) answered.rest))
 
 told_so : (text : List ℕ) (fault : TypedFault) → (fault ≡ OutOfMemory) ⊎ (fault ≡ Unknown) → text ≡ fault_text fault
@@ -55,7 +56,7 @@ told_so text fault (inl memory) is = inl (subst (λ (one : TypedFault). text ≡
 told_so text fault (inr unknown) is = inr (subst (λ (one : TypedFault). text ≡ fault_text one) unknown is)
 
 pub returns-clause-told : goal.returns-clause-told
-returns-clause-told c = λ sender text board now was is from. by_nothing _ board now was is (λ stays fault which answered.
+returns-clause-told c = λ sender text board now was is from. by_nothing (record anywhere { answers = λ (before : ℕ) (to : SocketAddr) (said : List ℕ) (after : ℕ). text ≡ said }) _ board now was is (λ stays fault which answered.
     told_so text fault which
     (subst (λ (one : Option SocketAddr).
     AnswersTo (λ (before : ℕ) (to : SocketAddr) (said : List ℕ) (after : ℕ). text ≡ said) one was.around (fault_text fault) is.around)

@@ -6,26 +6,27 @@ use Rattle.bad_network.specs.declared.network.BadNetwork.{BadNetwork}
 use Rattle.surroundings.specs.declared.surroundings.Fault.{Fault}
 use Rattle.switchboard.specs.Issuing.{IssuesSettled}
 use Rattle.live_agent.specs.declared.wire.Wire.{Wire}
+use Rattle.live_agent.specs.AnyAround.{anywhere}
 use Rattle.live_agent.specs.Handing.{Leaves}
 use Rattle.live_agent.specs.Sending.{GoesOut}
 use Rattle.live_agent.proofs.desk_examples.what_is_sent_has_examples.Goals as goal
 
 pub returns-clause-nobody_else : goal.returns-clause-nobody_else
 returns-clause-nobody_else c = λ to other was is none one.
-    let leaves : Leaves (λ (before : ℕ) (peer : SocketAddrV4) (bytes : List ℕ) (outcome : Result ⊤ Fault) (after : ℕ). peer ≡ other) to [] one.noted is
+    let leaves : Leaves (record anywhere { sends = λ (before : ℕ) (peer : SocketAddrV4) (bytes : List ℕ) (outcome : Result ⊤ Fault) (after : ℕ). peer ≡ other }) to [] one.noted is
     = subst
-    (λ (network : Option BadNetwork). GoesOut (λ (before : ℕ) (peer : SocketAddrV4) (bytes : List ℕ) (outcome : Result ⊤ Fault) (after : ℕ). peer ≡ other)
+    (λ (network : Option BadNetwork). GoesOut (record anywhere { sends = λ (before : ℕ) (peer : SocketAddrV4) (bytes : List ℕ) (outcome : Result ⊤ Fault) (after : ℕ). peer ≡ other })
     to [] network one.noted is) none one.goes in
-    leaves.handed
+    leaves.handed.0
 
 pub returns-clause-as_it_is : goal.returns-clause-as_it_is
 returns-clause-as_it_is c = λ to was is none one.
-    let leaves : Leaves (λ (before : ℕ) (peer : SocketAddrV4) (bytes : List ℕ) (outcome : Result ⊤ Fault) (after : ℕ). bytes ≡ codes "a") to (codes "b")
+    let leaves : Leaves (record anywhere { sends = λ (before : ℕ) (peer : SocketAddrV4) (bytes : List ℕ) (outcome : Result ⊤ Fault) (after : ℕ). bytes ≡ codes "a" }) to (codes "b")
     one.noted is
     = subst
-    (λ (network : Option BadNetwork). GoesOut (λ (before : ℕ) (peer : SocketAddrV4) (bytes : List ℕ) (outcome : Result ⊤ Fault) (after : ℕ). bytes ≡ codes "a")
+    (λ (network : Option BadNetwork). GoesOut (record anywhere { sends = λ (before : ℕ) (peer : SocketAddrV4) (bytes : List ℕ) (outcome : Result ⊤ Fault) (after : ℕ). bytes ≡ codes "a" })
     to (codes "b") network one.noted is) none one.goes in
-    leaves.handed
+    leaves.handed.0
 
 pub returns-clause-to_the_network : goal.returns-clause-to_the_network
 returns-clause-to_the_network c = λ to network was is goes. ap (λ (wire : Wire ℕ). wire.around) goes.2

@@ -1,7 +1,6 @@
 use Rattle.std.proofs.Common.{ℕ, Bool, Option, length, refl, ap, subst, ◌∙◌}
 use Rattle.agent_texts.specs.declared.journal.Journal.{Journal}
 use Rattle.turns.specs.Clock.{earlier}
-use Rattle.live_agent.specs.Handing.{HandsTo}
 use Rattle.live_agent.specs.Ticking.{GivesUpEach, TicksEach, WakesEach}
 use Rattle.live_agent.proofs.ServingLemmas.{waited_until}
 use Rattle.live_agent.proofs.TickingLemmas.{did_tick}
@@ -13,7 +12,7 @@ returns-in-Command g c = rw (c.in-Command.is) c.take_line.ensures
 pub returns-in-Tick : goal.returns-in-Tick
 returns-in-Tick g c =
     rw (c.in-Tick.is)
-    (did_tick (HandsTo g.S.Surroundings.sends g.S.Surroundings.traffic) c.args.moment c.in-Tick.to c.args.board.now c.settle.new.board
+    (did_tick g.S.Surroundings.around c.args.moment c.in-Tick.to c.args.board.now c.settle.new.board
     c.args.wire.now c.settle.new.wire (record {
       ticked = c.tick_each.new.board;
       said = c.tick_each.new.wire;
@@ -21,15 +20,15 @@ returns-in-Tick g c =
       told = c.give_up_each.new.wire;
       woken = c.wake_each.new.board;
       ticks = subst
-          (λ (gateways : ℕ). TicksEach (HandsTo g.S.Surroundings.sends g.S.Surroundings.traffic) c.in-Tick.to gateways c.args.board.now (record c.args.wire.now { now = record c.args.wire.now.now { clock = c.in-Tick.to } })
+          (λ (gateways : ℕ). TicksEach g.S.Surroundings.around c.in-Tick.to gateways c.args.board.now (record c.args.wire.now { now = record c.args.wire.now.now { clock = c.in-Tick.to } })
           c.tick_each.new.board c.tick_each.new.wire)
           c.gateways-ticking.ensures c.tick_each.ensures;
       gives_up = subst
-          (λ (is_behind : Bool). GivesUpEach (HandsTo g.S.Surroundings.sends g.S.Surroundings.traffic) (length c.tick_each.new.board.gateways.items) c.tick_each.new.board
+          (λ (is_behind : Bool). GivesUpEach g.S.Surroundings.around (length c.tick_each.new.board.gateways.items) c.tick_each.new.board
           (record c.tick_each.new.wire { is_behind = is_behind }) c.give_up_each.new.board c.give_up_each.new.wire)
           c.is_behind-wire.ensures
           (subst
-          (λ (gateways : ℕ). GivesUpEach (HandsTo g.S.Surroundings.sends g.S.Surroundings.traffic) gateways c.tick_each.new.board (record c.tick_each.new.wire { is_behind = c.is_behind-wire.result })
+          (λ (gateways : ℕ). GivesUpEach g.S.Surroundings.around gateways c.tick_each.new.board (record c.tick_each.new.wire { is_behind = c.is_behind-wire.result })
           c.give_up_each.new.board c.give_up_each.new.wire)
           c.gateways-giving_up.ensures c.give_up_each.ensures);
       wakes = subst (λ (gateways : ℕ). WakesEach gateways c.give_up_each.new.board c.wake_each.new.board) c.gateways-waking.ensures c.wake_each.ensures;
@@ -46,7 +45,7 @@ pub returns-in-Wait : goal.returns-in-Wait
 returns-in-Wait g c =
     rw (c.in-Wait.is) (
       refl,
-      waited_until g.S.Surroundings.traffic g.S.Surroundings.sleeps c.in-Wait.until c.args.moment _ c.earlier-due.result c.args.board.now.gateways.items c.args.wire.now
+      waited_until g.S.Surroundings.around c.in-Wait.until c.args.moment _ c.earlier-due.result c.args.board.now.gateways.items c.args.wire.now
           c.wait-in-Wait.new.self (
             c.next_due.result,
             c.next_due.ensures,

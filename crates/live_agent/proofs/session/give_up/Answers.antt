@@ -1,7 +1,6 @@
 use Rattle.std.proofs.Common.{◌≡◌, true, false, inl, inr, refl, arith, rules}
 use Rattle.std.specs.Box.{with_value}
 use Rattle.live_agent.specs.declared.wire.TheConstants.{MOST_AT_ONCE}
-use Rattle.live_agent.specs.Handing.{HandsTo}
 use Rattle.live_agent.proofs.TickingLemmas.{given_counted, given_more, given_so}
 use Rattle.live_agent.proofs.session.give_up.Goals as goal
 
@@ -12,7 +11,7 @@ pub loop-preserved : goal.loop-preserved
 loop-preserved g c =
     let some : c.give_up.result ≡ true = search rules in
     let told = record c.loop.wire { journal = with_value c.loop.wire.journal c.give_up.new.journal } in
-    given_more (HandsTo g.S.Surroundings.sends g.S.Surroundings.traffic) c.args.place c.loop.counter c.args.board.now c.loop.board c.settle.new.board c.args.wire.now c.loop.wire c.settle.new.wire
+    given_more g.S.Surroundings.around c.args.place c.loop.counter c.args.board.now c.loop.board c.settle.new.board c.args.wire.now c.loop.wire c.settle.new.wire
     c.loop.invariant (record {
       given = c.give_up.new.self;
       told = told;

@@ -1,7 +1,6 @@
 use Rattle.std.proofs.Common.{◌≡◌, ℕ, true, false, Some, None, refl, ap, subst, rules}
 use Rattle.std.specs.Box.{with_value}
 use Rattle.live_agent.specs.Datagrams.{TakesEach}
-use Rattle.live_agent.specs.Handing.{HandsTo}
 use Rattle.live_agent.proofs.DatagramLemmas.{dealt_none, dealt_with, heard_by}
 use Rattle.live_agent.proofs.session.hear.Goals as goal
 
@@ -11,7 +10,7 @@ returns-in_default g c = record {
   counts = rw (c.deref_mut.ensures.value) at c.came.ensures.tally;
   records = rw (c.deref_mut.ensures.value) at c.came.ensures.rest;
   leaves = refl;
-  hears = heard_by (HandsTo g.S.Surroundings.sends g.S.Surroundings.traffic) None _ c.args.source c.args.bytes.now c.args.board.now c.args.board.now _ _ c.in_default.ensures (
+  hears = heard_by g.S.Surroundings.around None _ c.args.source c.args.bytes.now c.args.board.now c.args.board.now _ _ c.in_default.ensures (
     refl,
     refl,
     rw (c.deref_mut-in_default.ensures.value) (
@@ -30,7 +29,7 @@ returns-then-not-send_outputs g c =
       counts = rw (c.deref_mut.ensures.value) at c.came.ensures.tally;
       records = rw (c.deref_mut.ensures.value) at c.came.ensures.rest;
       leaves = refl;
-      hears = heard_by (HandsTo g.S.Surroundings.sends g.S.Surroundings.traffic) (Some c.in-Some.place) _ c.args.source c.args.bytes.now c.args.board.now c.step-outputs.new.self came c.send_outputs.new.wire c.in-Some.ensures (record {
+      hears = heard_by g.S.Surroundings.around (Some c.in-Some.place) _ c.args.source c.args.bytes.now c.args.board.now c.step-outputs.new.self came c.send_outputs.new.wire c.in-Some.ensures (record {
         outputs = c.step-outputs.result;
         went_on = c.send_outputs.result;
         stepped = c.step-outputs.new.self;
@@ -45,7 +44,7 @@ returns-then-not-send_outputs g c =
           rest = c.step-outputs.ensures.rest;
         };
         goes = c.send_outputs.ensures;
-        deals = dealt_none (HandsTo g.S.Surroundings.sends g.S.Surroundings.traffic) c.send_outputs.result c.in-Some.place c.args.bytes.now c.step-outputs.new.self c.send_outputs.new.wire refused;
+        deals = dealt_none g.S.Surroundings.around c.send_outputs.result c.in-Some.place c.args.bytes.now c.step-outputs.new.self c.send_outputs.new.wire refused;
       });
     }
 
@@ -58,7 +57,7 @@ returns g c =
       counts = rw (c.deref_mut.ensures.value) at c.came.ensures.tally;
       records = rw (c.deref_mut.ensures.value) at c.came.ensures.rest;
       leaves = refl;
-      hears = heard_by (HandsTo g.S.Surroundings.sends g.S.Surroundings.traffic) (Some c.in-Some.place) _ c.args.source c.args.bytes.now c.args.board.now c.take_each.new.board came c.take_each.new.wire c.in-Some.ensures (record {
+      hears = heard_by g.S.Surroundings.around (Some c.in-Some.place) _ c.args.source c.args.bytes.now c.args.board.now c.take_each.new.board came c.take_each.new.wire c.in-Some.ensures (record {
         outputs = c.step-outputs.result;
         went_on = c.send_outputs.result;
         stepped = c.step-outputs.new.self;
@@ -73,12 +72,12 @@ returns g c =
           rest = c.step-outputs.ensures.rest;
         };
         goes = c.send_outputs.ensures;
-        deals = dealt_with (HandsTo g.S.Surroundings.sends g.S.Surroundings.traffic) c.send_outputs.result c.in-Some.place c.args.bytes.now c.step-outputs.new.self c.deal_with.new.board c.take_each.new.board
+        deals = dealt_with g.S.Surroundings.around c.send_outputs.result c.in-Some.place c.args.bytes.now c.step-outputs.new.self c.deal_with.new.board c.take_each.new.board
             c.send_outputs.new.wire c.deal_with.new.wire c.take_each.new.wire went c.deal_with.ensures (record {
               begun = c.begin_taking-lines.new.self;
               begins = c.begin_taking-lines.ensures.settles;
               rest = c.begin_taking-lines.ensures.rest;
-              takes = subst (λ (lines : ℕ). TakesEach (HandsTo g.S.Surroundings.sends g.S.Surroundings.traffic) c.in-Some.place lines c.begin_taking-lines.new.self c.deal_with.new.wire c.take_each.new.board c.take_each.new.wire)
+              takes = subst (λ (lines : ℕ). TakesEach g.S.Surroundings.around c.in-Some.place lines c.begin_taking-lines.new.self c.deal_with.new.wire c.take_each.new.board c.take_each.new.wire)
                   c.begin_taking-lines.ensures.count c.take_each.ensures;
             });
       });

@@ -1,10 +1,9 @@
 use Rattle.std.proofs.Common.{◌≡◌, ◌-◌, Bool, true, false, inl, inr, refl, ap, sym, subst, ◌∙◌, arith}
 use Rattle.std.specs.Box.{with_value}
-use Rattle.std.specs.Prelude.{Err, not}
+use Rattle.std.specs.Prelude.{not}
 use Rattle.turns.specs.Runs.{is_end}
 use Rattle.turns.specs.declared.schedule.Schedule.{Schedule}
 use Rattle.turns.specs.declared.turn.Turn.{Turn}
-use Rattle.live_agent.specs.Handing.{HandsTo}
 use Rattle.live_agent.specs.Serving.{TurnsOnce}
 use Rattle.live_agent.specs.Turning.{DoesTurn}
 use Rattle.live_agent.proofs.SendingLemmas.{begun_so}
@@ -20,8 +19,7 @@ loop-preserved g c =
     let begun = record c.loop.wire { now = record c.loop.wire.now { time = c.time-wire.result } } in
     let written = record c.do_turn.new.wire { journal = with_value c.do_turn.new.wire.journal c.write.new.journal } in
     let offered = record written { is_offering = c.is_offering-wire.result } in
-    runs_more (TurnsOnce g.S.Surroundings.traffic g.S.Surroundings.sockets (HandsTo g.S.Surroundings.sends g.S.Surroundings.traffic) g.S.Surroundings.passes g.S.Surroundings.dates g.S.Surroundings.tells g.S.Surroundings.sleeps g.S.Surroundings.receives g.S.Surroundings.hears
-    g.S.Surroundings.answers g.W.Recorder.writes)
+    runs_more (TurnsOnce g.S.Surroundings.around g.W.Recorder.writes)
     c.loop.counter c.args.board.now c.loop.board c.do_turn.new.board c.args.wire.now c.loop.wire offered c.starting_at-schedule.result c.loop.schedule
     c.next-turn.new.self c.loop.invariant (record {
       done = c.do_turn.new.wire;
@@ -43,8 +41,7 @@ loop-preserved g c =
         begins = begun_so c.loop.wire begun _ _ refl c.is_behind-wire.ensures;
         dated = c.time-wire.ensures;
         settles = c.settle.ensures;
-        does = subst (λ (turn : Turn). DoesTurn g.S.Surroundings.traffic g.S.Surroundings.sockets g.S.Surroundings.sleeps (HandsTo g.S.Surroundings.sends g.S.Surroundings.traffic) g.S.Surroundings.receives g.S.Surroundings.hears
-            g.S.Surroundings.answers c.in-Ok-situation.at.moment turn c.settle.new.board
+        does = subst (λ (turn : Turn). DoesTurn g.S.Surroundings.around c.in-Ok-situation.at.moment turn c.settle.new.board
             c.do_turn.new.board c.settle.new.wire c.do_turn.new.wire)
             (ap (λ (next : Turn × Schedule). next.0) c.next-turn.ensures) c.do_turn.ensures;
       };
@@ -54,8 +51,7 @@ loop-preserved g c =
 
 pub returns-in-Err-situation : goal.returns-in-Err-situation
 returns-in-Err-situation g c =
-    serves_so g.S.Surroundings.passes g.S.Surroundings.tells (TurnsOnce g.S.Surroundings.traffic g.S.Surroundings.sockets (HandsTo g.S.Surroundings.sends g.S.Surroundings.traffic) g.S.Surroundings.passes g.S.Surroundings.dates g.S.Surroundings.tells g.S.Surroundings.sleeps g.S.Surroundings.receives g.S.Surroundings.hears
-    g.S.Surroundings.answers g.W.Recorder.writes)
+    serves_so g.S.Surroundings.around (TurnsOnce g.S.Surroundings.around g.W.Recorder.writes)
     c.in-Ok.start _ c.args.board.now _ c.args.wire.now _ c.starting_at-schedule.result c.in-Ok.ensures c.starting_at-schedule.ensures (record {
       count = c.loop.counter;
       behind = c.loop.schedule;
@@ -66,8 +62,7 @@ returns-in-Err-situation g c =
 pub returns-then-is_end : goal.returns-then-is_end
 returns-then-is_end g c =
     let over : false ≡ not (is_end c.next-turn.result) = ap (λ (one : Bool). not one) (sym (sym c.is_end.ensures ∙ c.if-is_end.true)) in
-    serves_so g.S.Surroundings.passes g.S.Surroundings.tells (TurnsOnce g.S.Surroundings.traffic g.S.Surroundings.sockets (HandsTo g.S.Surroundings.sends g.S.Surroundings.traffic) g.S.Surroundings.passes g.S.Surroundings.dates g.S.Surroundings.tells g.S.Surroundings.sleeps g.S.Surroundings.receives g.S.Surroundings.hears
-    g.S.Surroundings.answers g.W.Recorder.writes)
+    serves_so g.S.Surroundings.around (TurnsOnce g.S.Surroundings.around g.W.Recorder.writes)
     c.in-Ok.start _ c.args.board.now _ c.args.wire.now _ c.starting_at-schedule.result c.in-Ok.ensures c.starting_at-schedule.ensures (record {
       count = c.loop.counter;
       behind = c.loop.schedule;
@@ -86,8 +81,7 @@ returns-then-is_end g c =
 
 pub returns : goal.returns
 returns g c =
-    serves_so g.S.Surroundings.passes g.S.Surroundings.tells (TurnsOnce g.S.Surroundings.traffic g.S.Surroundings.sockets (HandsTo g.S.Surroundings.sends g.S.Surroundings.traffic) g.S.Surroundings.passes g.S.Surroundings.dates g.S.Surroundings.tells g.S.Surroundings.sleeps g.S.Surroundings.receives g.S.Surroundings.hears
-    g.S.Surroundings.answers g.W.Recorder.writes)
+    serves_so g.S.Surroundings.around (TurnsOnce g.S.Surroundings.around g.W.Recorder.writes)
     c.in-Ok.start _ c.args.board.now _ c.args.wire.now _ c.starting_at-schedule.result c.in-Ok.ensures c.starting_at-schedule.ensures (record {
       count = c.loop.counter;
       behind = c.loop.schedule;

@@ -1,6 +1,5 @@
 use Rattle.std.proofs.Common.{ℕ, List, Some, None, refl, subst}
 use Rattle.live_agent.specs.Datagrams.{HearsDatagram}
-use Rattle.live_agent.specs.Handing.{HandsTo}
 use Rattle.live_agent.proofs.session.take_over.Goals as goal
 
 pub returns-in-Some : goal.returns-in-Some
@@ -11,7 +10,7 @@ returns-in-Some g c = record {
   hands = c.in-Some.ensures.hands;
   over = c.in-Some.ensures.over;
   hears = subst
-      (λ (bytes : List ℕ). HearsDatagram (HandsTo g.S.Surroundings.sends g.S.Surroundings.traffic) c.in-Some.packet.peer bytes c.args.board.now c.handed_over.new.self c.hear.new.board c.hear.new.wire)
+      (λ (bytes : List ℕ). HearsDatagram g.S.Surroundings.around c.in-Some.packet.peer bytes c.args.board.now c.handed_over.new.self c.hear.new.board c.hear.new.wire)
       c.as_bytes.ensures c.hear.ensures;
 }
 

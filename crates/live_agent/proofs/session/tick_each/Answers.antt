@@ -1,5 +1,4 @@
 use Rattle.std.proofs.Common.{refl}
-use Rattle.live_agent.specs.Handing.{HandsTo}
 use Rattle.live_agent.proofs.TickingLemmas.{ticked_more}
 use Rattle.live_agent.proofs.session.tick_each.Goals as goal
 
@@ -8,7 +7,7 @@ loop-place-init g c = (refl, refl)
 
 pub loop-place-preserved : goal.loop-place-preserved
 loop-place-preserved g c =
-    ticked_more (HandsTo g.S.Surroundings.sends g.S.Surroundings.traffic) c.args.to c.loop-place.place c.args.board.now c.loop-place.board c.tick-outputs.new.self c.args.wire.now c.loop-place.wire
+    ticked_more g.S.Surroundings.around c.args.to c.loop-place.place c.args.board.now c.loop-place.board c.tick-outputs.new.self c.args.wire.now c.loop-place.wire
     c.send_outputs.new.wire c.loop-place.invariant (record {
       outputs = c.tick-outputs.result;
       went_on = c.send_outputs.result;

@@ -1,6 +1,5 @@
 use Rattle.std.proofs.Common.{◌≡◌, ◌++◌, ◌∷◌, [], Some, None, inl, inr, refl, ◌∙◌, sym, arith}
 use Rattle.live_agent.specs.declared.wire.TheConstants.{MOST_AT_ONCE}
-use Rattle.live_agent.specs.Handing.{HandsTo}
 use Rattle.live_agent.proofs.HandingLemmas.{first_none, first_of, goes_in, goes_out, one_longer, sent_on}
 use Rattle.live_agent.proofs.SendingLemmas.{over_leaving, over_none, over_taken, sent_more}
 use Rattle.live_agent.proofs.wire.Wire.handed_over.Goals as goal
@@ -21,7 +20,7 @@ loop-preserved g c =
       out = (
         c.loop.invariant.out.0 ++ c.in-Some-take_due.packet ∷ [],
         one_longer c.loop.invariant.out.0 c.in-Some-take_due.packet c.loop.counter c.loop.invariant.out.1,
-        sent_on (HandsTo g.S.Surroundings.sends g.S.Surroundings.traffic) c.loop.invariant.out.0 c.in-Some-take_due.packet c.args.self.now c.loop.self c.transmit.new.self c.loop.invariant.out.2 (record {
+        sent_on g.S.Surroundings.around c.loop.invariant.out.0 c.in-Some-take_due.packet c.args.self.now c.loop.self c.transmit.new.self c.loop.invariant.out.2 (record {
           handed = taken;
           hands = record {
             first = first_of c.loop.self.now.clock c.loop.self.network (Some c.in-Some-take_due.packet) c.in-Some.network c.take_due.new.self c.in-Some.is

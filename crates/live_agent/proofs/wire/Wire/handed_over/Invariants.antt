@@ -1,6 +1,6 @@
 use Rattle.std.proofs.Common.{◌≡◌, List, length}
 use Rattle.bad_network.specs.declared.packet.Packet.{Packet}
-use Rattle.live_agent.specs.Handing.{HandsTo, SendsEachOn}
+use Rattle.live_agent.specs.Handing.{SendsEachOn}
 use Rattle.live_agent.specs.Sending.{SendsOver}
 use Rattle.live_agent.proofs.wire.Wire.handed_over.Given as goal
 
@@ -8,5 +8,5 @@ use Rattle.live_agent.proofs.wire.Wire.handed_over.Given as goal
 abbrev pub invariant-loop : goal.invariant-loop
 invariant-loop g l = record {
   over : SendsOver l.fn.self l.self;
-  out : (packets : List Packet) × (length packets ≡ l.counter) × SendsEachOn (HandsTo g.S.Surroundings.sends g.S.Surroundings.traffic) packets l.fn.self l.self;
+  out : (packets : List Packet) × (length packets ≡ l.counter) × SendsEachOn g.S.Surroundings.around packets l.fn.self l.self;
 }

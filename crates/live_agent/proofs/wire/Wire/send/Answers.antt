@@ -1,7 +1,6 @@
 use Rattle.std.proofs.Common.{◌≡◌, true, false, refl, rules}
 use Rattle.std.specs.Prelude.{is_some}
 use Rattle.std.specs.Box.{with_value}
-use Rattle.live_agent.specs.Handing.{HandsTo}
 use Rattle.live_agent.proofs.SendingLemmas.{goes_leaving, goes_offered, over_journal, over_leaving, over_network, sent_more}
 use Rattle.live_agent.proofs.TallyingLemmas.{left_so, offered_so}
 use Rattle.live_agent.proofs.wire.Wire.send.Goals as goal
@@ -46,7 +45,7 @@ returns-then-offer-clause-one g c =
       notes = rw (c.deref_mut.ensures.value) at c.sent.ensures.tally;
       records = rw (c.deref_mut.ensures.value) at c.sent.ensures.rest;
       rest = refl;
-      goes = goes_offered (HandsTo g.S.Surroundings.sends g.S.Surroundings.traffic) c.args.to c.args.bytes.now c.args.self.now.network noted c.offer.new.self some c.offer.ensures.offers c.offer.ensures.notes c.offer.ensures.rest;
+      goes = goes_offered g.S.Surroundings.around c.args.to c.args.bytes.now c.args.self.now.network noted c.offer.new.self some c.offer.ensures.offers c.offer.ensures.notes c.offer.ensures.rest;
     }
 
 pub returns-clause-one : goal.returns-clause-one
@@ -65,6 +64,6 @@ returns-clause-one g c =
       notes = rw (c.deref_mut.ensures.value) at c.sent.ensures.tally;
       records = rw (c.deref_mut.ensures.value) at c.sent.ensures.rest;
       rest = refl;
-      goes = goes_leaving (HandsTo g.S.Surroundings.sends g.S.Surroundings.traffic) c.args.to c.args.bytes.now c.args.self.now.network noted c.offer.new.self c.transmit.new.self none
+      goes = goes_leaving g.S.Surroundings.around c.args.to c.args.bytes.now c.args.self.now.network noted c.offer.new.self c.transmit.new.self none
           (c.offer.ensures.none c.if-offer.false) c.transmit.ensures.leaves;
     }

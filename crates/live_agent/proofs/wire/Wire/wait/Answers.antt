@@ -7,7 +7,7 @@ use Rattle.live_agent.proofs.wire.Wire.wait.Goals as goal
 pub returns-then-is_err-clause-waited : goal.returns-then-is_err-clause-waited
 returns-then-is_err-clause-waited g c = (
   c.wait.result,
-  subst (λ (n : ℕ). g.S.Surroundings.sleeps c.args.self.now.around n c.wait.result c.wait.new.self) c.longest_wait-longest.ensures c.wait.ensures.waited,
+  subst (λ (n : ℕ). g.S.Surroundings.around.sleeps c.args.self.now.around n c.wait.result c.wait.new.self) c.longest_wait-longest.ensures c.wait.ensures.waited,
   ap (λ (n : ℕ). record c.deref_mut.result.now.tally { receive_faults = n }) c.count.ensures
       ∙ ap (λ (journal : Journal). with_receive_fault journal.tally) c.deref_mut.ensures.value
       ∙ fault_counts c.wait.result c.args.self.now.journal.value.tally (sym c.is_err.ensures.value ∙ c.if-is_err.true),
@@ -16,6 +16,6 @@ returns-then-is_err-clause-waited g c = (
 pub returns-else-is_err-clause-waited : goal.returns-else-is_err-clause-waited
 returns-else-is_err-clause-waited g c = (
   c.wait.result,
-  subst (λ (n : ℕ). g.S.Surroundings.sleeps c.args.self.now.around n c.wait.result c.wait.new.self) c.longest_wait-longest.ensures c.wait.ensures.waited,
+  subst (λ (n : ℕ). g.S.Surroundings.around.sleeps c.args.self.now.around n c.wait.result c.wait.new.self) c.longest_wait-longest.ensures c.wait.ensures.waited,
   nothing_counts c.wait.result c.args.self.now.journal.value.tally (sym c.is_err.ensures.value ∙ c.if-is_err.false),
 )

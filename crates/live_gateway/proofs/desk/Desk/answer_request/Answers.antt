@@ -13,7 +13,7 @@ returns-in-ShowAll-clause-answered g c =
     let setup = c.args.self.now.play.gateway.value.setup in
     let put = put_so (λ v. v.items) c.all_shown-answer.result c.args.self.now.play.gateway.value
     (λ (events : List GatewayEvent). lines_shown setup events setup.names.lines)
-    (λ (text : List ℕ). AnswersTo g.S.Surroundings.answers c.args.self.now.lines.sender c.args.self.now.exchange.around text c.answer_put.new.around)
+    (λ (text : List ℕ). AnswersTo g.S.Surroundings.around.answers c.args.self.now.lines.sender c.args.self.now.exchange.around text c.answer_put.new.around)
     (rw (c.deref.ensures) at c.all_shown-answer.ensures) c.answer_put.ensures.answered c.answer_put.ensures.refused in
     rw (c.in-ShowAll.is) (
       put.0,
@@ -32,7 +32,7 @@ pub returns-in-Watch-clause-answered : goal.returns-in-Watch-clause-answered
 returns-in-Watch-clause-answered g c =
     let put = watch_so (λ v. v.items) c.ask-answer.result (v4_of c.args.self.now.lines.sender) c.args.self.now.play.gateway.value c.in-Watch.seconds
     c.args.self.now.watch c.ask-answer.new.self
-    (λ (text : List ℕ). AnswersTo g.S.Surroundings.answers c.args.self.now.lines.sender c.args.self.now.exchange.around text c.answer_put-in-Watch.new.around)
+    (λ (text : List ℕ). AnswersTo g.S.Surroundings.around.answers c.args.self.now.lines.sender c.args.self.now.exchange.around text c.answer_put-in-Watch.new.around)
     (rw (c.sender-sender.ensures) at c.ask-answer.ensures.nobody)
     (rw (c.deref-in-Watch.ensures, c.sender-sender.ensures) at c.ask-answer.ensures.answered)
     (rw (c.deref-in-Watch.ensures, c.sender-sender.ensures) at c.ask-answer.ensures.seen)
@@ -54,7 +54,7 @@ returns-in-Counts-clause-answered g c =
     let setup = c.args.self.now.play.gateway.value.setup in
     let put = put_so (λ v. v.items) c.counts-answer.result c.args.self.now.play.gateway.value
     (λ (events : List GatewayEvent). counts_text exchange.journal exchange.faults setup (plain setup events))
-    (λ (text : List ℕ). AnswersTo g.S.Surroundings.answers c.args.self.now.lines.sender c.args.self.now.exchange.around text c.answer_put-in-Counts.new.around)
+    (λ (text : List ℕ). AnswersTo g.S.Surroundings.around.answers c.args.self.now.lines.sender c.args.self.now.exchange.around text c.answer_put-in-Counts.new.around)
     c.counts-answer.ensures c.answer_put-in-Counts.ensures.answered c.answer_put-in-Counts.ensures.refused in
     rw (c.in-Counts.is) (
       put.0,

@@ -11,7 +11,7 @@ use Rattle.live_gateway.proofs.desk.Desk.datagram.Goals as goal
 
 pub returns-in_default-clause-play : goal.returns-in_default-clause-play
 returns-in_default-clause-play g c =
-    hears_nobody g.T.Teller.told g.S.Surroundings.traffic _ _ c.in_default.ensures.came (rw (c.receive.ensures.handed) refl) c.receive.ensures.refused refl
+    hears_nobody g.T.Teller.told g.S.Surroundings.around.traffic _ _ c.in_default.ensures.came (rw (c.receive.ensures.handed) refl) c.receive.ensures.refused refl
 
 pub returns-in_default-clause-looked : goal.returns-in_default-clause-looked
 returns-in_default-clause-looked g c = record {
@@ -28,7 +28,7 @@ returns-in_default-clause-looked g c = record {
 pub returns-clause-play : goal.returns-clause-play
 returns-clause-play g c =
     let told = g.T.Teller.told in
-    let traffic = g.S.Surroundings.traffic in
+    let traffic = g.S.Surroundings.around.traffic in
     let same = c.datagram-done.ensures.came in
     hears told traffic _ _ (standing_of told traffic c.datagram-done.new.self c.datagram-done.new.out) c.datagram-done.result c.in-Some.source _
     c.read_address.ensures c.read_bytes.ensures (heard_still c.args.self.now.admission _ _ _ _ c.in-Some.ensures.came (ap (λ (x : Came). x.received) same))
@@ -42,7 +42,7 @@ returns-clause-play g c =
 pub returns-clause-looked : goal.returns-clause-looked
 returns-clause-looked g c =
     let told = g.T.Teller.told in
-    let traffic = g.S.Surroundings.traffic in
+    let traffic = g.S.Surroundings.around.traffic in
     let same = c.datagram-done.ensures.came in
     let says = rw (c.is_ok-is_taken.ensures.value, c.outcomes.ensures.kept, c.deref.ensures) at c.note_datagram.ensures in
     let notes = rw (c.is_ok-is_taken.ensures.value, c.sent.ensures.kept, c.deref-2.ensures) at c.note_taken.ensures in
@@ -59,7 +59,7 @@ returns-clause-looked g c =
       tried = (
         c.in-Some.ensures.admitted,
         ap (λ (s : Standing). s.came.received) noted ∙ ap (λ (x : Came). x.received) same,
-        tries g.S.Surroundings.sends (admitted_by c.args.self.now.admission.speakers) _ _ c.datagram-done.result (at_desk told traffic c.args.self.now)
+        tries g.S.Surroundings.around.sends (admitted_by c.args.self.now.admission.speakers) _ _ c.datagram-done.result (at_desk told traffic c.args.self.now)
             (standing_of told traffic c.datagram-done.new.self c.datagram-done.new.out) _
             c.receive.new.self c.datagram-done.new.out c.note_taken.new.exchange
             (rw (c.receive.ensures.handed) at c.datagram-done.ensures.outlet)

@@ -17,7 +17,7 @@ use Rattle.live_gateway.proofs.desk.Desk.do_turn.Goals as goal
 pub returns-in-Tick-clause-play : goal.returns-in-Tick-clause-play
 returns-in-Tick-clause-play g c =
     let told = g.T.Teller.told in
-    let traffic = g.S.Surroundings.traffic in
+    let traffic = g.S.Surroundings.around.traffic in
     let to = c.in-Tick.moment in
     let may = c.requires to c.in-Tick.is in
     let here = begun_live told traffic c.args.self.now.play c.args.self.now.exchange c.begin.new.self c.begin.ensures.network c.begin.ensures.around in
@@ -34,8 +34,8 @@ returns-in-Tick-clause-play g c =
 pub returns-in-Tick-clause-does : goal.returns-in-Tick-clause-does
 returns-in-Tick-clause-does g c =
     let told = g.T.Teller.told in
-    let traffic = g.S.Surroundings.traffic in
-    let sends = g.S.Surroundings.sends in
+    let traffic = g.S.Surroundings.around.traffic in
+    let sends = g.S.Surroundings.around.sends in
     let to = c.in-Tick.moment in
     let notes = noted_of _ _ _ _ _ _ _ c.is_ok-is_taken.ensures.value
     (c.sent.ensures.kept ∙ ap (λ (gateway : GatewayState). gateway.account.sent) c.deref.ensures) c.note_taken.ensures in
@@ -61,11 +61,11 @@ returns-in-Tick-clause-does g c =
 
 pub returns-in-Command-clause-play : goal.returns-in-Command-clause-play
 returns-in-Command-clause-play g c =
-    between g.T.Teller.told g.S.Surroundings.traffic _ _ _ _
+    between g.T.Teller.told g.S.Surroundings.around.traffic _ _ _ _
     c.take_line-is_taken.ensures.play
-    (heard_same g.T.Teller.told g.S.Surroundings.traffic c.args.self.now c.hear.new.self c.hear.new.lines c.hear.ensures.rest c.hear.ensures.traffic)
+    (heard_same g.T.Teller.told g.S.Surroundings.around.traffic c.args.self.now c.hear.new.self c.hear.new.lines c.hear.ensures.rest c.hear.ensures.traffic)
     refl
-    (page_same g.T.Teller.told g.S.Surroundings.traffic g.S.Surroundings.tells (not c.args.self.now.is_of_page) false c.take_line-is_taken.new.self
+    (page_same g.T.Teller.told g.S.Surroundings.around.traffic g.S.Surroundings.around.tells (not c.args.self.now.is_of_page) false c.take_line-is_taken.new.self
     (record c.take_line-is_taken.new.self {
       exchange = c.take_from_page-self.new.exchange;
       lines = c.take_from_page-self.new.lines;
@@ -107,11 +107,11 @@ returns-in-Datagram-clause-does g c = rw (c.in-Datagram.is) c.datagram.ensures.l
 
 pub returns-in-Visit-clause-play : goal.returns-in-Visit-clause-play
 returns-in-Visit-clause-play g c =
-    let same = visit_same g.T.Teller.told g.S.Surroundings.traffic g.S.Surroundings.tells _ _ _ _ _ _ c.visit.ensures in
-    stays_so g.T.Teller.told g.S.Surroundings.traffic _ _ same.0 same.1
+    let same = visit_same g.T.Teller.told g.S.Surroundings.around _ _ _ _ _ _ c.visit.ensures in
+    stays_so g.T.Teller.told g.S.Surroundings.around.traffic _ _ same.0 same.1
 
 pub returns-in-Visit-clause-does : goal.returns-in-Visit-clause-does
-returns-in-Visit-clause-does g c = rw (c.in-Visit.is) (visit_same g.T.Teller.told g.S.Surroundings.traffic g.S.Surroundings.tells _ _ _ _ _ _ c.visit.ensures).0
+returns-in-Visit-clause-does g c = rw (c.in-Visit.is) (visit_same g.T.Teller.told g.S.Surroundings.around _ _ _ _ _ _ c.visit.ensures).0
 
 -- what stays as it was
 
@@ -126,7 +126,7 @@ pub returns-in-Wait-clause-leaves : goal.returns-in-Wait-clause-leaves
 returns-in-Wait-clause-leaves g c =
     rw (c.in-Wait.is) (
       record {
-        waited = subst (λ (n : ℕ). Waits g.S.Surroundings.sleeps n c.args.self.now.exchange c.wait-in-Wait.new.self)
+        waited = subst (λ (n : ℕ). Waits g.S.Surroundings.around.sleeps n c.args.self.now.exchange c.wait-in-Wait.new.self)
             c.saturating_sub.ensures c.wait-in-Wait.ensures.waited;
         rest = with_exchange c.args.self.now _ _ c.wait-in-Wait.ensures.rest;
       },
@@ -137,12 +137,12 @@ pub returns-in-Tick-clause-leaves : goal.returns-in-Tick-clause-leaves
 returns-in-Tick-clause-leaves g c =
     let same : c.note_taken.new.exchange.now ≡ c.begin.new.self.now =
     noted_now _ _ _ _ _ c.note_taken.ensures
-    ∙ same_now g.S.Surroundings.sends c.tick-done.result _ c.begin.new.self c.tick-done.new.out _ _ _ c.tick-done.ensures.outlet c.tick-done.ensures.untouched in
+    ∙ same_now g.S.Surroundings.around.sends c.tick-done.result _ c.begin.new.self c.tick-done.new.out _ _ _ c.tick-done.ensures.outlet c.tick-done.ensures.untouched in
     rw (c.in-Tick.is) (
       (
         refl,
         ap (λ (n : Now). n.clock) same ∙ c.begin.ensures.clock,
-        subst (λ (n : Now). g.S.Surroundings.dates c.args.self.now.exchange.around n.time) (sym same) c.begin.ensures.time,
+        subst (λ (n : Now). g.S.Surroundings.around.dates c.args.self.now.exchange.around n.time) (sym same) c.begin.ensures.time,
       ),
       refl,
     )
@@ -163,38 +163,38 @@ returns-in-Note-clause-leaves g c = rw (c.in-Note.is) ((refl, rw (c.deref_mut.en
 
 pub returns-in-Look-clause-play : goal.returns-in-Look-clause-play
 returns-in-Look-clause-play g c =
-    stays_so g.T.Teller.told g.S.Surroundings.traffic _ _
-    (waited_same g.T.Teller.told g.S.Surroundings.traffic c.args.self.now c.wait.new.self
+    stays_so g.T.Teller.told g.S.Surroundings.around.traffic _ _
+    (waited_same g.T.Teller.told g.S.Surroundings.around.traffic c.args.self.now c.wait.new.self
     c.wait.ensures.handed c.wait.ensures.received c.wait.ensures.refused)
     refl
 
 pub returns-in-Look-clause-does : goal.returns-in-Look-clause-does
 returns-in-Look-clause-does g c =
     rw (c.in-Look.is)
-    (waited_same g.T.Teller.told g.S.Surroundings.traffic c.args.self.now c.wait.new.self
+    (waited_same g.T.Teller.told g.S.Surroundings.around.traffic c.args.self.now c.wait.new.self
     c.wait.ensures.handed c.wait.ensures.received c.wait.ensures.refused)
 
 pub returns-in-Wait-clause-play : goal.returns-in-Wait-clause-play
 returns-in-Wait-clause-play g c =
-    stays_so g.T.Teller.told g.S.Surroundings.traffic _ _
-    (waited_same g.T.Teller.told g.S.Surroundings.traffic c.args.self.now c.wait-in-Wait.new.self
+    stays_so g.T.Teller.told g.S.Surroundings.around.traffic _ _
+    (waited_same g.T.Teller.told g.S.Surroundings.around.traffic c.args.self.now c.wait-in-Wait.new.self
     c.wait-in-Wait.ensures.handed c.wait-in-Wait.ensures.received c.wait-in-Wait.ensures.refused)
     refl
 
 pub returns-in-Wait-clause-does : goal.returns-in-Wait-clause-does
 returns-in-Wait-clause-does g c =
     rw (c.in-Wait.is)
-    (waited_same g.T.Teller.told g.S.Surroundings.traffic c.args.self.now c.wait-in-Wait.new.self
+    (waited_same g.T.Teller.told g.S.Surroundings.around.traffic c.args.self.now c.wait-in-Wait.new.self
     c.wait-in-Wait.ensures.handed c.wait-in-Wait.ensures.received c.wait-in-Wait.ensures.refused)
 
 pub returns-in-Note-clause-play : goal.returns-in-Note-clause-play
-returns-in-Note-clause-play g c = stays_so g.T.Teller.told g.S.Surroundings.traffic _ _ refl refl
+returns-in-Note-clause-play g c = stays_so g.T.Teller.told g.S.Surroundings.around.traffic _ _ refl refl
 
 pub returns-in-Note-clause-does : goal.returns-in-Note-clause-does
 returns-in-Note-clause-does g c = rw (c.in-Note.is) refl
 
 pub returns-in-End-clause-play : goal.returns-in-End-clause-play
-returns-in-End-clause-play g c = stays_so g.T.Teller.told g.S.Surroundings.traffic _ _ refl refl
+returns-in-End-clause-play g c = stays_so g.T.Teller.told g.S.Surroundings.around.traffic _ _ refl refl
 
 pub returns-in-End-clause-does : goal.returns-in-End-clause-does
 returns-in-End-clause-does g c = rw (c.in-End.is) refl
@@ -238,8 +238,8 @@ returns-in-Datagram-clause-changes g c = c.datagram.ensures.changes
 
 pub returns-in-Visit-clause-changes : goal.returns-in-Visit-clause-changes
 returns-in-Visit-clause-changes g c =
-    changes_still g.T.Teller.told g.S.Surroundings.traffic c.args.self.now c.visit.new.self []
-    (visit_same g.T.Teller.told g.S.Surroundings.traffic g.S.Surroundings.tells _ _ _ _ _ _ c.visit.ensures).0
+    changes_still g.T.Teller.told g.S.Surroundings.around.traffic c.args.self.now c.visit.new.self []
+    (visit_same g.T.Teller.told g.S.Surroundings.around _ _ _ _ _ _ c.visit.ensures).0
 
 -- where none is taken
 

@@ -13,8 +13,8 @@ use Rattle.live_gateway.proofs.desk.Desk.take_line.Goals as goal
 
 pub returns-in-Show-clause-play : goal.returns-in-Show-clause-play
 returns-in-Show-clause-play g c =
-    let handed = handed_by c.args.self.now.exchange.network (g.S.Surroundings.traffic c.args.self.now.exchange.around).sent in
-    asks g.T.Teller.told g.S.Surroundings.traffic _ _ c.ask-asked.result c.in-Some.text.now c.in-Show.line c.ask-asked.new.self.printed.items
+    let handed = handed_by c.args.self.now.exchange.network (g.S.Surroundings.around.traffic c.args.self.now.exchange.around).sent in
+    asks g.T.Teller.told g.S.Surroundings.around.traffic _ _ c.ask-asked.result c.in-Some.text.now c.in-Show.line c.ask-asked.new.self.printed.items
     (taken_free _ c.in-Some.text.now _ c.in-Some.ensures)
     (rw (c.answer-in-Show.ensures.traffic) (c.ask-asked.ensures.answered handed))
     (rw (c.answer-in-Show.ensures.traffic)
@@ -50,9 +50,9 @@ returns-in-Show-clause-line g c =
         },
         asks_of _ _ c.ask-asked.result c.ask-asked.new.self.printed.items _ _ _
             (rw (c.answer-in-Show.ensures.traffic)
-            (c.ask-asked.ensures.answered (handed_by c.args.self.now.exchange.network (g.S.Surroundings.traffic c.args.self.now.exchange.around).sent)))
+            (c.ask-asked.ensures.answered (handed_by c.args.self.now.exchange.network (g.S.Surroundings.around.traffic c.args.self.now.exchange.around).sent)))
             (rw (c.answer-in-Show.ensures.traffic)
-            (c.ask-asked.ensures.ran (handed_by c.args.self.now.exchange.network (g.S.Surroundings.traffic c.args.self.now.exchange.around).sent)))
+            (c.ask-asked.ensures.ran (handed_by c.args.self.now.exchange.network (g.S.Surroundings.around.traffic c.args.self.now.exchange.around).sent)))
             (rw (c.printed.ensures) at c.question_answer-answer.ensures.asked)
             c.question_answer-answer.ensures.memory,
         refl,
@@ -62,7 +62,7 @@ returns-in-Show-clause-line g c =
 pub returns-in-Act-clause-play : goal.returns-in-Act-clause-play
 returns-in-Act-clause-play g c =
     let told = g.T.Teller.told in
-    let traffic = g.S.Surroundings.traffic in
+    let traffic = g.S.Surroundings.around.traffic in
     acts told traffic _ _ (standing_of told traffic c.act-done.new.self c.act-done.new.out) c.act-done.result c.in-Some.text.now
     (phone c.in-Act.line c.in-Act.act) c.act-done.new.self.printed.items
     (taken_free _ c.in-Some.text.now _ c.in-Some.ensures)
@@ -77,7 +77,7 @@ returns-in-Act-clause-play g c =
 pub returns-in-Act-clause-line : goal.returns-in-Act-clause-line
 returns-in-Act-clause-line g c =
     let told = g.T.Teller.told in
-    let traffic = g.S.Surroundings.traffic in
+    let traffic = g.S.Surroundings.around.traffic in
     let answer = c.act_answer-answer.result.now in
     let told_behind = only_told c.note_taken.new.exchange c.answered.new.self c.answer.new.around c.answered.ensures.rest in
     let notes = rw (c.is_ok-is_taken.ensures.value, c.sent.ensures.kept, c.deref.ensures) at c.note_taken.ensures in
@@ -104,7 +104,7 @@ returns-in-Act-clause-line g c =
         answer = answer;
         before = shown_so c.args.self.now.exchange c.act.new.self c.act.ensures.rest;
         shown = c.act.ensures.shown;
-        tries = tries_act g.S.Surroundings.sends (admitted_by c.args.self.now.admission.speakers) _ _ _ c.act-done.result _ answer (at_desk told traffic c.args.self.now)
+        tries = tries_act g.S.Surroundings.around.sends (admitted_by c.args.self.now.admission.speakers) _ _ _ c.act-done.result _ answer (at_desk told traffic c.args.self.now)
             (standing_of told traffic c.act-done.new.self c.act-done.new.out) _
             (record c.args.self.now.exchange { journal = c.act.new.self }) c.act-done.new.out c.note_taken.new.exchange
             c.act-done.ensures.outlet
@@ -149,12 +149,12 @@ returns-in-Show-clause-schedule g c = refl
 -- no line is left
 
 pub returns-in_default-clause-play : goal.returns-in_default-clause-play
-returns-in_default-clause-play g c = stays g.T.Teller.told g.S.Surroundings.traffic _
+returns-in_default-clause-play g c = stays g.T.Teller.told g.S.Surroundings.around.traffic _
 
 -- it asks for something else
 
 pub returns-in_default-request_in-clause-play : goal.returns-in_default-request_in-clause-play
-returns-in_default-request_in-clause-play g c = stays_so g.T.Teller.told g.S.Surroundings.traffic _ _ c.answer_request.ensures.play c.answer_request.ensures.admission
+returns-in_default-request_in-clause-play g c = stays_so g.T.Teller.told g.S.Surroundings.around.traffic _ _ c.answer_request.ensures.play c.answer_request.ensures.admission
 
 pub returns-in_default-request_in-clause-schedule : goal.returns-in_default-request_in-clause-schedule
 returns-in_default-request_in-clause-schedule g c = c.answer_request.ensures.schedule
@@ -166,9 +166,9 @@ returns-in-Act-clause-changes g c = rw (c.is_ok-is_taken.ensures.value) c.act-do
 
 pub returns-in-Show-clause-changes : goal.returns-in-Show-clause-changes
 returns-in-Show-clause-changes g c =
-    let handed = handed_by c.args.self.now.exchange.network (g.S.Surroundings.traffic c.args.self.now.exchange.around).sent in
+    let handed = handed_by c.args.self.now.exchange.network (g.S.Surroundings.around.traffic c.args.self.now.exchange.around).sent in
     changes_asked c.ask-asked.result c.args.self.now.play c.ask-asked.new.self _ _ c.in-Some.text.now c.in-Show.line c.ask-asked.new.self.printed.items []
     refl refl (c.ask-asked.ensures.answered handed) c.ask-asked.ensures.unanswered
 
 pub returns-in_default-request_in-clause-changes : goal.returns-in_default-request_in-clause-changes
-returns-in_default-request_in-clause-changes g c = changes_still g.T.Teller.told g.S.Surroundings.traffic c.args.self.now c.answer_request.new.self [] c.answer_request.ensures.play
+returns-in_default-request_in-clause-changes g c = changes_still g.T.Teller.told g.S.Surroundings.around.traffic c.args.self.now c.answer_request.new.self [] c.answer_request.ensures.play

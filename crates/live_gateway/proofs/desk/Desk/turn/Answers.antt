@@ -13,9 +13,9 @@ use Rattle.live_gateway.proofs.desk.Desk.turn.Goals as goal
 
 pub returns-clause-play : goal.returns-clause-play
 returns-clause-play g c =
-    between g.T.Teller.told g.S.Surroundings.traffic _ _ _ _
+    between g.T.Teller.told g.S.Surroundings.around.traffic _ _ _ _
     c.do_turn-is_taken.ensures.play
-    (begins_same g.T.Teller.told g.S.Surroundings.traffic c.args.self.now
+    (begins_same g.T.Teller.told g.S.Surroundings.around.traffic c.args.self.now
     (record c.args.self.now { exchange = c.begin.new.self; schedule = c.next-turn.new.self }) c.situation-at.ensures.clock.0
     (with_exchange (record c.args.self.now { schedule = c.next-turn.new.self }) _ _
     (begun_alone c.args.self.now.exchange c.situation-at.new.exchange c.begin.new.self c.situation-at.ensures.rest c.begin.ensures.around c.begin.ensures.network
@@ -80,14 +80,14 @@ returns-clause-does g c =
         read = c.situation-at.ensures.read;
         ready = rw (sym c.is_empty-is_line_left.ensures, c.situation-at.ensures.ticked) c.situation-at.ensures.ready.4;
       };
-      next = rw (leaves_schedule g.S.Surroundings.traffic g.S.Surroundings.dates g.S.Surroundings.tells g.S.Surroundings.sleeps g.V.Visitors.serves at.moment c.next-turn.result c.args.visitors.now c.do_turn-is_taken.new.visitors
+      next = rw (leaves_schedule g.S.Surroundings.around g.V.Visitors.visits.serves at.moment c.next-turn.result c.args.visitors.now c.do_turn-is_taken.new.visitors
           (record c.args.self.now { exchange = c.begin.new.self; schedule = c.next-turn.new.self }) c.do_turn-is_taken.new.self c.do_turn-is_taken.ensures.leaves)
           c.next-turn.ensures;
       before = with_exchange (record c.args.self.now { schedule = c.next-turn.new.self }) _ _
           (begun_alone c.args.self.now.exchange c.situation-at.new.exchange c.begin.new.self c.situation-at.ensures.rest c.begin.ensures.around c.begin.ensures.network
           c.begin.ensures.journal c.begin.ensures.read c.begin.ensures.offering);
       clock = c.begin.ensures.clock;
-      dated = dated_before g.S.Surroundings.dates c.args.self.now.exchange c.situation-at.new.exchange _ c.situation-at.ensures.rest c.begin.ensures.time;
+      dated = dated_before g.S.Surroundings.around.dates c.args.self.now.exchange c.situation-at.new.exchange _ c.situation-at.ensures.rest c.begin.ensures.time;
       faults = c.begin.ensures.faults ∙ c.situation-at.ensures.clock.3;
       does = c.do_turn-is_taken.ensures.does;
       leaves = c.do_turn-is_taken.ensures.leaves;

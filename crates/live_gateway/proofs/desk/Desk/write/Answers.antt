@@ -4,7 +4,7 @@ use Rattle.live_gateway.proofs.desk.Desk.write.Goals as goal
 
 pub returns-clause-play : goal.returns-clause-play
 returns-clause-play g c =
-    written_off g.T.Teller.told g.S.Surroundings.traffic _ _
+    written_off g.T.Teller.told g.S.Surroundings.around.traffic _ _
     refl
     refl
     refl

@@ -45,11 +45,11 @@ returns-then-come-clause-came g c =
     heard_still c.args.admission.now _ _ _ _
     (incoming c.args.admission.now _ _ _ c.in_ok-packet.packet.way c.in_ok-packet.packet.peer c.in_ok-packet.len c.take_due.new.room c.loop.invariant.came
     c.in_ok-packet.ensures.came c.in-In.is (sym c.come.ensures.heard ∙ c.if-come.true))
-    (ap (λ e. received_by e.network (g.S.Surroundings.traffic e.around).received) c.come.ensures.rest)
+    (ap (λ e. received_by e.network (g.S.Surroundings.around.traffic e.around).received) c.come.ensures.rest)
 
 pub returns-then-come-clause-handed : goal.returns-then-come-clause-handed
 returns-then-come-clause-handed g c =
-    ap (λ e. handed_by e.network (g.S.Surroundings.traffic e.around).sent) c.come.ensures.rest ∙ c.take_due.ensures.handed ∙ c.loop.invariant.handed
+    ap (λ e. handed_by e.network (g.S.Surroundings.around.traffic e.around).sent) c.come.ensures.rest ∙ c.take_due.ensures.handed ∙ c.loop.invariant.handed
 
 pub returns-then-come-clause-faults : goal.returns-then-come-clause-faults
 returns-then-come-clause-faults g c =
@@ -120,7 +120,7 @@ pub loop-preserved : goal.loop-preserved
 loop-preserved g c = elim c.match-packet.branch [
   | in-Out w ↦ record {
     length = c.take_due.ensures.length ∙ c.loop.invariant.length;
-    handed = rw w.self-is (handed_late g.S.Surroundings.traffic c.loop.self c.take_due.new.self w.send_late.new.self
+    handed = rw w.self-is (handed_late g.S.Surroundings.around.traffic c.loop.self c.take_due.new.self w.send_late.new.self
         (ap (λ e. e.network) w.send_late.ensures.rest) c.in_ok-packet.ensures.behind ∙ c.loop.invariant.handed);
     faults = rw w.self-is (ap (λ e. e.faults) w.send_late.ensures.rest ∙ ap (λ e. e.faults) c.take_due.ensures.rest ∙ c.loop.invariant.faults);
     read = rw w.self-is (ap (λ e. e.read) w.send_late.ensures.rest ∙ ap (λ e. e.read) c.take_due.ensures.rest ∙ c.loop.invariant.read);
@@ -137,7 +137,7 @@ loop-preserved g c = elim c.match-packet.branch [
     out = rw w.self-is (
       c.loop.invariant.out.0 ++ c.in_ok-packet.packet ∷ [],
       one_longer c.loop.invariant.out.0 c.in_ok-packet.packet c.loop.counter c.loop.invariant.out.1,
-      passed_on g.S.Surroundings.sends c.args.admission.now c.loop.invariant.out.0 c.in_ok-packet.packet c.args.self.now c.loop.self w.send_late.new.self
+      passed_on g.S.Surroundings.around.sends c.args.admission.now c.loop.invariant.out.0 c.in_ok-packet.packet c.args.self.now c.loop.self w.send_late.new.self
           c.loop.invariant.out.2 (inl (record {
             handed = c.take_due.new.self;
             hands = record { due = c.in_ok-packet.ensures.due; rest = c.take_due.ensures.rest };
@@ -151,7 +151,7 @@ loop-preserved g c = elim c.match-packet.branch [
   }
   | in-In+else-come w ↦ record {
     length = c.take_due.ensures.length ∙ c.loop.invariant.length;
-    handed = rw w.self-is (ap (λ e. handed_by e.network (g.S.Surroundings.traffic e.around).sent) w.come.ensures.rest ∙ c.take_due.ensures.handed ∙ c.loop.invariant.handed);
+    handed = rw w.self-is (ap (λ e. handed_by e.network (g.S.Surroundings.around.traffic e.around).sent) w.come.ensures.rest ∙ c.take_due.ensures.handed ∙ c.loop.invariant.handed);
     faults = rw w.self-is (ap (λ e. e.faults) w.come.ensures.rest ∙ ap (λ e. e.faults) c.take_due.ensures.rest ∙ c.loop.invariant.faults);
     read = rw w.self-is (ap (λ e. e.read) w.come.ensures.rest ∙ ap (λ e. e.read) c.take_due.ensures.rest ∙ c.loop.invariant.read);
     turn = rw w.self-is (
@@ -162,13 +162,13 @@ loop-preserved g c = elim c.match-packet.branch [
     came = rw w.self-is (heard_still c.args.admission.now _ _ _ _
         (strange c.args.admission.now _ _ _ c.in_ok-packet.packet.way c.in_ok-packet.packet.peer _ c.loop.invariant.came c.in_ok-packet.ensures.came w.in-In.is
         (sym w.come.ensures.heard ∙ w.if-come.false))
-        (ap (λ e. received_by e.network (g.S.Surroundings.traffic e.around).received) w.come.ensures.rest));
+        (ap (λ e. received_by e.network (g.S.Surroundings.around.traffic e.around).received) w.come.ensures.rest));
     tally = rw w.self-is (found_behind _ _ _ _ (found_between _ _ _ _ _ refl c.loop.invariant.tally (ap (λ e. e.journal.tally.value) c.take_due.ensures.rest))
         (arrival_strange _ _ _ _ _ w.come.ensures.noted (sym w.come.ensures.heard ∙ w.if-come.false)));
     out = rw w.self-is (
       c.loop.invariant.out.0 ++ c.in_ok-packet.packet ∷ [],
       one_longer c.loop.invariant.out.0 c.in_ok-packet.packet c.loop.counter c.loop.invariant.out.1,
-      passed_on g.S.Surroundings.sends c.args.admission.now c.loop.invariant.out.0 c.in_ok-packet.packet c.args.self.now c.loop.self w.come.new.self
+      passed_on g.S.Surroundings.around.sends c.args.admission.now c.loop.invariant.out.0 c.in_ok-packet.packet c.args.self.now c.loop.self w.come.new.self
           c.loop.invariant.out.2 (inr (record {
             handed = c.take_due.new.self;
             hands = record { due = c.in_ok-packet.ensures.due; rest = c.take_due.ensures.rest };

@@ -18,7 +18,7 @@ returns-then-come-clause-came g c =
     heard_still c.args.admission.now _ _ _ _
     (hears_one c.args.admission.now c.args.self.now.network c.read_socket.new.self.network _ _ _ _ _ (sym c.is_some.ensures ∙ c.if-is_some.false) (ap (λ e. e.network) c.read_socket.ensures.rest)
     c.in_ok-source.ensures.received (sym c.come.ensures.heard ∙ c.if-come.true))
-    (ap (λ e. received_by e.network (g.S.Surroundings.traffic e.around).received) c.come.ensures.rest)
+    (ap (λ e. received_by e.network (g.S.Surroundings.around.traffic e.around).received) c.come.ensures.rest)
 
 pub returns-in_err-source-clause-counts : goal.returns-in_err-source-clause-counts
 returns-in_err-source-clause-counts g c =
@@ -48,7 +48,7 @@ returns-clause-came g c =
     heard_still c.args.admission.now _ _ _ _
     (passes_over c.args.admission.now c.args.self.now.network c.read_socket.new.self.network _ _ _ _ _ (sym c.is_some.ensures ∙ c.if-is_some.false) (ap (λ e. e.network) c.read_socket.ensures.rest)
     c.in_ok-source.ensures.received (sym c.come.ensures.heard ∙ c.if-come.false))
-    (ap (λ e. received_by e.network (g.S.Surroundings.traffic e.around).received) c.come.ensures.rest)
+    (ap (λ e. received_by e.network (g.S.Surroundings.around.traffic e.around).received) c.come.ensures.rest)
 
 pub returns-clause-counts : goal.returns-clause-counts
 returns-clause-counts g c =
@@ -84,14 +84,14 @@ returns-clause-tally g c =
 
 pub returns-in_err-source-clause-handed : goal.returns-in_err-source-clause-handed
 returns-in_err-source-clause-handed g c =
-    handed_still g.S.Surroundings.traffic c.args.self.now c.read_socket.new.self (ap (λ e. e.network) c.read_socket.ensures.rest) c.read_socket.ensures.sent
+    handed_still g.S.Surroundings.around.traffic c.args.self.now c.read_socket.new.self (ap (λ e. e.network) c.read_socket.ensures.rest) c.read_socket.ensures.sent
 
 pub returns-in_err-source-clause-turn : goal.returns-in_err-source-clause-turn
 returns-in_err-source-clause-turn g c = (ap (λ e. e.now) c.read_socket.ensures.rest, ap (λ e. e.is_offering) c.read_socket.ensures.rest)
 
 pub returns-in_err-source-clause-looks : goal.returns-in_err-source-clause-looks
 returns-in_err-source-clause-looks g c =
-    looks_here g.S.Surroundings.receives g.S.Surroundings.sends c.args.admission.now c.from_residual.result c.read_socket.new.room c.args.self.now c.read_socket.new.self
+    looks_here g.S.Surroundings.around c.args.admission.now c.from_residual.result c.read_socket.new.room c.args.self.now c.read_socket.new.self
     (sym c.is_some.ensures ∙ c.if-is_some.false)
     (record {
       after = c.read_socket.new.self;
@@ -103,8 +103,8 @@ returns-in_err-source-clause-looks g c =
 
 pub returns-then-come-clause-handed : goal.returns-then-come-clause-handed
 returns-then-come-clause-handed g c =
-    ap (λ e. handed_by e.network (g.S.Surroundings.traffic e.around).sent) c.come.ensures.rest
-    ∙ handed_still g.S.Surroundings.traffic c.args.self.now c.read_socket.new.self (ap (λ e. e.network) c.read_socket.ensures.rest) c.read_socket.ensures.sent
+    ap (λ e. handed_by e.network (g.S.Surroundings.around.traffic e.around).sent) c.come.ensures.rest
+    ∙ handed_still g.S.Surroundings.around.traffic c.args.self.now c.read_socket.new.self (ap (λ e. e.network) c.read_socket.ensures.rest) c.read_socket.ensures.sent
 
 pub returns-then-come-clause-refused : goal.returns-then-come-clause-refused
 returns-then-come-clause-refused g c = ap (λ e. e.faults.refused) c.come.ensures.rest ∙ c.read_socket.ensures.refused
@@ -112,7 +112,7 @@ returns-then-come-clause-refused g c = ap (λ e. e.faults.refused) c.come.ensure
 pub returns-then-come-clause-looks : goal.returns-then-come-clause-looks
 returns-then-come-clause-looks g c =
     let may = sym c.come.ensures.heard ∙ c.if-come.true in
-    looks_here g.S.Surroundings.receives g.S.Surroundings.sends c.args.admission.now (Some (c.in_ok-source.source, c.in_ok-source.len)) c.read_socket.new.room c.args.self.now c.come.new.self
+    looks_here g.S.Surroundings.around c.args.admission.now (Some (c.in_ok-source.source, c.in_ok-source.len)) c.read_socket.new.room c.args.self.now c.come.new.self
     (sym c.is_some.ensures ∙ c.if-is_some.false)
     (record {
       after = c.read_socket.new.self;
@@ -125,8 +125,8 @@ returns-then-come-clause-looks g c =
 
 pub returns-clause-handed : goal.returns-clause-handed
 returns-clause-handed g c =
-    ap (λ e. handed_by e.network (g.S.Surroundings.traffic e.around).sent) c.come.ensures.rest
-    ∙ handed_still g.S.Surroundings.traffic c.args.self.now c.read_socket.new.self (ap (λ e. e.network) c.read_socket.ensures.rest) c.read_socket.ensures.sent
+    ap (λ e. handed_by e.network (g.S.Surroundings.around.traffic e.around).sent) c.come.ensures.rest
+    ∙ handed_still g.S.Surroundings.around.traffic c.args.self.now c.read_socket.new.self (ap (λ e. e.network) c.read_socket.ensures.rest) c.read_socket.ensures.sent
 
 pub returns-clause-refused : goal.returns-clause-refused
 returns-clause-refused g c = ap (λ e. e.faults.refused) c.come.ensures.rest ∙ c.read_socket.ensures.refused
@@ -134,7 +134,7 @@ returns-clause-refused g c = ap (λ e. e.faults.refused) c.come.ensures.rest ∙
 pub returns-clause-looks : goal.returns-clause-looks
 returns-clause-looks g c =
     let other = sym c.come.ensures.heard ∙ c.if-come.false in
-    looks_here g.S.Surroundings.receives g.S.Surroundings.sends c.args.admission.now None c.read_socket.new.room c.args.self.now c.come.new.self
+    looks_here g.S.Surroundings.around c.args.admission.now None c.read_socket.new.room c.args.self.now c.come.new.self
     (sym c.is_some.ensures ∙ c.if-is_some.false)
     (record {
       after = c.read_socket.new.self;
@@ -179,7 +179,7 @@ returns-then-is_some-clause-tally g c = c.receive_spoilt.ensures.tally
 
 pub returns-then-is_some-clause-looks : goal.returns-then-is_some-clause-looks
 returns-then-is_some-clause-looks g c =
-    looks_over g.S.Surroundings.receives g.S.Surroundings.sends c.args.admission.now c.receive_spoilt.result c.receive_spoilt.new.room c.args.self.now
+    looks_over g.S.Surroundings.around c.args.admission.now c.receive_spoilt.result c.receive_spoilt.new.room c.args.self.now
     c.receive_spoilt.new.self (sym c.is_some.ensures ∙ c.if-is_some.true) c.receive_spoilt.ensures.looks
 
 pub returns-in_err-source-clause-length : goal.returns-in_err-source-clause-length

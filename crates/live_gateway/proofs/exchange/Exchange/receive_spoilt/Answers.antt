@@ -27,7 +27,7 @@ returns-in_err-source-clause-turn g c =
 pub returns-then-not-hears-clause-came : goal.returns-then-not-hears-clause-came
 returns-then-not-hears-clause-came g c =
     heard_still c.args.admission.now _ _ _ _ c.in_default.ensures.came
-    (ap (λ e. received_by e.network (g.S.Surroundings.traffic e.around).received) c.turn_away.ensures.rest
+    (ap (λ e. received_by e.network (g.S.Surroundings.around.traffic e.around).received) c.turn_away.ensures.rest
     ∙ still_over c.handed_over.new.self.network c.read_socket.new.self.network _ _ (c.handed_over.ensures.spoilt ∙ c.requires)
     (ap (λ e. e.network) c.read_socket.ensures.rest))
 
@@ -53,12 +53,12 @@ returns-then-not-hears-clause-tally g c =
 
 pub returns-in_err-source-clause-handed : goal.returns-in_err-source-clause-handed
 returns-in_err-source-clause-handed g c =
-    handed_still g.S.Surroundings.traffic c.handed_over.new.self c.read_socket.new.self (ap (λ e. e.network) c.read_socket.ensures.rest) c.read_socket.ensures.sent ∙ c.handed_over.ensures.handed
+    handed_still g.S.Surroundings.around.traffic c.handed_over.new.self c.read_socket.new.self (ap (λ e. e.network) c.read_socket.ensures.rest) c.read_socket.ensures.sent ∙ c.handed_over.ensures.handed
 
 pub returns-then-not-hears-clause-handed : goal.returns-then-not-hears-clause-handed
 returns-then-not-hears-clause-handed g c =
-    ap (λ e. handed_by e.network (g.S.Surroundings.traffic e.around).sent) c.turn_away.ensures.rest
-    ∙ handed_still g.S.Surroundings.traffic c.handed_over.new.self c.read_socket.new.self (ap (λ e. e.network) c.read_socket.ensures.rest) c.read_socket.ensures.sent ∙ c.handed_over.ensures.handed
+    ap (λ e. handed_by e.network (g.S.Surroundings.around.traffic e.around).sent) c.turn_away.ensures.rest
+    ∙ handed_still g.S.Surroundings.around.traffic c.handed_over.new.self c.read_socket.new.self (ap (λ e. e.network) c.read_socket.ensures.rest) c.read_socket.ensures.sent ∙ c.handed_over.ensures.handed
 
 pub returns-then-not-hears-clause-refused : goal.returns-then-not-hears-clause-refused
 returns-then-not-hears-clause-refused g c =
@@ -94,7 +94,7 @@ returns-then-not-hears-clause-looks g c = inr (record {
   none = c.in_default.ensures.hands;
   looked = c.in_ok-source.ensures.counts;
   only = c.read_socket.ensures.rest;
-  takes = strange_goes g.S.Surroundings.sends c.args.admission.now (is_heard c.args.admission.now c.in_ok-source.source) c.in_ok-source.source _ _
+  takes = strange_goes g.S.Surroundings.around.sends c.args.admission.now (is_heard c.args.admission.now c.in_ok-source.source) c.in_ok-source.source _ _
       c.read_socket.new.self c.turn_away.new.self (sym c.hears.ensures ∙ c.if-not-hears.true) c.turn_away.ensures.noted c.turn_away.ensures.rest;
 })
 
@@ -109,7 +109,7 @@ returns-then-is_lost-clause-came g c =
 pub returns-then-is_lost-clause-handed : goal.returns-then-is_lost-clause-handed
 returns-then-is_lost-clause-handed g c =
     c.is_lost.ensures.handed
-    ∙ handed_still g.S.Surroundings.traffic c.handed_over.new.self c.read_socket.new.self (ap (λ e. e.network) c.read_socket.ensures.rest)
+    ∙ handed_still g.S.Surroundings.around.traffic c.handed_over.new.self c.read_socket.new.self (ap (λ e. e.network) c.read_socket.ensures.rest)
     c.read_socket.ensures.sent
     ∙ c.handed_over.ensures.handed
 
@@ -146,7 +146,7 @@ returns-then-is_lost-clause-looks g c = inr (record {
   none = c.in_default.ensures.hands;
   looked = c.in_ok-source.ensures.counts;
   only = c.read_socket.ensures.rest;
-  takes = heard_goes g.S.Surroundings.sends c.args.admission.now (is_heard c.args.admission.now c.in_ok-source.source) c.in_ok-source.source
+  takes = heard_goes g.S.Surroundings.around.sends c.args.admission.now (is_heard c.args.admission.now c.in_ok-source.source) c.in_ok-source.source
       (take c.in_ok-source.len c.read_socket.new.room) None c.read_socket.new.room c.read_socket.new.self
       (record c.is_lost.new.self { journal = c.untaken.new.self }) (sym c.hears.ensures ∙ c.if-not-hears.false)
       (record {
@@ -173,7 +173,7 @@ returns-clause-came g c =
 pub returns-clause-handed : goal.returns-clause-handed
 returns-clause-handed g c =
     c.handed_over-2.ensures.handed ∙ c.is_lost.ensures.handed
-    ∙ handed_still g.S.Surroundings.traffic c.handed_over.new.self c.read_socket.new.self (ap (λ e. e.network) c.read_socket.ensures.rest)
+    ∙ handed_still g.S.Surroundings.around.traffic c.handed_over.new.self c.read_socket.new.self (ap (λ e. e.network) c.read_socket.ensures.rest)
     c.read_socket.ensures.sent
     ∙ c.handed_over.ensures.handed
 
@@ -214,7 +214,7 @@ returns-clause-looks g c = inr (record {
   none = c.in_default.ensures.hands;
   looked = c.in_ok-source.ensures.counts;
   only = c.read_socket.ensures.rest;
-  takes = heard_goes g.S.Surroundings.sends c.args.admission.now (is_heard c.args.admission.now c.in_ok-source.source) c.in_ok-source.source
+  takes = heard_goes g.S.Surroundings.around.sends c.args.admission.now (is_heard c.args.admission.now c.in_ok-source.source) c.in_ok-source.source
       (take c.in_ok-source.len c.read_socket.new.room) c.handed_over-2.result c.handed_over-2.new.room c.read_socket.new.self
       c.handed_over-2.new.self (sym c.hears.ensures ∙ c.if-not-hears.false)
       (record {

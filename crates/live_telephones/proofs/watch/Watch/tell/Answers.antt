@@ -26,7 +26,7 @@ returns-in-Err-clause-watch g c = λ events stands.
       rw (c.if-not-is_taken.false) (rw (c.now-now.ensures.value events stands) at watched),
       c.clear.ensures,
       c.tell_lines.new.around,
-      refused_and_over g.S.Surroundings.answers _ _ _ _ _ _ c.tell_lines.new.self c.clear.new.self (c.in-Err.ensures.refused events stands),
+      refused_and_over g.S.Surroundings.around.answers _ _ _ _ _ _ c.tell_lines.new.self c.clear.new.self (c.in-Err.ensures.refused events stands),
       rw (c.tell_lines.ensures.watchers, c.now-now.ensures.value events stands) at c.tell_all.ensures.told,
     ))
 

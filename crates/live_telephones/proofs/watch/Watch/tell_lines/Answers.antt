@@ -4,7 +4,7 @@ use Rattle.live_telephones.proofs.watch.Watch.tell_lines.Goals as goal
 
 pub loop-before-init : goal.loop-before-init
 loop-before-init g c = record {
-  told = λ events stands. tells_none_yet g.S.Surroundings.answers _ _ _ _ _;
+  told = λ events stands. tells_none_yet g.S.Surroundings.around.answers _ _ _ _ _;
   few = omega arith;
   traffic = refl;
   watchers = refl;
@@ -12,7 +12,7 @@ loop-before-init g c = record {
 
 pub loop-before-preserved : goal.loop-before-preserved
 loop-before-preserved g c = record {
-  told = λ events stands. tells_next_line g.S.Surroundings.answers _ _ _ c.loop-before.before _ _ _ _ _ _
+  told = λ events stands. tells_next_line g.S.Surroundings.around.answers _ _ _ c.loop-before.before _ _ _ _ _ _
       (c.loop-before.invariant.told events stands) (c.in_ok-tell_changed.ensures.told events stands);
   few = let end = c.lines-before-end.ensures in let before = c.loop-before-test.true in omega (arith, end, before);
   traffic = c.in_ok-tell_changed.ensures.traffic ∙ c.loop-before.invariant.traffic;

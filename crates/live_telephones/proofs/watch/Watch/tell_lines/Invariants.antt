@@ -8,8 +8,8 @@ use Rattle.live_telephones.proofs.watch.Watch.tell_lines.Given as goal
 abbrev pub invariant-loop-before : goal.invariant-loop-before
 invariant-loop-before g l = record {
   told : (events : List GatewayEvent) → Stands l.gateway events
-      → TellsLines g.S.Surroundings.answers l.gateway.changed l.gateway.setup (plain l.gateway.setup events) l.before l.fn.around l.fn.self l.around l.self;
+      → TellsLines g.S.Surroundings.around.answers l.gateway.changed l.gateway.setup (plain l.gateway.setup events) l.before l.fn.around l.fn.self l.around l.self;
   few : l.before ≤ l.gateway.setup.names.lines;
-  traffic : g.S.Surroundings.traffic l.around ≡ g.S.Surroundings.traffic l.fn.around;
+  traffic : g.S.Surroundings.around.traffic l.around ≡ g.S.Surroundings.around.traffic l.fn.around;
   watchers : l.self.watchers ≡ l.fn.self.watchers;
 }
