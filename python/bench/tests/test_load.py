@@ -166,10 +166,16 @@ class Told:
 
 @pytest.fixture
 def quick(monkeypatch: pytest.MonkeyPatch) -> None:
-    """A step may take half a second, and a key is pressed each 5 ms."""
-    monkeypatch.setattr(load_calls, "LONGEST", 0.5)
+    """A key is pressed each 5 ms; a step may take as long as it does on a busy machine."""
+    monkeypatch.setattr(load_calls, "LONGEST", 30.0)
     monkeypatch.setattr(load_calls, "HOOK_AGAIN", 0.2)
     monkeypatch.setattr(load_calls, "KEY_GAP", 0.005)
+
+
+@pytest.fixture
+def impatient(quick: None, monkeypatch: pytest.MonkeyPatch) -> None:
+    """A step may take half a second: what fails for want of it does so soon."""
+    monkeypatch.setattr(load_calls, "LONGEST", 0.5)
     monkeypatch.setattr(load_calls, "LONGEST_END", 5.0)
 
 
@@ -209,7 +215,7 @@ def test_an_unanswered_call_rings_and_is_given_up(exchange: StubExchange, config
 
 def test_shares_of_calls_are_unanswered(exchange: StubExchange, config: str, quick: None) -> None:
     lines, _ = called(config, many=12, hold=0.0, unanswered=50.0)
-    assert lines.tally.rung == 12 and 2 <= lines.tally.unanswered <= 10 and lines.tally.connected == 12 - lines.tally.unanswered
+    assert lines.tally.at_rest == 12 and 2 <= lines.tally.unanswered <= 10 and lines.tally.connected == 12 - lines.tally.unanswered
 
 
 def broken(exchange: StubExchange, how: str) -> None:
@@ -231,7 +237,7 @@ def broken(exchange: StubExchange, how: str) -> None:
 
 
 @pytest.mark.parametrize("why", ["no dial tone", "no answer", "cut off", "no ringing", "reorder tone", "busy tone"])
-def test_why_a_call_fails(exchange: StubExchange, config: str, quick: None, why: str) -> None:
+def test_why_a_call_fails(exchange: StubExchange, config: str, impatient: None, why: str) -> None:
     broken(exchange, why)
     lines, told = called(config, hold=0.3)
     assert lines.tally.failed == {why: 1} and (lines.tally.attempts, lines.tally.at_rest) == (1, 0)
@@ -240,7 +246,7 @@ def test_why_a_call_fails(exchange: StubExchange, config: str, quick: None, why:
     assert lines.tally.success == 0.0
 
 
-def test_a_line_that_does_not_come_to_rest(exchange: StubExchange, config: str, quick: None, monkeypatch: pytest.MonkeyPatch) -> None:
+def test_a_line_that_does_not_come_to_rest(exchange: StubExchange, config: str, impatient: None, monkeypatch: pytest.MonkeyPatch) -> None:
     on = exchange.on
 
     def keeps_a_signal(it: Any, line: int) -> None:
