@@ -60,8 +60,9 @@ def test_routing_wants_a_digit_map(bench: Bench) -> None:
     """Without --route there is no need of one."""
     path = Path(bench.agent_config(9))
     path.write_text(path.read_text().replace('digit_map = "(2xx|0)"\n', ""))
-    assert ran([*command("rgca"), str(path), "--route"]) == (2, "", f"{path}: missing: digit_map\n")
-    assert ran([*command("rgca"), str(path), *FREE, "--stop-after", "0"])[0] == 0
+    words = [*command("rgca"), str(path), *FREE, "--stop-after", "0"]
+    assert ran([*words, "--route"]) == (2, "", f"{path}: missing: digit_map\n")
+    assert ran(words)[0] == 0
 
 
 @pytest.mark.parametrize("words", ["check --help", "phones a.phones", "load agent.toml --rate 1"])

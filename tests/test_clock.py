@@ -23,6 +23,23 @@ int clock_gettime(clockid_t id, struct timespec *now) {
     return failed;
 }
 """
+# Writes into the file BOUND at which ms of the time of day sockets get an address, a line each.
+BINDS = """#define _GNU_SOURCE
+#include <stdio.h>
+#include <stdlib.h>
+#include <sys/socket.h>
+#include <sys/syscall.h>
+#include <time.h>
+#include <unistd.h>
+int bind(int socket, const struct sockaddr *address, socklen_t length) {
+    struct timespec now;
+    FILE *bound = fopen(getenv("BOUND"), "a");
+    syscall(SYS_clock_gettime, CLOCK_REALTIME, &now);
+    fprintf(bound, "%lld\\n", now.tv_sec * 1000LL + now.tv_nsec / 1000000);
+    fclose(bound);
+    return (int)syscall(SYS_bind, socket, address, length);
+}
+"""
 # What stands in a log before the line of a command that came.
 NOTED = r"Z ! the time of day was set on by 3(599|600)\d{3} ms\n\S+ 127\.0\.0\.1:\d+ > "
 
@@ -73,14 +90,23 @@ def test_start_waits_before_its_clock_begins(bench: Bench) -> None:
     assert 1.4 < first < 1.4 + waits
 
 
-def test_start_opens_its_sockets_once_its_number_is_over(bench: Bench) -> None:
-    """Ids begin with the number of the time of day, a number for each 50 ms: by then it has passed."""
+def preloaded(folder: Path, source: str, **files: str) -> dict[str, str]:
+    """An environment in which these functions stand before the C library's; they find the paths of these files of the folder."""
+    (folder / "before.c").write_text(source)
+    subprocess.run(["cc", "-shared", "-fPIC", "-o", "before.so", "before.c"], cwd=folder, check=True)
+    return {**os.environ, "LD_PRELOAD": f"{folder}/before.so", **{name: f"{folder}/{file}" for name, file in files.items()}}
+
+
+def test_start_opens_its_sockets_once_its_number_is_over(bench: Bench, tmp_path: Path) -> None:
+    """Ids begin with the number of the time of day, a number for each 50 ms: when the first socket is opened it has passed."""
+    env = preloaded(tmp_path, BINDS, BOUND="bound")
     for _ in range(8):
-        program = bench.start([*command("rgwd"), bench.config(), *FREE])
-        now = int(time.time() * 1000) // 50
+        program = bench.start([*command("rgwd"), bench.config(), *FREE], env=env)
         found = re.search(r" first (\d+)\n", program.start)
-        assert found and 0 < (now - int(found[1])) % 9999999 < 20 * LONG
+        opened = int(Path(env["BOUND"]).read_text().split()[0]) // 50
+        assert found and 0 < (opened - int(found[1])) % 9999999 < 20 * LONG
         program.close()
+        Path(env["BOUND"]).unlink()
 
 
 def test_log_has_the_time_of_day(bench: Bench) -> None:
@@ -106,9 +132,7 @@ def test_no_processor_is_used_where_nothing_comes(bench: Bench) -> None:
 @pytest.fixture
 def clocks(tmp_path: Path) -> dict[str, str]:
     """An environment in which a program's time of day is an hour on as soon as the file SET_ON is there, and lost by the file LOST."""
-    (tmp_path / "clocks.c").write_text(CLOCKS)
-    subprocess.run(["cc", "-shared", "-fPIC", "-o", "clocks.so", "clocks.c"], cwd=tmp_path, check=True)
-    return {**os.environ, "LD_PRELOAD": f"{tmp_path}/clocks.so", "SET_ON": f"{tmp_path}/on", "LOST": f"{tmp_path}/lost"}
+    return preloaded(tmp_path, CLOCKS, SET_ON="on", LOST="lost")
 
 
 def test_log_notes_that_the_time_of_day_was_set(bench: Bench, clocks: dict[str, str]) -> None:
