@@ -3,7 +3,7 @@ use crate::boxing::in_box;
 use endpoint_names::Route;
 use gateway_core::{Config, ConfigFault, Gateway, NamedRoute};
 use mg_bytes::{OutOfMemory, Sequence, Text};
-use mg_line::Hook;
+use rgw_scripts::hook_word;
 use scenario_files::Row;
 use std::alloc::Global;
 use std::net::{Ipv4Addr, SocketAddrV4};
@@ -83,8 +83,5 @@ pub fn put_hook(row: &mut Row<'_>, gateway: &Gateway) {
     if line == 0 || line > gateway.lines() {
         return row.given.unread();
     }
-    match gateway.hook(line) {
-        Hook::OnHook => row.given.put(b"on"),
-        Hook::OffHook => row.given.put(b"off"),
-    }
+    row.given.put(hook_word(gateway.hook(line)));
 }
