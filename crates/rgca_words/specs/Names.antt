@@ -1,6 +1,6 @@
 -- What an ending says of the program, and which files it names.
-use Rattle.std.specs.Prelude.{◌≡◌, ℕ, List, [], map, Option, None, Some}
-use Rattle.std.specs.Borrow.{Bor}
+use Rattle.std.specs.Prelude.{◌≡◌, ℕ, List, map}
+use Rattle.command_words.specs.Files.{HasNames}
 use Rattle.live_ends.specs.declared.ending.About.{About}
 use Rattle.live_ends.specs.declared.ending.FileNames.{FileNames}
 use Rattle.live_ends.specs.Wording.{piece_text}
@@ -19,15 +19,6 @@ version_pieces = map (λ piece. piece.now) VERSIONS
 abbrev pub IsOwn : About → Type 0
 IsOwn about =
     (about.usage.now ≡ USAGE.now) × (map piece_text about.help.now ≡ help_pieces) × (map piece_text about.version.now ≡ version_pieces)
-
--- a file that isn't asked for has no name
-abbrev pub name_of : Option (Bor (List ℕ)) → List ℕ
-name_of None = []
-name_of (Some name) = name.now
-
--- the file that is read has this name, and the one that is written that one
-abbrev pub HasNames : List ℕ → List ℕ → FileNames → Type 0
-HasNames read written files = (files.read_from.now ≡ read) × (files.written_to.now ≡ written)
 
 -- this is what an ending of the program says where its files have these names
 abbrev pub Says : List ℕ → List ℕ → Ending → List ℕ → Type 0

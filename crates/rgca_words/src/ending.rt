@@ -4,7 +4,8 @@ ghost use Rattle.live_ends.specs.Ending.{status_of as common_status};
 ghost use Rattle.live_ends.specs.Wording.{joined};
 ghost use Rattle.rgca_words.specs.Statuses.{status_of, is_asked};
 ghost use Rattle.rgca_words.specs.Texts.{moved_text, ending_text};
-ghost use Rattle.rgca_words.specs.Names.{HasNames, Says};
+ghost use Rattle.command_words.specs.Files.{HasNames};
+ghost use Rattle.rgca_words.specs.Names.{Says};
 
 use crate::help::of_program;
 use live_ends::{About, CommonEnding, FileNames, end, put_pieces};

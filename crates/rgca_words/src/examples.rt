@@ -1,13 +1,9 @@
 //! Worked examples of the definitions, as theorems.
 #![tactic(auto, unfolding(crate::specs::Texts::ending_text))]
 
-ghost use Rattle.std.specs.Prelude.{◌≡◌, ℕ, Bool, codes, true, false, List, [], ◌∷◌, ◌++◌, map, Option, Some, None};
-ghost use Rattle.std.specs.Borrow.{Bor};
-ghost use Rattle.std.specs.Str.Parse.{digits_value, without_leading_plus};
+ghost use Rattle.std.specs.Prelude.{◌≡◌, ℕ, codes, true, false, List, [], ◌∷◌, ◌++◌, map, Some, None};
 ghost use Rattle.std.specs.declared.io.ErrorKind.{ErrorKind};
-ghost use Rattle.std.specs.declared.net.socket_addr.SocketAddrV4.{SocketAddrV4};
 ghost use Rattle.agent_config.specs.declared.config_fault.ConfigRefusal.TheVariants as refusals;
-ghost use Rattle.live_ends.specs.Addresses.{IsAddress};
 ghost use Rattle.live_ends.specs.declared.ending.About.{About};
 ghost use Rattle.live_ends.specs.declared.ending.FileNames.{FileNames};
 ghost use Rattle.live_ends.specs.declared.ending.CommonEnding.{CommonEnding};
@@ -22,8 +18,8 @@ ghost use Rattle.rgca_words.specs.declared.ending.Ending.TheVariants.{Common, Mo
 ghost use Rattle.rgca_words.specs.Statuses.{status_of, is_asked, fails};
 ghost use Rattle.rgca_words.specs.Endings.{config_by};
 ghost use Rattle.rgca_words.specs.Texts.{ending_text};
-ghost use Rattle.rgca_words.specs.Names.{help_pieces, version_pieces, name_of, Says};
-ghost use Rattle.rgca_words.specs.Words.{moved_by, IsBehind, IsMoment, IsRead, SaysFlag};
+ghost use Rattle.rgca_words.specs.Names.{help_pieces, version_pieces, Says};
+ghost use Rattle.rgca_words.specs.Words.{moved_by};
 
 /// Each sentence at an example.
 pub fn each_sentence_has_an_example()
@@ -61,29 +57,9 @@ pub fn an_ending_names_what_fails()
         → text ≡ written ++ (codes ": write fault" ++ (reason_of kind ++ codes "\n")) }
     ensures config { (read written text : List ℕ) (line : _) → Says read written (Config line) text
         → text ≡ read ++ (codes ": " ++ (line.items ++ codes "\n")) }
-    // A file that isn't asked for has no name.
-    ensures no_file { name_of None ≡ [] }
-    ensures file { (name : Bor (List ℕ)) → name_of (Some name) ≡ name.now }
     // Who asks how the program is used, or for its version, is told what it says of itself.
     ensures usage { (read written text : List ℕ) → Says read written (Common Usage) text
         → text ≡ codes "usage: " ++ (USAGE.now ++ codes "\n") }
     ensures help { (read written text : List ℕ) → Says read written (Common Help) text → text ≡ joined help_pieces }
     ensures version { (read written text : List ℕ) → Says read written (Common Version) text → text ≡ joined version_pieces }
-{}
-
-/// Each sentence at an example.
-pub fn what_stands_behind_words_is_meant()
-    // An address is what the text behind its word says, and a word stands there or doesn't.
-    ensures nothing { IsBehind None None }
-    ensures something { (text : List ℕ) → IsBehind (Some text) None → ⊥ }
-    ensures address { (text : List ℕ) (address : SocketAddrV4) → IsAddress text address → IsBehind (Some text) (Some address) }
-    ensures no_flag { (flag : Bool) → SaysFlag None flag → flag ≡ false }
-    ensures flag { (flag : Bool) → SaysFlag (Some (codes "true")) flag → flag ≡ true }
-    ensures flag_not { (flag : Bool) → SaysFlag (Some (codes "false")) flag → flag ≡ false }
-    // What is read of a text is what it says, and it says something; of no text nothing is.
-    ensures unread { (found : Option ℕ) → IsRead (λ text. Some 7) None found → found ≡ None }
-    ensures read { (text : List ℕ) (found : Option ℕ) → IsRead (λ text. Some 7) (Some text) found → found ≡ Some 7 }
-    ensures unreadable { (text : List ℕ) (found : Option ℕ) → IsRead (λ text. None) (Some text) found → ⊥ }
-    ensures no_moment { (moment : Option ℕ) → IsMoment None moment → moment ≡ None }
-    ensures moment { (ms : ℕ) (text : List ℕ) → IsMoment (Some text) (Some ms) → ms ≡ digits_value 10 (without_leading_plus text) }
 {}

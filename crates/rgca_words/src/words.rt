@@ -1,17 +1,17 @@
 //! Reads the words of the command line.
-ghost use Rattle.std.specs.Prelude.{◌≡◌, true, Some, None, Ok, IfOk, IfErr, IfSome, codes, option_map};
+ghost use Rattle.std.specs.Prelude.{◌≡◌, true, Some, IfOk, IfErr, codes, option_map};
 ghost use Rattle.clap.specs.Matches.{found_of, first_value, one_text};
-ghost use Rattle.live_ends.specs.Addresses.{IsAddress};
+ghost use Rattle.command_words.specs.Files.{name_of, HasNames};
+ghost use Rattle.command_words.specs.Values.{IsBehind, IsMoment, IsRead, SaysFlag};
 ghost use Rattle.rgca_words.specs.declared.ending.Ending.TheVariants.{Common};
-ghost use Rattle.rgca_words.specs.Names.{name_of, HasNames};
 ghost use Rattle.rgca_words.specs.Statuses.{fails};
-ghost use Rattle.rgca_words.specs.Words.{spoiling_read, IsBehind, IsMoment, IsRead, SaysFlag};
+ghost use Rattle.rgca_words.specs.Words.{spoiling_read};
 
 use crate::help::{CONTROL, USAGE};
 use bad_network::Spoiling;
 use clap::{ArgMatches, Command};
-use command_words::{Kind, matches_in};
-use live_ends::{AddressWord, CommonEnding, FileNames, VERSION, address_in, network_in};
+use command_words::{Kind, address_behind, matches_in, moment_behind};
+use live_ends::{AddressWord, CommonEnding, FileNames, VERSION, network_in};
 use live_outlets::{Outlet, boxed};
 use std::alloc::Global;
 use std::io::Write;
@@ -61,43 +61,12 @@ const WORDS: [(&str, Kind); 8] = [
     ("stop-after", Kind::Number),
 ];
 
-// The address behind a word, if that stands there.
-fn address_behind(
-    matches: &ArgMatches<'_>,
-    name: &str,
-    word: AddressWord,
-) -> Result<Option<SocketAddrV4>, CommonEnding>
-    ensures stands { IfOk result (λ found. IfSome found (λ address.
-        IfSome (first_value (found_of matches.now) name.now) (λ text. IsAddress text address))) }
-    ensures stands_not { IfOk result (λ found. found ≡ None → first_value (found_of matches.now) name.now ≡ None) }
-    ensures behind { IfOk result (λ found. IsBehind (first_value (found_of matches.now) name.now) found) }
-    ensures none { first_value (found_of matches.now) name.now ≡ None → result ≡ Ok None }
-    ensures other { IfErr result (λ ending. ending ≡ CommonEnding.BadAddress word) }
-    ensures no_address { IfErr result (λ _. IfSome (first_value (found_of matches.now) name.now) (λ text.
-        (address : SocketAddrV4) → ¬ (IsAddress text address))) }
-{
-    match matches.get_str(name) {
-        Some(text) => match address_in(word, text) {
-            Ok(address) => Ok(Some(address)),
-            Err(ending) => Err(ending),
-        },
-        None => Ok(None),
-    }
-}
-
 // How a network spoils datagrams, if that stands there and says that.
 fn spoiling_in(matches: &ArgMatches<'_>) -> Result<Option<Spoiling>, CommonEnding>
     ensures read { IfOk result (λ network. IsRead spoiling_read (first_value (found_of matches.now) (codes "network")) network) }
     ensures refused { IfErr result (λ ending. fails (Common ending) ≡ true) }
 {
     network_in(matches.get_str("network"))
-}
-
-// The moment at which it ends, in ms, if that stands there.
-fn end_in(matches: &ArgMatches<'_>) -> Option<u64>
-    ensures { IsMoment (one_text (found_of matches.now) (codes "stop-after")) result }
-{
-    matches.get_one::<u64>("stop-after")
 }
 
 // What the program is asked to do by what stands behind its words. Its configuration is the word that stands by itself. It stands in a
@@ -145,7 +114,7 @@ fn settings_in<'a>(
         log: matches.get_flag("log"),
         capture: matches.get_str("capture"),
         network,
-        stop_after: end_in(matches),
+        stop_after: moment_behind(matches, "stop-after"),
     };
     match boxed(alloc, settings) {
         Ok(settings) => Ok(settings),

@@ -1,12 +1,12 @@
 -- What stands behind the words of the command line, and what they ask for by that.
-use Rattle.std.specs.Prelude.{◌≡◌, ◌<◌, ◌^◌, ℕ, Bool, true, false, codes, is_some, List, Option, None, Some, IsSome, IfSome, Ok, option_map}
+use Rattle.std.specs.Prelude.{◌≡◌, ℕ, codes, is_some, List, Option, None, Some, Ok, option_map}
 use Rattle.std.specs.Result.{result_ok}
-use Rattle.std.specs.Str.Parse.{IsNumeral, digits_value, without_leading_plus}
 use Rattle.std.specs.declared.net.socket_addr.SocketAddrV4.{SocketAddrV4}
 use Rattle.bad_network.specs.Parts.{spoiling_of}
 use Rattle.bad_network.specs.declared.spoiling.Spoiling.{Spoiling}
 use Rattle.clap.specs.Matches.{first_value, one_text}
 use Rattle.clap.specs.declared.parser.matches.Found.{Found}
+use Rattle.command_words.specs.Values.{IsBehind, IsMoment, IsRead, SaysFlag}
 use Rattle.live_ends.specs.Addresses.{IsAddress}
 use Rattle.new_start.specs.Words.{first_in, spread_in}
 use Rattle.rgwd_words.specs.declared.words.Settings.{Settings}
@@ -20,36 +20,14 @@ usual_listen = codes "127.0.0.1:2427"
 abbrev pub usual_phones : List ℕ
 usual_phones = codes "127.0.0.1:2428"
 
--- the address that a text behind a word says; none where nothing stands there
-abbrev pub IsBehind : Option (List ℕ) → Option SocketAddrV4 → Type 0
-IsBehind said None = said ≡ None
-IsBehind said (Some address) = (text : List ℕ) × (said ≡ Some text) × IsAddress text address
-
 -- the address that a text behind a word says, or this one where nothing stands there
 abbrev pub IsAt : List ℕ → Option (List ℕ) → SocketAddrV4 → Type 0
 IsAt usual None address = IsAddress usual address
 IsAt usual (Some text) address = IsAddress text address
 
--- what is read so of a text behind a word, which says something; nothing where none stands there
-abbrev pub IsRead : {A : Type 0} → (List ℕ → Option A) → Option (List ℕ) → Option A → Type 0
-IsRead reads None found = found ≡ None
-IsRead reads (Some text) found = (reads text ≡ found) × IsSome found
-
 -- how a network spoils datagrams, as a text says it, if it does
 abbrev pub spoiling_read : List ℕ → Option Spoiling
 spoiling_read text = result_ok (spoiling_of text)
-
--- the number of 64 bits that a text behind a word is, if it is one; none where none stands there
-abbrev pub IsMoment : Option (List ℕ) → Option ℕ → Type 0
-IsMoment None moment = moment ≡ None
-IsMoment (Some text) moment =
-    IfSome moment (λ ms. ms ≡ digits_value 10 (without_leading_plus text))
-    × (IsNumeral 10 (without_leading_plus text) × (digits_value 10 (without_leading_plus text) < 2 ^ 64) → IsSome moment)
-
--- a word that stands there or doesn't
-abbrev pub SaysFlag : Option (List ℕ) → Bool → Type 0
-SaysFlag said flag =
-    (said ≡ None → flag ≡ false) × (said ≡ Some (codes "true") → flag ≡ true) × (said ≡ Some (codes "false") → flag ≡ false)
 
 -- which sockets words ask for, and who is heard there: whom they say, and other machines' telephones where they say so
 pub record AsksSockets (found : Found) (sockets : Sockets) : Type 0 where

@@ -3,7 +3,8 @@ ghost use Rattle.std.specs.Prelude.{◌≡◌, ◌≢◌, ◌⊎◌, ℕ, true, 
 ghost use Rattle.live_ends.specs.Ending.{status_of as common_status};
 ghost use Rattle.rgwd_words.specs.Statuses.{status_of, is_asked, fails};
 ghost use Rattle.rgwd_words.specs.Texts.{unanswered_text, ending_text};
-ghost use Rattle.rgwd_words.specs.Names.{HasNames, Says};
+ghost use Rattle.command_words.specs.Files.{HasNames};
+ghost use Rattle.rgwd_words.specs.Names.{Says};
 
 use crate::help::of_program;
 use crate::parted::{MOST_FILES, MOST_MEGABYTES};

@@ -1,14 +1,13 @@
 //! Worked examples of the definitions, as theorems.
 #![tactic(auto, unfolding(crate::proofs::Computing::on_examples))]
 
-ghost use Rattle.std.specs.Prelude.{◌≡◌, ◌≢◌, ◌<◌, ◌+◌, ℕ, Bool, List, Option, codes, true, false, [], ◌∷◌, ◌++◌, map, option_map};
+ghost use Rattle.std.specs.Prelude.{◌≡◌, ◌≢◌, ◌<◌, ◌+◌, ℕ, List, codes, true, false, [], ◌∷◌, ◌++◌, map, option_map};
 ghost use Rattle.std.specs.Prelude.{Ok, Err, Some, None};
 ghost use Rattle.std.specs.Borrow.{Bor};
 ghost use Rattle.std.specs.Net.Addr.{IsUnspecifiedV4};
 ghost use Rattle.std.specs.Net.Grammar.{IsSocketV4Text};
 ghost use Rattle.std.specs.Net.Socket.{v4_ip, v4_port};
 ghost use Rattle.std.specs.Net.Text.{socket_v4_text};
-ghost use Rattle.std.specs.Str.Parse.{digits_value, without_leading_plus};
 ghost use Rattle.std.specs.declared.io.ErrorKind.{ErrorKind};
 ghost use Rattle.std.specs.declared.io.ErrorKind.TheVariants as kinds;
 ghost use Rattle.std.specs.declared.net.ipv4_addr.Ipv4Addr.{Ipv4Addr};
@@ -24,6 +23,7 @@ ghost use Rattle.live_ends.specs.Ending.{status_of as common_status, is_asked as
 ghost use Rattle.live_ends.specs.Wording.{joined};
 ghost use Rattle.clap.specs.Matches.{first_value, one_text};
 ghost use Rattle.clap.specs.declared.parser.matches.Found.{Found};
+ghost use Rattle.command_words.specs.Values.{IsBehind, IsRead};
 ghost use Rattle.live_outlets.specs.Reasons.{reason_of};
 ghost use Rattle.page_access.specs.Naming.{names_in};
 ghost use Rattle.rgw_scenes.specs.declared.flaw.Flaw.TheVariants as flaws;
@@ -38,8 +38,8 @@ ghost use Rattle.rgwd_words.specs.declared.words.ListFault.{ListFault};
 ghost use Rattle.rgwd_words.specs.declared.words.ListFault.TheVariants as faults;
 ghost use Rattle.rgwd_words.specs.declared.words.Settings.{Settings};
 ghost use Rattle.rgwd_words.specs.declared.words.Sockets.{Sockets};
-ghost use Rattle.rgwd_words.specs.Asking.{usual_listen, usual_phones, spoiling_read, IsAt, IsBehind, IsRead, IsMoment, SaysFlag, AsksSockets, Asks};
-ghost use Rattle.rgwd_words.specs.Names.{help_pieces, name_of, version_pieces, Says};
+ghost use Rattle.rgwd_words.specs.Asking.{usual_listen, usual_phones, spoiling_read, IsAt, AsksSockets, Asks};
+ghost use Rattle.rgwd_words.specs.Names.{help_pieces, version_pieces, Says};
 ghost use Rattle.rgwd_words.specs.Opening.{names_asked, RefusesNames, RefusesSpeakers, TellsPlace, TellsSocket, Unanswered};
 ghost use Rattle.rgwd_words.specs.Parting.{parting_of};
 ghost use Rattle.rgwd_words.specs.Replaying.{replayed_by};
@@ -105,30 +105,15 @@ pub fn an_ending_names_the_file_that_fails()
         → text ≡ codes "usage: " ++ (USAGE.now ++ codes "\n") }
     ensures help { (read written text : List ℕ) → Says read written (Common Help) text → text ≡ joined help_pieces }
     ensures version { (read written text : List ℕ) → Says read written (Common Version) text → text ≡ joined version_pieces }
-    // A file that isn't asked for has no name.
-    ensures no_file { name_of None ≡ [] }
-    ensures file { (name : Bor (List ℕ)) → name_of (Some name) ≡ name.now }
 {}
 
 /// Each sentence at an example.
 pub fn what_stands_behind_words_is_meant()
-    // An address is what the text behind its word says, or none, or a usual one, and a word stands there or doesn't.
-    ensures nothing { IsBehind None None }
-    ensures something { (text : List ℕ) → IsBehind (Some text) None → ⊥ }
-    ensures address { (text : List ℕ) (address : SocketAddrV4) → IsAddress text address → IsBehind (Some text) (Some address) }
+    // An address is what the text behind its word says, or a usual one.
     ensures listen { (address : SocketAddrV4) → IsAt usual_listen None address → IsSocketV4Text (codes "127.0.0.1:2427") address }
     ensures phones { (address : SocketAddrV4) → IsAt usual_phones None address → IsSocketV4Text (codes "127.0.0.1:2428") address }
     ensures said { (text : List ℕ) (address : SocketAddrV4) → IsAt usual_listen (Some text) address → IsAddress text address }
     ensures here { (address : SocketAddrV4) → IsAt usual_listen (Some (codes "localhost:4000")) address → address ≡ local_address 4000 }
-    ensures no_flag { (flag : Bool) → SaysFlag None flag → flag ≡ false }
-    ensures flag { (flag : Bool) → SaysFlag (Some (codes "true")) flag → flag ≡ true }
-    ensures flag_not { (flag : Bool) → SaysFlag (Some (codes "false")) flag → flag ≡ false }
-    // What is read of a text is what it says, and it says something; of no text nothing is.
-    ensures unread { (found : Option ℕ) → IsRead (λ text. Some 7) None found → found ≡ None }
-    ensures read { (text : List ℕ) (found : Option ℕ) → IsRead (λ text. Some 7) (Some text) found → found ≡ Some 7 }
-    ensures unreadable { (text : List ℕ) (found : Option ℕ) → IsRead (λ text. None) (Some text) found → ⊥ }
-    ensures no_moment { (moment : Option ℕ) → IsMoment None moment → moment ≡ None }
-    ensures moment { (ms : ℕ) (text : List ℕ) → IsMoment (Some text) (Some ms) → ms ≡ digits_value 10 (without_leading_plus text) }
     // Of who speaks, and of other machines' telephones, only what the words say counts.
     ensures speakers { (found : Found) (sockets : Sockets) → AsksSockets found sockets → first_value found (codes "agents") ≡ None
         → option_map (λ text. text.now) sockets.agents ≡ None }

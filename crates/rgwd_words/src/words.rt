@@ -1,12 +1,13 @@
 //! What the words of the command line ask for.
 ghost use Rattle.std.specs.Prelude.{◌≡◌, ◌≢◌, ◌⊎◌, true, Some, None, IfOk, IfErr, codes, is_some, option_copied, option_map};
-ghost use Rattle.clap.specs.Matches.{found_of, first_value, one_text};
+ghost use Rattle.clap.specs.Matches.{found_of, first_value};
+ghost use Rattle.command_words.specs.Files.{name_of, HasNames};
+ghost use Rattle.command_words.specs.Values.{IsBehind, IsRead};
 ghost use Rattle.live_ends.specs.Addresses.{IsAddress};
 ghost use Rattle.new_start.specs.Words.{first_in as first_read, spread_in as spread_read};
 ghost use Rattle.page_access.specs.Naming.{names_in, names_of};
 ghost use Rattle.surroundings.specs.Speaking.{admitted_by, admitted_in};
-ghost use Rattle.rgwd_words.specs.Asking.{spoiling_read, IsAt, IsBehind, IsRead, IsMoment, AsksSockets, Asks};
-ghost use Rattle.rgwd_words.specs.Names.{name_of, HasNames};
+ghost use Rattle.rgwd_words.specs.Asking.{spoiling_read, IsAt, AsksSockets, Asks};
 ghost use Rattle.rgwd_words.specs.Parting.{parting_of};
 ghost use Rattle.rgwd_words.specs.Statuses.{fails};
 
@@ -15,7 +16,7 @@ use crate::help::{LISTEN, PHONES, USAGE};
 use crate::parted::parting_of;
 use bad_network::Spoiling;
 use clap::{ArgMatches, Command};
-use command_words::{Kind, matches_in};
+use command_words::{Kind, address_behind, matches_in, moment_behind};
 use live_ends::{AddressWord, CommonEnding, FileNames, Parting, VERSION, address_in, network_in};
 use live_outlets::{Outlet, boxed};
 use new_start::{FirstNumber, spread_in};
@@ -178,24 +179,6 @@ fn address_at(
     }
 }
 
-// The address behind a word, if one stands there.
-fn address_behind(
-    matches: &ArgMatches<'_>,
-    name: &str,
-    word: AddressWord,
-) -> Result<Option<SocketAddrV4>, Ending>
-    ensures read { IfOk result (λ found. IsBehind (first_value (found_of matches.now) name.now) found) }
-    ensures refused { IfErr result (λ ending. fails ending ≡ true) }
-{
-    match matches.get_str(name) {
-        Some(text) => match address_in(word, text) {
-            Ok(address) => Ok(Some(address)),
-            Err(ending) => Err(Ending::Common(ending)),
-        },
-        None => Ok(None),
-    }
-}
-
 // The address of the site, if that stands there: one of the machine's, since the page answers only those who name its address; or where
 // it has further names, any. What says these, if that stands there, does say names.
 fn site_in(alloc: Global, matches: &ArgMatches<'_>) -> Result<Option<SocketAddrV4>, Ending>
@@ -205,7 +188,7 @@ fn site_in(alloc: Global, matches: &ArgMatches<'_>) -> Result<Option<SocketAddrV
     let names = matches.get_str("http-host");
     let site = match address_behind(matches, "http", AddressWord::Http) {
         Ok(site) => site,
-        Err(ending) => return Err(ending),
+        Err(ending) => return Err(Ending::Common(ending)),
     };
     if names.is_none() && matches!(site, Some(address) if address.ip().is_unspecified()) {
         return Err(Ending::AnyAddress);
@@ -319,13 +302,6 @@ fn longest_wait_in(matches: &ArgMatches<'_>) -> Result<Option<u32>, Ending>
     }
 }
 
-// The moment at which it ends, in ms, if that stands there.
-fn end_in(matches: &ArgMatches<'_>) -> Option<u64>
-    ensures { IsMoment (one_text (found_of matches.now) (codes "stop-after")) result }
-{
-    matches.get_one::<u64>("stop-after")
-}
-
 fn sockets_in<'a>(alloc: Global, matches: &ArgMatches<'a>) -> Result<Sockets<'a>, Ending>
     ensures asks { IfOk result (λ sockets. AsksSockets (found_of matches.now) sockets) }
     ensures refused { IfErr result (λ ending. fails ending ≡ true) }
@@ -397,7 +373,7 @@ fn settings_with<'a>(
         network,
         first,
         spread,
-        stop_after: end_in(matches),
+        stop_after: moment_behind(matches, "stop-after"),
     };
     match boxed(alloc, settings) {
         Ok(settings) => Ok(settings),
