@@ -2,9 +2,10 @@
 use Rattle.std.specs.Prelude.{⊤}
 use Rattle.mg_bytes.proofs.Computing.{on_examples as byte_examples}
 use Rattle.bad_network.specs.Spelling.{percent_of, span_of}
-use Rattle.bad_network.specs.Parts.{with_parts, spoiling_of}
+use Rattle.bad_network.specs.Parts.{with_items, spoiling_of}
 use Rattle.bad_network.specs.Waiting.{place_in, put_in}
+use Rattle.bad_network.specs.Ways.{number_on, fates_on}
 
 unfoldable pub on_examples : ⊤
-unfolding byte_examples percent_of span_of with_parts spoiling_of place_in put_in
+unfolding byte_examples percent_of span_of with_items spoiling_of place_in put_in number_on fates_on
 on_examples = tt

@@ -1,9 +1,11 @@
 -- Seeds that are mixed with names stay apart.
-use Rattle.std.proofs.Common.{◌≡◌, ℕ, ◌*◌, ◌%◌, ◌^◌, ◌<◌, List, [], ◌∷◌, ◌++◌, All, refl, sym, ap, ◌∙◌, arith, mul_assoc}
-use Rattle.std.specs.Prelude.{bit_xor, fold}
+use Rattle.std.proofs.Common.{◌≡◌, ℕ, ◌*◌, ◌%◌, ◌^◌, ◌<◌, List, [], ◌∷◌, ◌++◌, All, sym, ap, ◌∙◌, arith, mul_assoc}
+use Rattle.std.specs.Prelude.{bit_xor}
 use Rattle.std.specs.Int.Bits.{xor_assoc, xor_self, xor_zero_r}
 use Rattle.std.proofs.lemmas.Nat.{mul-mod_first, mul-mod_second, xor_lt, xor_comm, mod_below}
 use Rattle.std.proofs.lemmas.List.Elements.{All-head, All-tail}
+use Rattle.bad_network.specs.declared.packet.Way.TheVariants.{In, Out}
+use Rattle.bad_network.specs.Drawing.{letter_of}
 use Rattle.bad_network.specs.Naming.{fnv_prime, mixed_with, mixed}
 
 abbrev pub IsByte : ℕ → Type 0
@@ -59,3 +61,9 @@ names_apart [] behind seed a b bytes small few other same =
     bytes_of seed a b small few other (seeds_apart behind (mixed_with seed a) (mixed_with seed b) bytes (fits _) (fits _) same)
 names_apart (byte ∷ front) behind seed a b bytes small few other same =
     names_apart front behind (mixed_with seed byte) a b bytes (fits _) few other same
+
+-- of one seed, and the letters of both ways
+pub letters_apart : (seed : ℕ) → seed < 2 ^ 64 → mixed_with seed (letter_of In) ≡ mixed_with seed (letter_of Out) → ⊥
+letters_apart seed small same =
+    let letters : letter_of In ≡ letter_of Out = bytes_of seed (letter_of In) (letter_of Out) small (omega arith) (omega arith) same in
+    omega (arith, letters)

@@ -8,7 +8,7 @@ use Rattle.std.proofs.lemmas.List.{append-nil}
 use Rattle.std.proofs.lemmas.List.Elements.{All-nil, All-cons}
 use Rattle.std.proofs.lemmas.List.Sorted.{IsPermutation-refl, IsPermutation-sym, IsPermutation-trans, IsPermutation-middle, IsPermutation-append_left, IsPermutation-append_right, IsPermutation-append_comm}
 use Rattle.bad_network.specs.declared.draws.Draws.{Draws}
-use Rattle.bad_network.specs.declared.spoiling.Spoiling.{Spoiling}
+use Rattle.bad_network.specs.declared.spoiling.Impairment.{Impairment}
 use Rattle.bad_network.specs.declared.fate.Fate.{Fate}
 use Rattle.bad_network.specs.declared.fate.Fate.TheVariants.{Lost, Once, Twice}
 use Rattle.bad_network.specs.declared.packet.Packet.{Packet}
@@ -42,8 +42,8 @@ IsTimely now p = (now ≤ p.due) × (p.due ≤ now + 10000)
 late_enough : (now late : ℕ) → now < 2 ^ 64 → late ≤ 10000 → (now ≤ later now late) × (later now late ≤ now + 10000)
 late_enough now late within soon = (omega arith, omega arith)
 
-soon : (spoiling : Spoiling) (draw : ℕ) → lateness spoiling draw ≤ 10000
-soon spoiling draw = omega arith
+soon : (impairment : Impairment) (draw : ℕ) → lateness impairment draw ≤ 10000
+soon impairment draw = omega arith
 
 timely_once : (way : Way) (peer : SocketAddrV4) (bytes : List ℕ) (now late : ℕ) → now < 2 ^ 64 → late ≤ 10000
     → All (IsTimely now) (packet_of way peer bytes now late ∷ [])
@@ -56,21 +56,21 @@ timely_twice way peer bytes now first second within soon next =
     All-cons (IsTimely now) (packet_of way peer bytes now first) (packet_of way peer bytes now second ∷ [])
     (late_enough now first within soon) (timely_once way peer bytes now second within next)
 
-pub copies_are_timely : (spoiling : Spoiling) (draws : Draws) (way : Way) (peer : SocketAddrV4) (bytes : List ℕ) (now : ℕ) → now < 2 ^ 64
-    → All (λ p. (now ≤ p.due) × (p.due ≤ now + 10000)) (copies_of (fate_of spoiling draws) way peer bytes now)
-copies_are_timely spoiling draws way peer bytes now within = by_loss (is_hit spoiling.lose draws.lost) refl where
-  by_copy : (b : Bool) → is_hit spoiling.lose draws.lost ≡ false → is_hit spoiling.copy draws.copied ≡ b
-      → All (IsTimely now) (copies_of (fate_of spoiling draws) way peer bytes now)
+pub copies_are_timely : (impairment : Impairment) (draws : Draws) (way : Way) (peer : SocketAddrV4) (bytes : List ℕ) (now : ℕ) → now < 2 ^ 64
+    → All (λ p. (now ≤ p.due) × (p.due ≤ now + 10000)) (copies_of (fate_of impairment draws) way peer bytes now)
+copies_are_timely impairment draws way peer bytes now within = by_loss (is_hit impairment.lose draws.lost) refl where
+  by_copy : (b : Bool) → is_hit impairment.lose draws.lost ≡ false → is_hit impairment.copy draws.copied ≡ b
+      → All (IsTimely now) (copies_of (fate_of impairment draws) way peer bytes now)
   by_copy true lost copied =
       rw (lost, copied)
-      (timely_twice way peer bytes now (lateness spoiling draws.first) (lateness spoiling draws.second) within (soon spoiling draws.first) (soon spoiling draws.second))
+      (timely_twice way peer bytes now (lateness impairment draws.first) (lateness impairment draws.second) within (soon impairment draws.first) (soon impairment draws.second))
   by_copy false lost copied =
-      rw (lost, copied) (timely_once way peer bytes now (lateness spoiling draws.first) within (soon spoiling draws.first))
+      rw (lost, copied) (timely_once way peer bytes now (lateness impairment draws.first) within (soon impairment draws.first))
 
-  by_loss : (b : Bool) → is_hit spoiling.lose draws.lost ≡ b
-      → All (IsTimely now) (copies_of (fate_of spoiling draws) way peer bytes now)
+  by_loss : (b : Bool) → is_hit impairment.lose draws.lost ≡ b
+      → All (IsTimely now) (copies_of (fate_of impairment draws) way peer bytes now)
   by_loss true lost = rw lost (All-nil (IsTimely now))
-  by_loss false lost = by_copy (is_hit spoiling.copy draws.copied) lost refl
+  by_loss false lost = by_copy (is_hit impairment.copy draws.copied) lost refl
 
 -- ---- what is handed out
 

@@ -1,14 +1,23 @@
 -- What the worked examples share.
-use Rattle.std.specs.Prelude.{ℕ, List, [], ◌∷◌}
+use Rattle.std.specs.Prelude.{ℕ, [], ◌∷◌}
 use Rattle.std.specs.declared.net.socket_addr.SocketAddrV4.{SocketAddrV4}
 use Rattle.bad_network.specs.declared.draws.Draws.{Draws}
 use Rattle.bad_network.specs.declared.packet.Packet.{Packet}
 use Rattle.bad_network.specs.declared.packet.Way.TheVariants.{In}
+use Rattle.bad_network.specs.declared.spoiling.Impairment.{Impairment}
 use Rattle.bad_network.specs.declared.spoiling.Spoiling.{Spoiling}
 
 -- 10 of 100 are lost, 5 come twice, and each is from 100 to 3,000 ms late
-abbrev pub rough : Spoiling
+abbrev pub rough : Impairment
 rough = record { lose = 10; copy = 5; least = 100; most = 3000; seed = 7 }
+
+-- nothing is spoilt
+abbrev pub clear : Impairment
+clear = record { lose = 0; copy = 0; least = 0; most = 0; seed = 1 }
+
+-- both ways are spoilt so
+abbrev pub both : Impairment → Spoiling
+both impairment = record { incoming = impairment; outgoing = impairment }
 
 abbrev pub drawn : ℕ → ℕ → ℕ → ℕ → Draws
 drawn lost copied first second = record { lost = lost; copied = copied; first = first; second = second }

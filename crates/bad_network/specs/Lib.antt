@@ -1,8 +1,9 @@
 pub mod Spelling
 pub mod Parts
-pub mod Drawing
 pub mod Naming
+pub mod Drawing
 pub mod Fates
 pub mod Waiting
 pub mod Passing
+pub mod Ways
 pub mod Example

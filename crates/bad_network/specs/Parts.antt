@@ -1,4 +1,4 @@
--- What a text says of a network, as `lose 10%, copy 5%, late 0-3000, seed 7` (this program's profile).
+-- What a text says of a network, as `lose 10%, in copy 5%, out late 0-3000, seed 7` (this program's profile).
 use Rattle.std.specs.Prelude.{ℕ, codes, if◌then◌else◌, bytes_eq, List, [], ◌∷◌, Option, Some, None, Result, Ok, Err}
 use Rattle.std.specs.Option.{unwrap_or}
 use Rattle.mg_bytes.specs.Steps.{◌>>=◌}
@@ -7,7 +7,9 @@ use Rattle.mg_bytes.specs.Blanks.{trimmed}
 use Rattle.mg_bytes.specs.Items.{items_of}
 use Rattle.mg_bytes.specs.Numbers.{decimal_of}
 use Rattle.mg_bytes.specs.Words.{split_once}
+use Rattle.bad_network.specs.declared.spoiling.Impairment.{Impairment}
 use Rattle.bad_network.specs.declared.spoiling.Parts.{Parts}
+use Rattle.bad_network.specs.declared.spoiling.WayParts.{WayParts}
 use Rattle.bad_network.specs.declared.spoiling.Spoiling.{Spoiling}
 use Rattle.bad_network.specs.declared.spoiling.SpoilingFault.{SpoilingFault}
 use Rattle.bad_network.specs.declared.spoiling.SpoilingFault.TheVariants.{Lose, Copy, Late, Seed, Other}
@@ -16,7 +18,10 @@ use Rattle.bad_network.specs.Spelling.{percent_of, span_of}
 abbrev pub no_parts : Parts
 no_parts = record { lose = None; copy = None; late = None; seed = None }
 
--- a part stands there once, and its value is one
+abbrev pub nothing_said : WayParts
+nothing_said = record { incoming = no_parts; outgoing = no_parts }
+
+-- a part stands there once for a way, and its value is one
 abbrev pub put_once : {A : Type 0} → Option A → Option A → SpoilingFault → (A → Parts) → Result Parts SpoilingFault
 put_once None None fault put = Err fault
 put_once None (Some found) fault put = Ok (put found)
@@ -48,13 +53,35 @@ with_named parts (Some sides) =
 abbrev pub with_part : Parts → List ℕ → Result Parts SpoilingFault
 with_part parts item = with_named parts (split_once space item)
 
--- parts in their order; the first that is wrong is the fault
-unfoldable pub with_parts : Parts → List (List ℕ) → Result Parts SpoilingFault
-with_parts parts [] = Ok parts
-with_parts parts (item ∷ items) = with_part parts item >>= λ more. with_parts more items
+-- a part that stands there without a way is of both
+abbrev pub with_both : WayParts → List ℕ → Result WayParts SpoilingFault
+with_both parts item = with_part parts.incoming item >>= λ incoming.
+    with_part parts.outgoing item >>= λ outgoing. Ok (record { incoming = incoming; outgoing = outgoing })
 
--- where a part is missing, nothing is lost, copied or late, and the seed is 1
-abbrev pub made_of : Parts → Spoiling
+abbrev pub with_incoming : WayParts → Result Parts SpoilingFault → Result WayParts SpoilingFault
+with_incoming parts read = read >>= λ incoming. Ok (record parts { incoming = incoming })
+
+abbrev pub with_outgoing : WayParts → Result Parts SpoilingFault → Result WayParts SpoilingFault
+with_outgoing parts read = read >>= λ outgoing. Ok (record parts { outgoing = outgoing })
+
+-- `in` or `out` in front of it says of which it is
+abbrev pub with_way : WayParts → List ℕ → Option (List ℕ × List ℕ) → Result WayParts SpoilingFault
+with_way parts item None = Err Other
+with_way parts item (Some sides) =
+    if bytes_eq sides.0 (codes "in") then with_incoming parts (with_part parts.incoming (trimmed sides.1))
+    else if bytes_eq sides.0 (codes "out") then with_outgoing parts (with_part parts.outgoing (trimmed sides.1))
+    else with_both parts item
+
+abbrev pub with_item : WayParts → List ℕ → Result WayParts SpoilingFault
+with_item parts item = with_way parts item (split_once space item)
+
+-- parts in their order; the first that is wrong is the fault
+unfoldable pub with_items : WayParts → List (List ℕ) → Result WayParts SpoilingFault
+with_items parts [] = Ok parts
+with_items parts (item ∷ items) = with_item parts item >>= λ more. with_items more items
+
+-- where a part is missing, nothing is lost, copied or late that way, and the seed is 1
+abbrev pub made_of : Parts → Impairment
 made_of parts = record {
   lose = unwrap_or parts.lose 0;
   copy = unwrap_or parts.copy 0;
@@ -65,4 +92,5 @@ made_of parts = record {
 
 -- what a text says: its parts, which commas part
 unfoldable pub spoiling_of : List ℕ → Result Spoiling SpoilingFault
-spoiling_of text = with_parts no_parts (items_of text) >>= λ parts. Ok (made_of parts)
+spoiling_of text = with_items nothing_said (items_of text)
+    >>= λ parts. Ok (record { incoming = made_of parts.incoming; outgoing = made_of parts.outgoing })

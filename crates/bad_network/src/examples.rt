@@ -2,15 +2,19 @@
 #![tactic(auto, unfolding(crate::proofs::Computing::on_examples))]
 
 ghost use Rattle.std.specs.Prelude.{◌≡◌, codes, [], ◌∷◌, Some, None, Ok, Err};
+ghost use Rattle.bad_network.specs.declared.draws.Generators.{Generators};
 ghost use Rattle.bad_network.specs.declared.fate.Fate.TheVariants.{Lost, Once, Twice};
 ghost use Rattle.bad_network.specs.declared.packet.Way.TheVariants.{In, Out};
+ghost use Rattle.bad_network.specs.declared.spoiling.Spoiling.{Spoiling};
 ghost use Rattle.bad_network.specs.declared.spoiling.SpoilingFault.TheVariants as faults;
 ghost use Rattle.bad_network.specs.Spelling.{percent_of, span_of};
 ghost use Rattle.bad_network.specs.Parts.{spoiling_of};
 ghost use Rattle.bad_network.specs.Naming.{mixed, named};
-ghost use Rattle.bad_network.specs.Fates.{fate_of, lateness};
+ghost use Rattle.bad_network.specs.Drawing.{seeded, generators_of, after_draws, after_draws_on};
+ghost use Rattle.bad_network.specs.Fates.{fate_of, lateness, impairment_on, fate_on};
 ghost use Rattle.bad_network.specs.Waiting.{packet_of, copies_of, put_in, put_all, first_due, taken};
-ghost use Rattle.bad_network.specs.Example.{rough, drawn, peer, packet};
+ghost use Rattle.bad_network.specs.Ways.{number_on, fates_on};
+ghost use Rattle.bad_network.specs.Example.{rough, clear, both, drawn, peer, packet};
 
 /// Each sentence at an example.
 pub fn each_sentence_has_an_example()
@@ -27,10 +31,19 @@ pub fn each_sentence_has_an_example()
     ensures too_late { span_of (codes "0-10001") ≡ None }
     ensures numbers_have_their_bounds_one { span_of (codes "5") ≡ None }
     // Parts stand in any order, and where one is missing nothing is spoilt, with the seed 1.
-    ensures whole { spoiling_of (codes "lose 10%, copy 5%, late 100-3000, seed 7") ≡ Ok rough }
-    ensures a_text_says_how_a_network_spoils_turned { spoiling_of (codes "seed 7,late 100-3000,copy  5%,lose 10%") ≡ Ok rough }
+    ensures whole { spoiling_of (codes "lose 10%, copy 5%, late 100-3000, seed 7") ≡ Ok (both rough) }
+    ensures a_text_says_how_a_network_spoils_turned { spoiling_of (codes "seed 7,late 100-3000,copy  5%,lose 10%") ≡ Ok (both rough) }
     ensures a_text_says_how_a_network_spoils_one { spoiling_of (codes "late 0-20")
-        ≡ Ok (record { lose = 0; copy = 0; least = 0; most = 20; seed = 1 }) }
+        ≡ Ok (both (record clear { most = 20 })) }
+    // With a way in front a part is of that way alone.
+    ensures by_way { spoiling_of (codes "in lose 10%, out late 0-500")
+        ≡ Ok (record { incoming = record clear { lose = 10 }; outgoing = record clear { most = 500 } }) }
+    ensures of_both { spoiling_of (codes "out  copy 5%, seed 7, out lose 1%")
+        ≡ Ok (record { incoming = record clear { seed = 7 }; outgoing = record { lose = 1; copy = 5; least = 0; most = 0; seed = 7 } }) }
+    ensures twice_for_a_way { spoiling_of (codes "lose 1%, out lose 2%") ≡ Err faults.Lose }
+    ensures way_twice { spoiling_of (codes "in late 1-2, late 1-2") ≡ Err faults.Late }
+    ensures both_ways { spoiling_of (codes "in out lose 1%") ≡ Err faults.Other }
+    ensures way_alone { spoiling_of (codes "in") ≡ Err faults.Other }
     // The first part that is wrong is the fault.
     ensures lose { spoiling_of (codes "lose 101%, copy 101%") ≡ Err faults.Lose }
     ensures copy { spoiling_of (codes "lose 1%, copy") ≡ Err faults.Other }
@@ -53,8 +66,9 @@ pub fn further_sentences_have_examples()
     ensures word { mixed 14695981039346656037 (codes "foobar") ≡ 9625390261332436968 }
     ensures short { mixed 7 (codes "a") ≡ 112150186077522 }
     ensures domain { mixed 7 (codes "rgw.example.net") ≡ 4552955192935780764 }
-    ensures seeds_are_mixed_with_names_none { named rough [] ≡ rough }
-    ensures seed_alone { named rough (codes "b") ≡ record { lose = 10; copy = 5; least = 100; most = 3000; seed = 111050674449311 } }
+    ensures seeds_are_mixed_with_names_none { named (both rough) [] ≡ both rough }
+    ensures seed_alone { named (record { incoming = rough; outgoing = clear }) (codes "b")
+        ≡ record { incoming = record rough { seed = 111050674449311 }; outgoing = record clear { seed = 108851651192889 } } }
     // The draw for loss goes before that for a copy, and each copy has a lateness of its own.
     ensures fates_are_drawn_lost { fate_of rough (drawn 109 0 0 0) ≡ Lost }
     ensures just_not { fate_of rough (drawn 110 5 0 0) ≡ Once 100 }
@@ -77,4 +91,24 @@ pub fn further_sentences_have_examples()
     ensures early { taken 6 (packet 1 7 ∷ []) ≡ (None, packet 1 7 ∷ []) }
     ensures due { taken 7 (packet 1 7 ∷ packet 2 7 ∷ []) ≡ (Some (packet 1 7), packet 2 7 ∷ []) }
     ensures empty { taken 7 [] ≡ (None, []) }
+{}
+
+/// Each sentence at an example.
+pub fn ways_have_examples()
+    // A way's generator begins by its seed and its letter.
+    ensures each_way_has_its_letter { generators_of (both rough)
+        ≡ record { incoming = seeded 120946279103210; outgoing = seeded 114349209333944 } }
+    // What goes one way is spoilt as that is said, and draws from its own generator alone.
+    ensures in_alone { impairment_on In (record { incoming = rough; outgoing = clear }) ≡ rough }
+    ensures out_alone { impairment_on Out (record { incoming = rough; outgoing = clear }) ≡ clear }
+    ensures a_way_draws_for_itself_in { (generators : Generators) → after_draws_on In generators
+        ≡ record { incoming = after_draws generators.incoming; outgoing = generators.outgoing } }
+    ensures a_way_draws_for_itself_out { (generators : Generators) → after_draws_on Out generators
+        ≡ record { incoming = generators.incoming; outgoing = after_draws generators.outgoing } }
+    // Two announcements go out: what becomes of them is the same where three audits come between them.
+    ensures counted { number_on Out (Out ∷ In ∷ In ∷ In ∷ Out ∷ []) ≡ 2 }
+    ensures what_comes_changes_nothing_of_what_goes { (spoiling : Spoiling) (generators : Generators) →
+        fates_on Out spoiling generators (Out ∷ In ∷ In ∷ In ∷ Out ∷ []) ≡ fates_on Out spoiling generators (Out ∷ Out ∷ []) }
+    ensures what_becomes_of_them { (spoiling : Spoiling) (generators : Generators) →
+        fates_on Out spoiling generators (In ∷ Out ∷ []) ≡ fate_on Out spoiling generators ∷ [] }
 {}

@@ -3,7 +3,7 @@ ghost use Rattle.std.specs.Prelude.{◌≡◌};
 ghost use Rattle.bad_network.specs.Fates.{is_hit, lateness, fate_of};
 
 use crate::draws::Draws;
-use crate::spoiling::{LATEST, Spoiling};
+use crate::spoiling::{Impairment, LATEST};
 
 /// What becomes of a packet. Times are in ms, at most 10,000.
 #[derive(Clone, Copy)]
@@ -22,24 +22,24 @@ fn is_hit(percent: u8, draw: u32) -> bool
     draw % 100 < u32::from(percent)
 }
 
-fn lateness(spoiling: Spoiling, draw: u32) -> u64
-    ensures { result ≡ lateness spoiling draw }
+fn lateness(impairment: Impairment, draw: u32) -> u64
+    ensures { result ≡ lateness impairment draw }
 {
-    let least = u64::from(spoiling.least);
-    let more = u64::from(spoiling.most).saturating_sub(least);
+    let least = u64::from(impairment.least);
+    let more = u64::from(impairment.most).saturating_sub(least);
     (least + u64::from(draw) % (more + 1)).min(LATEST)
 }
 
-/// What becomes of a packet for which these words were drawn.
-pub(crate) fn fate_of(spoiling: Spoiling, draws: Draws) -> Fate
-    ensures { result ≡ fate_of spoiling draws }
+/// What becomes of a packet that goes a way spoilt so, and for which these words were drawn.
+pub(crate) fn fate_of(impairment: Impairment, draws: Draws) -> Fate
+    ensures { result ≡ fate_of impairment draws }
 {
-    if is_hit(spoiling.lose, draws.lost) {
+    if is_hit(impairment.lose, draws.lost) {
         return Fate::Lost;
     }
-    let first = lateness(spoiling, draws.first);
-    if is_hit(spoiling.copy, draws.copied) {
-        let second = lateness(spoiling, draws.second);
+    let first = lateness(impairment, draws.first);
+    if is_hit(impairment.copy, draws.copied) {
+        let second = lateness(impairment, draws.second);
         return Fate::Twice { first, second };
     }
     Fate::Once { late: first }

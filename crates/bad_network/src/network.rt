@@ -1,15 +1,14 @@
 //! The network.
 ghost use Rattle.std.specs.Prelude.{◌≡◌, ◌≤◌, length, OnOk, OnErr, IfOk, []};
-ghost use Rattle.bad_network.specs.Drawing.{seeded as generator_of, draws_of, after_draws};
-ghost use Rattle.bad_network.specs.Fates.{fate_of as fate_by};
+ghost use Rattle.bad_network.specs.Drawing.{generators_of, after_draws_on};
+ghost use Rattle.bad_network.specs.Fates.{fate_on};
 ghost use Rattle.bad_network.specs.Waiting.{packet_of, copies_of, place_in, put_in, put_all, first_due, taken, IsPutInPart};
 
-use crate::draws::{draw, seeded};
+use crate::draws::Generators;
 use crate::fate::{Fate, fate_of};
 use crate::packet::{Packet, Way};
 use crate::spoiling::Spoiling;
 use mg_bytes::{OutOfMemory, Text};
-use rand_pcg::Pcg32;
 use std::alloc::Global;
 use std::collections::VecDeque;
 use std::net::SocketAddrV4;
@@ -19,7 +18,7 @@ use std::net::SocketAddrV4;
 pub struct BadNetwork {
     alloc: Global,
     spoiling: Spoiling,
-    generator: Pcg32,
+    generators: Generators,
     // Those that are on their way, in the order in which they are handed out.
     waiting: VecDeque<Packet>,
 }
@@ -63,13 +62,13 @@ impl BadNetwork {
     /// A network on which nothing is on its way yet.
     pub fn new(alloc: Global, spoiling: Spoiling) -> BadNetwork
         ensures spoiling { result.spoiling ≡ spoiling }
-        ensures generator { result.generator ≡ generator_of spoiling.seed }
+        ensures generators { result.generators ≡ generators_of spoiling }
         ensures waiting { result.waiting.items ≡ [] }
     {
         BadNetwork {
             alloc,
             spoiling,
-            generator: seeded(spoiling.seed),
+            generators: Generators::of(spoiling),
             waiting: VecDeque::new(alloc),
         }
     }
@@ -79,7 +78,7 @@ impl BadNetwork {
         ensures ok { OnOk result (self.new.waiting.items ≡ put_in packet self.old.waiting.items) }
         ensures err { OnErr result (self.new.waiting.items ≡ self.old.waiting.items) }
         ensures spoiling { self.new.spoiling ≡ self.old.spoiling }
-        ensures generator { self.new.generator ≡ self.old.generator }
+        ensures generators { self.new.generators ≡ self.old.generators }
     {
         let place = place_in(&self.waiting, packet.due);
         self.waiting.insert(place, packet)?;
@@ -98,7 +97,7 @@ impl BadNetwork {
         ensures ok { OnOk result (self.new.waiting.items ≡ put_in (packet_of way peer bytes.now now late) self.old.waiting.items) }
         ensures err { OnErr result (self.new.waiting.items ≡ self.old.waiting.items) }
         ensures spoiling { self.new.spoiling ≡ self.old.spoiling }
-        ensures generator { self.new.generator ≡ self.old.generator }
+        ensures generators { self.new.generators ≡ self.old.generators }
     {
         let packet = packet_of(self.alloc, way, peer, bytes, now, late)?;
         self.put_in(packet)
@@ -118,7 +117,7 @@ impl BadNetwork {
         ensures err { OnErr result (IsPutInPart (copies_of fate way peer bytes.now now)
             self.old.waiting.items self.new.waiting.items) }
         ensures spoiling { self.new.spoiling ≡ self.old.spoiling }
-        ensures generator { self.new.generator ≡ self.old.generator }
+        ensures generators { self.new.generators ≡ self.old.generators }
     {
         match fate {
             Fate::Lost => Ok(()),
@@ -131,7 +130,7 @@ impl BadNetwork {
     }
 
     /// Offers a packet at this moment, in ms, and gives what becomes of it: it is lost, or one or two copies are on their way, each
-    /// of which comes as late as its fate says. Where memory is refused none is on its way, or the first of two alone.
+    /// of which comes as late as its fate says. That is drawn by its way's own generator. Where memory is refused none is on its way, or the first of two alone.
     pub fn offer(
         &mut self,
         way: Way,
@@ -139,16 +138,16 @@ impl BadNetwork {
         bytes: &[u8],
         now: u64,
     ) -> Result<Fate, OutOfMemory>
-        ensures fate { IfOk result (λ fate. fate ≡ fate_by self.old.spoiling (draws_of self.old.generator)) }
+        ensures fate { IfOk result (λ fate. fate ≡ fate_on way self.old.spoiling self.old.generators) }
         ensures ok { OnOk result (self.new.waiting.items
-            ≡ put_all (copies_of (fate_by self.old.spoiling (draws_of self.old.generator)) way peer bytes.now now) self.old.waiting.items) }
-        ensures err { OnErr result (IsPutInPart (copies_of (fate_by self.old.spoiling (draws_of self.old.generator)) way peer bytes.now now)
+            ≡ put_all (copies_of (fate_on way self.old.spoiling self.old.generators) way peer bytes.now now) self.old.waiting.items) }
+        ensures err { OnErr result (IsPutInPart (copies_of (fate_on way self.old.spoiling self.old.generators) way peer bytes.now now)
             self.old.waiting.items self.new.waiting.items) }
         ensures spoiling { self.new.spoiling ≡ self.old.spoiling }
-        ensures generator { self.new.generator ≡ after_draws self.old.generator }
+        ensures generators { self.new.generators ≡ after_draws_on way self.old.generators }
     {
-        let draws = draw(&mut self.generator);
-        let fate = fate_of(self.spoiling, draws);
+        let draws = self.generators.draw(way);
+        let fate = fate_of(self.spoiling.on(way), draws);
         self.put_all(fate, way, peer, bytes, now)?;
         Ok(fate)
     }
@@ -168,7 +167,7 @@ impl BadNetwork {
     pub fn take_due(&mut self, now: u64) -> Option<Packet>
         ensures taken { (result, self.new.waiting.items) ≡ taken now self.old.waiting.items }
         ensures spoiling { self.new.spoiling ≡ self.old.spoiling }
-        ensures generator { self.new.generator ≡ self.old.generator }
+        ensures generators { self.new.generators ≡ self.old.generators }
     {
         let due = self.next_due()?;
         if now < due {

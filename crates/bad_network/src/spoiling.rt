@@ -3,16 +3,19 @@ ghost use Rattle.std.specs.Prelude.{◌≡◌};
 ghost use Rattle.mg_bytes.specs.Items.{items_of};
 ghost use Rattle.mg_bytes.specs.Numbers.{decimal_of};
 ghost use Rattle.bad_network.specs.Spelling.{percent_of, span_of};
-ghost use Rattle.bad_network.specs.Parts.{with_lose, with_copy, with_late, with_seed, with_part, with_parts, spoiling_of, no_parts};
+ghost use Rattle.bad_network.specs.Fates.{impairment_on};
+ghost use Rattle.bad_network.specs.Parts.{with_lose, with_copy, with_late, with_seed, with_part, with_both, with_item, with_items};
+ghost use Rattle.bad_network.specs.Parts.{made_of, spoiling_of, nothing_said};
 
+use crate::packet::Way;
 use mg_bytes::{decimal, list_items, split_once, trimmed};
 
 /// A packet is never later than this, in ms: none is older than 10 seconds when it is handed over (RFC 3435, 3.5).
 pub const LATEST: u64 = 10_000;
 
-/// How a network spoils what goes over it.
+/// How a network spoils what goes one way.
 #[derive(Clone, Copy)]
-pub struct Spoiling {
+pub struct Impairment {
     /// So many packets of 100 are lost.
     pub lose: u8,
     /// So many of 100 others come twice.
@@ -24,28 +27,42 @@ pub struct Spoiling {
     pub seed: u64,
 }
 
+/// How a network spoils what goes over it, each way.
+#[derive(Clone, Copy)]
+pub struct Spoiling {
+    pub incoming: Impairment,
+    pub outgoing: Impairment,
+}
+
 /// What part of a text says nothing of a network.
 #[derive(Clone, Copy)]
 pub enum SpoilingFault {
-    /// `lose` stands there twice, or without a percentage.
+    /// `lose` stands there twice for one way, or without a percentage.
     Lose,
     /// `copy` does.
     Copy,
-    /// `late` stands there twice, or without a least and a most time of at most 10,000 ms.
+    /// `late` stands there twice for one way, or without a least and a most time of at most 10,000 ms.
     Late,
-    /// `seed` stands there twice, or without a number.
+    /// `seed` stands there twice for one way, or without a number.
     Seed,
     /// Another word stands there.
     Other,
 }
 
-// The parts that were read so far.
+// The parts of one way that were read so far.
 #[derive(Clone, Copy)]
 pub struct Parts {
     lose: Option<u8>,
     copy: Option<u8>,
     late: Option<(u16, u16)>,
     seed: Option<u64>,
+}
+
+// The parts of both.
+#[derive(Clone, Copy)]
+pub struct WayParts {
+    incoming: Parts,
+    outgoing: Parts,
 }
 
 // The number in `N%`, at most 100.
@@ -150,37 +167,87 @@ fn with_part(parts: Parts, item: &[u8]) -> Result<Parts, SpoilingFault>
     }
 }
 
-#[tactic(auto, unfolding(crate::specs::Parts::with_parts))]
-fn parts_in(text: &[u8]) -> Result<Parts, SpoilingFault>
-    ensures { result ≡ with_parts no_parts (items_of text.now) }
+// A part that stands there without a way is of both.
+fn with_both(parts: WayParts, item: &[u8]) -> Result<WayParts, SpoilingFault>
+    ensures { result ≡ with_both parts item.now }
 {
-    let mut parts = Parts {
+    let incoming = with_part(parts.incoming, item)?;
+    let outgoing = with_part(parts.outgoing, item)?;
+    Ok(WayParts { incoming, outgoing })
+}
+
+fn with_item(parts: WayParts, item: &[u8]) -> Result<WayParts, SpoilingFault>
+    ensures { result ≡ with_item parts item.now }
+{
+    let Some((word, rest)) = split_once(item, b' ') else {
+        return Err(SpoilingFault::Other);
+    };
+    if word == b"in".as_slice() {
+        let incoming = with_part(parts.incoming, trimmed(rest))?;
+        Ok(WayParts { incoming, ..parts })
+    } else if word == b"out".as_slice() {
+        let outgoing = with_part(parts.outgoing, trimmed(rest))?;
+        Ok(WayParts { outgoing, ..parts })
+    } else {
+        with_both(parts, item)
+    }
+}
+
+#[tactic(auto, unfolding(crate::specs::Parts::with_items))]
+fn parts_in(text: &[u8]) -> Result<WayParts, SpoilingFault>
+    ensures { result ≡ with_items nothing_said (items_of text.now) }
+{
+    let none = Parts {
         lose: None,
         copy: None,
         late: None,
         seed: None,
     };
+    let mut parts = WayParts {
+        incoming: none,
+        outgoing: none,
+    };
     for item in list_items(text) {
-        parts = with_part(parts, item)?;
+        parts = with_item(parts, item)?;
     }
     Ok(parts)
 }
 
+fn made_of(parts: Parts) -> Impairment
+    ensures { result ≡ made_of parts }
+{
+    let (least, most) = parts.late.unwrap_or((0, 0));
+    Impairment {
+        lose: parts.lose.unwrap_or(0),
+        copy: parts.copy.unwrap_or(0),
+        least,
+        most,
+        seed: parts.seed.unwrap_or(1),
+    }
+}
+
 impl Spoiling {
-    /// Reads what a text says, as `lose 10%, copy 5%, late 0-3000, seed 7`: parts in any order, each at most once. Where a part is
-    /// missing nothing is lost, copied or late, and the seed is 1. A fault names the first part that is wrong.
+    /// Reads what a text says, as `lose 10%, in copy 5%, out late 0-3000, seed 7`: parts in any order, each for both ways, or for one by
+    /// `in` or `out` in front of it; for a way each at most once. Where a part is missing nothing is lost, copied or late that way, and
+    /// the seed is 1. A fault names the first part that is wrong.
     #[tactic(auto, unfolding(crate::specs::Parts::spoiling_of))]
     pub fn read(text: &[u8]) -> Result<Spoiling, SpoilingFault>
         ensures { result ≡ spoiling_of text.now }
     {
         let parts = parts_in(text)?;
-        let (least, most) = parts.late.unwrap_or((0, 0));
         Ok(Spoiling {
-            lose: parts.lose.unwrap_or(0),
-            copy: parts.copy.unwrap_or(0),
-            least,
-            most,
-            seed: parts.seed.unwrap_or(1),
+            incoming: made_of(parts.incoming),
+            outgoing: made_of(parts.outgoing),
         })
+    }
+
+    /// How it spoils what goes this way.
+    pub(crate) fn on(self, way: Way) -> Impairment
+        ensures { result ≡ impairment_on way self }
+    {
+        match way {
+            Way::In => self.incoming,
+            Way::Out => self.outgoing,
+        }
     }
 }

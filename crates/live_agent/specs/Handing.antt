@@ -7,8 +7,8 @@ use Rattle.bad_network.specs.declared.network.BadNetwork.{BadNetwork}
 use Rattle.bad_network.specs.declared.packet.Packet.{Packet}
 use Rattle.bad_network.specs.declared.packet.Way.{Way}
 use Rattle.bad_network.specs.declared.packet.Way.TheVariants.{In, Out}
-use Rattle.bad_network.specs.Drawing.{after_draws, draws_of}
-use Rattle.bad_network.specs.Fates.{fate_of}
+use Rattle.bad_network.specs.Drawing.{after_draws_on}
+use Rattle.bad_network.specs.Fates.{fate_on}
 use Rattle.bad_network.specs.Waiting.{copies_of, put_all, taken, IsPutInPart}
 use Rattle.surroundings.specs.Around.{Around}
 use Rattle.surroundings.specs.Sending.{Grows}
@@ -37,22 +37,23 @@ pub record Leaves {S : Type 0} (around : Around S) (to : SocketAddrV4) (bytes : 
 
 -- What is offered to the network
 
--- what comes of a packet that is offered to it at a moment of its clock, as it draws
+-- what comes of a packet that is offered to it on a way at a moment of its clock, as it draws
 abbrev pub copies_at : BadNetwork → Way → SocketAddrV4 → List ℕ → ℕ → List Packet
-copies_at network way peer bytes clock = copies_of (fate_of network.spoiling (draws_of network.generator)) way peer bytes clock
+copies_at network way peer bytes clock = copies_of (fate_on way network.spoiling network.generators) way peer bytes clock
 
 -- its copies wait, and what becomes of it counts; or memory is refused, which counts, and those of its copies that stand in front may wait
-abbrev pub TakesOffer : List Packet → BadNetwork → List Packet → Tally → Tally → Type 0
-TakesOffer copies was waiting counted counts =
-    ((waiting ≡ put_all copies was.waiting.items) × (counts ≡ with_fate (fate_of was.spoiling (draws_of was.generator)) counted))
+abbrev pub TakesOffer : Way → List Packet → BadNetwork → List Packet → Tally → Tally → Type 0
+TakesOffer way copies was waiting counted counts =
+    ((waiting ≡ put_all copies was.waiting.items) × (counts ≡ with_fate (fate_on way was.spoiling was.generators) counted))
     ⊎ (IsPutInPart copies was.waiting.items waiting × (counts ≡ with_refusal counted))
 
+-- for the other way nothing is drawn
 pub record Offers (way : Way) (peer : SocketAddrV4) (bytes : List ℕ) (clock : ℕ) (was is : BadNetwork)
     (counted counts : Tally)
     : Type 0 where
-  pub takes : TakesOffer (copies_at was way peer bytes clock) was is.waiting.items counted counts
+  pub takes : TakesOffer way (copies_at was way peer bytes clock) was is.waiting.items counted counts
   pub spoiling : is.spoiling ≡ was.spoiling
-  pub draws : is.generator ≡ after_draws was.generator
+  pub draws : is.generators ≡ after_draws_on way was.generators
 
 -- where there is one
 abbrev pub OffersTo : Way → SocketAddrV4 → List ℕ → ℕ → Option BadNetwork → Option BadNetwork → Tally → Tally → Type 0
@@ -67,7 +68,7 @@ abbrev pub HandsFirst : ℕ → Option BadNetwork → Option Packet → Option B
 HandsFirst clock None packet is = (packet ≡ None) × (is ≡ None)
 HandsFirst clock (Some was) packet None = ⊥
 HandsFirst clock (Some was) packet (Some is) =
-    ((packet, is.waiting.items) ≡ taken clock was.waiting.items) × (is.spoiling ≡ was.spoiling) × (is.generator ≡ was.generator)
+    ((packet, is.waiting.items) ≡ taken clock was.waiting.items) × (is.spoiling ≡ was.spoiling) × (is.generators ≡ was.generators)
 
 -- so it is by the wire's clock; nothing else of the wire has changed
 pub record HandsOut {S : Type 0} (packet : Option Packet) (was is : Wire S) : Type 0 where

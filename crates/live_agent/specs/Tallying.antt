@@ -7,8 +7,9 @@ use Rattle.agent_texts.specs.Counts.{one_more, with_handed_out}
 use Rattle.bad_network.specs.declared.fate.Fate.{Fate}
 use Rattle.bad_network.specs.declared.fate.Fate.TheVariants.{Lost, Once, Twice}
 use Rattle.bad_network.specs.declared.network.BadNetwork.{BadNetwork}
-use Rattle.bad_network.specs.Drawing.{draws_of}
-use Rattle.bad_network.specs.Fates.{fate_of}
+use Rattle.bad_network.specs.declared.packet.Way.{Way}
+use Rattle.bad_network.specs.declared.packet.Way.TheVariants.{Out}
+use Rattle.bad_network.specs.Fates.{fate_on}
 use Rattle.surroundings.specs.declared.surroundings.Fault.{Fault}
 
 -- a command was issued; something was refused for want of memory; a datagram didn't leave, or none could be looked for
@@ -30,11 +31,11 @@ with_fate Lost tally = record tally { lost = one_more tally.lost }
 with_fate (Once late) tally = if late == 0 then tally else record tally { late = one_more tally.late }
 with_fate (Twice first second) tally = record tally { copied = one_more tally.copied }
 
--- a packet is offered to the network that spoils it, if there is one: that takes it, or memory is refused for it
-abbrev pub CountsOffer : Option BadNetwork → Tally → Tally → Type 0
-CountsOffer None was is = is ≡ was
-CountsOffer (Some network) was is =
-    (is ≡ with_fate (fate_of network.spoiling (draws_of network.generator)) was) ⊎ (is ≡ with_refusal was)
+-- a packet is offered on a way to the network that spoils it, if there is one: that takes it, or memory is refused for it
+abbrev pub CountsOffer : Way → Option BadNetwork → Tally → Tally → Type 0
+CountsOffer way None was is = is ≡ was
+CountsOffer way (Some network) was is =
+    (is ≡ with_fate (fate_on way network.spoiling network.generators) was) ⊎ (is ≡ with_refusal was)
 
 -- a datagram is put onto the machine's network: it leaves, or doesn't
 abbrev pub CountsLeaving : Tally → Tally → Type 0
@@ -48,7 +49,7 @@ leaving_counted (Err fault) tally = with_send_fault tally
 -- a datagram is sent, again or for the first time: it counts once, and what becomes of it
 abbrev pub CountsSent : Bool → Option BadNetwork → Tally → Tally → Type 0
 CountsSent is_repeat None was is = CountsLeaving (with_handed_out is_repeat was) is
-CountsSent is_repeat (Some network) was is = CountsOffer (Some network) (with_handed_out is_repeat was) is
+CountsSent is_repeat (Some network) was is = CountsOffer Out (Some network) (with_handed_out is_repeat was) is
 
 -- one that was looked for and couldn't be read counts as a fault
 abbrev pub looked_counted : Result (Option (SocketAddrV4 × ℕ)) Fault → Tally → Tally

@@ -13,7 +13,7 @@ ghost use Rattle.exchange_log.specs.Pausing.{pause_line};
 ghost use Rattle.bad_network.specs.declared.network.BadNetwork.{BadNetwork};
 ghost use Rattle.bad_network.specs.declared.packet.Packet.{Packet};
 ghost use Rattle.bad_network.specs.declared.packet.Way.TheVariants.{In, Out};
-ghost use Rattle.bad_network.specs.Drawing.{after_draws};
+ghost use Rattle.bad_network.specs.Drawing.{after_draws_on};
 ghost use Rattle.bad_network.specs.declared.spoiling.Spoiling.{Spoiling};
 ghost use Rattle.call_agent.specs.AgentStands.{AgentStands};
 ghost use Rattle.call_agent.specs.Hearing.{AgentEvent};
@@ -224,7 +224,7 @@ pub fn what_a_network_hands_over_has_examples()
     // The first that waits, where it is due by now; else none, and all wait on.
     ensures first { (was is : BadNetwork) (one two : Packet) → was.waiting.items ≡ one ∷ two ∷ [] → one.due ≡ 700 →
         is.waiting.items ≡ two ∷ [] →
-        is.spoiling ≡ was.spoiling → is.generator ≡ was.generator → HandsFirst 700 (Some was) (Some one) (Some is) }
+        is.spoiling ≡ was.spoiling → is.generators ≡ was.generators → HandsFirst 700 (Some was) (Some one) (Some is) }
     ensures not_due { (was : BadNetwork) (one : Packet) → was.waiting.items ≡ one ∷ [] → one.due ≡ 701 →
         HandsFirst 700 (Some was) None (Some was) }
     // It comes in where it goes that way; one that goes out is sent, and isn't handed over.
@@ -236,12 +236,12 @@ pub fn what_a_network_hands_over_has_examples()
     ensures one_out { (packet : Packet) (was is : Wire ℕ) → SendsEachOn anywhere (packet ∷ []) was is →
         (sent : Wire ℕ) × SendsOn anywhere packet was sent }
     // What is offered to it has its copies wait, and counts as what it becomes; without one nothing counts.
-    ensures offered { (was : BadNetwork) (counted : Tally) → TakesOffer [] was was.waiting.items counted (with_refusal counted) }
+    ensures offered { (was : BadNetwork) (counted : Tally) → TakesOffer Out [] was was.waiting.items counted (with_refusal counted) }
     ensures offered_nobody { (peer : SocketAddrV4) (is : Option BadNetwork) (counted counts : Tally) →
         OffersTo In peer [] 700 None is counted counts →
         (is ≡ None) × (counts ≡ counted) }
     ensures draws { (peer : SocketAddrV4) (was is : BadNetwork) (counted counts : Tally) → Offers Out peer [] 700 was is counted counts →
-        is.generator ≡ after_draws was.generator }
+        is.generators ≡ after_draws_on Out was.generators }
     // What leaves doesn't count; what doesn't counts as a fault.
     ensures leaves { (tally : Tally) → leaving_counted (Ok tt) tally ≡ tally }
     ensures stays { (fault : Fault) (tally : Tally) → leaving_counted (Err fault) tally ≡ with_send_fault tally }

@@ -107,7 +107,7 @@ fn offer_to(
     bytes: &[u8],
     clock: u64,
 )
-    ensures tally { CountsOffer (Some network.old) journal.old.tally journal.new.tally }
+    ensures tally { CountsOffer way (Some network.old) journal.old.tally journal.new.tally }
     ensures offers { Offers way stamp.peer bytes.now clock network.old network.new journal.old.tally journal.new.tally }
     ensures notes { OnlyNotes journal.old journal.new }
 {
@@ -267,7 +267,7 @@ impl<S: Surroundings + Drop> Wire<S> {
     pub(crate) fn offer(&mut self, way: Way, peer: SocketAddrV4, bytes: &[u8]) -> bool
         ensures spoilt { result ≡ is_some self.old.network }
         ensures around { self.new.around ≡ self.old.around }
-        ensures tally { CountsOffer self.old.network self.old.journal.value.tally self.new.journal.value.tally }
+        ensures tally { CountsOffer way self.old.network self.old.journal.value.tally self.new.journal.value.tally }
         ensures offers { OffersTo way peer bytes.now self.old.now.clock self.old.network self.new.network
             self.old.journal.value.tally self.new.journal.value.tally }
         ensures notes { OnlyNotes self.old.journal.value self.new.journal.value }

@@ -68,7 +68,7 @@ pub fn further_sentences_have_examples()
     ensures an_ending_says_why_address { (about : About) (files : FileNames) → ending_text about files (BadAddress words.Http)
         ≡ codes "--http: no address a.b.c.d:port\n" }
     ensures an_ending_says_why_network { (about : About) (files : FileNames) → ending_text about files (BadNetwork faults.Seed)
-        ≡ codes "--network: seed: a number, once\n" }
+        ≡ codes "--network: seed: a number, once for each direction\n" }
     ensures an_ending_says_why_unread { (about : About) (files : FileNames) (kind : ErrorKind) →
         ending_text about files (Unreadable kind) ≡ files.read_from.now ++ codes ": read fault" ++ reason_of kind ++ codes "\n" }
     ensures an_ending_says_why_unwritten { (about : About) (files : FileNames) (kind : ErrorKind) →

@@ -10,10 +10,10 @@ pub(crate) fn wanted_by(fault: SpoilingFault) -> &'static str
     ensures { result.now ≡ wanted_by fault }
 {
     match fault {
-        SpoilingFault::Lose => "lose: 0% to 100%, once",
-        SpoilingFault::Copy => "copy: 0% to 100%, once",
-        SpoilingFault::Late => "late: LEAST-MOST in ms, 10000 at most, once",
-        SpoilingFault::Seed => "seed: a number, once",
-        SpoilingFault::Other => "lose N%, copy N%, late LEAST-MOST, seed N",
+        SpoilingFault::Lose => "lose: 0% to 100%, once for each direction",
+        SpoilingFault::Copy => "copy: 0% to 100%, once for each direction",
+        SpoilingFault::Late => "late: LEAST-MOST in ms, 10000 at most, once for each direction",
+        SpoilingFault::Seed => "seed: a number, once for each direction",
+        SpoilingFault::Other => "lose N%, copy N%, late LEAST-MOST, seed N, or one of these after in or out",
     }
 }

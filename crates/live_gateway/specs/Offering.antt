@@ -7,8 +7,8 @@ use Rattle.bad_network.specs.declared.network.BadNetwork.{BadNetwork}
 use Rattle.bad_network.specs.declared.packet.Packet.{Packet}
 use Rattle.bad_network.specs.declared.packet.Way.{Way}
 use Rattle.bad_network.specs.declared.packet.Way.TheVariants.{In, Out}
-use Rattle.bad_network.specs.Drawing.{draws_of, after_draws}
-use Rattle.bad_network.specs.Fates.{fate_of}
+use Rattle.bad_network.specs.Drawing.{after_draws_on}
+use Rattle.bad_network.specs.Fates.{fate_on}
 use Rattle.bad_network.specs.Waiting.{copies_of as packets_of, put_all, taken, IsPutInPart}
 use Rattle.surroundings.specs.Keeping.{copies_of}
 use Rattle.surroundings.specs.Sending.{Sent, Received}
@@ -36,29 +36,29 @@ abbrev pub brought : Option (Packet × ℕ) → List ℕ → List Received
 brought None room = []
 brought (Some found) room = brings found.0.way found.0.peer (take found.1 room)
 
--- what becomes of the packet that is offered next, as the network draws
-abbrev pub next_fate : BadNetwork → Fate
-next_fate network = fate_of network.spoiling (draws_of network.generator)
+-- what becomes of the packet that is offered next on this way, as the network draws
+abbrev pub next_fate : Way → BadNetwork → Fate
+next_fate way network = fate_on way network.spoiling network.generators
 
 -- what comes of it
 abbrev pub next_copies : BadNetwork → Way → SocketAddrV4 → List ℕ → ℕ → List Packet
-next_copies network way peer bytes now = packets_of (next_fate network) way peer bytes now
+next_copies network way peer bytes now = packets_of (next_fate way network) way peer bytes now
 
--- This becomes of a datagram that is offered to a network, at a moment: what it draws next, and its copies wait. Where memory is refused,
--- those of them that stand in front may.
+-- This becomes of a datagram that is offered to a network on a way, at a moment: what it draws next for that way, and its copies wait. Where
+-- memory is refused, those of them that stand in front may. For the other way nothing is drawn.
 pub record Offers {E : Type 0}
     (way : Way) (was : BadNetwork) (peer : SocketAddrV4) (bytes : List ℕ) (now : ℕ) (became : Result Fate E) (is : BadNetwork)
     : Type 0 where
-  pub fate : IfOk became (λ fate. fate ≡ next_fate was)
+  pub fate : IfOk became (λ fate. fate ≡ next_fate way was)
   pub wait : OnOk became (is.waiting.items ≡ put_all (next_copies was way peer bytes now) was.waiting.items)
   pub in_part : OnErr became (IsPutInPart (next_copies was way peer bytes now) was.waiting.items is.waiting.items)
   pub spoiling : is.spoiling ≡ was.spoiling
-  pub draws : is.generator ≡ after_draws was.generator
+  pub draws : is.generators ≡ after_draws_on way was.generators
 
 -- the first packet that waits in a network is handed out, if it is due by now, and nothing is drawn
 abbrev pub TakesFirst : ℕ → BadNetwork → Option Packet → BadNetwork → Type 0
 TakesFirst now was packet is =
-    ((packet, is.waiting.items) ≡ taken now was.waiting.items) × (is.spoiling ≡ was.spoiling) × (is.generator ≡ was.generator)
+    ((packet, is.waiting.items) ≡ taken now was.waiting.items) × (is.spoiling ≡ was.spoiling) × (is.generators ≡ was.generators)
 
 -- so it is where a network is before a socket
 abbrev pub TakesDue : ℕ → Option (Box SpoiltWay) → Option Packet → Option (Box SpoiltWay) → Type 0

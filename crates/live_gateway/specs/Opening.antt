@@ -3,7 +3,7 @@ use Rattle.std.specs.Prelude.{◌≡◌, ℕ, Bool, false, List, [], Option, Non
 use Rattle.std.specs.Borrow.{Bor}
 use Rattle.std.specs.Global.{Box}
 use Rattle.std.specs.declared.net.socket_addr.SocketAddrV4.{SocketAddrV4}
-use Rattle.bad_network.specs.Drawing.{seeded}
+use Rattle.bad_network.specs.Drawing.{generators_of}
 use Rattle.bad_network.specs.Naming.{named}
 use Rattle.bad_network.specs.declared.network.BadNetwork.{BadNetwork}
 use Rattle.bad_network.specs.declared.spoiling.Spoiling.{Spoiling}
@@ -40,9 +40,9 @@ abbrev pub BeginsBoard : Bool → Option (Box BoardState) → Type 0
 BeginsBoard has_page board =
     (is_some board ≡ has_page) × IfSome board (λ shown. (shown.value.ring ≡ nothing_yet) × (shown.value.acts ≡ []))
 
--- a network spoils what goes over it as this says, and draws from the beginning
+-- a network spoils what goes over it as this says, and draws from the beginning, each way
 abbrev pub SpoilsBy : Spoiling → BadNetwork → Type 0
-SpoilsBy spoiling network = (network.spoiling ≡ spoiling) × (network.generator ≡ seeded spoiling.seed)
+SpoilsBy spoiling network = (network.spoiling ≡ spoiling) × (network.generators ≡ generators_of spoiling)
 
 -- a network spoils what goes over it where one is asked for, as was asked, and by the domain too; and nothing waits in it
 abbrev pub BeginsNetwork : Option Spoiling → List ℕ → Option (Box SpoiltWay) → Type 0

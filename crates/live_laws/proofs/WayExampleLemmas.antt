@@ -84,18 +84,18 @@ one_put zero packet waiting = inl refl
 one_put (suc number) packet waiting = inr (none_put number (put_in packet waiting))
 
 -- the copies that wait are those of what is drawn
-pub copies_wait : (was : BadNetwork) (fate : Fate) (waiting : List Packet) → next_fate was ≡ fate
-    → put_all (copies_of (next_fate was) In (at_port 9 2727) (1 ∷ []) 5) waiting ≡ put_all (copies_of fate In (at_port 9 2727) (1 ∷ []) 5) waiting
+pub copies_wait : (was : BadNetwork) (fate : Fate) (waiting : List Packet) → next_fate In was ≡ fate
+    → put_all (copies_of (next_fate In was) In (at_port 9 2727) (1 ∷ []) 5) waiting ≡ put_all (copies_of fate In (at_port 9 2727) (1 ∷ []) 5) waiting
 copies_wait was fate waiting draws = ap (λ (f : Fate). put_all (copies_of f In (at_port 9 2727) (1 ∷ []) 5) waiting) draws
 
 -- where memory is refused some of them may, from the front
-pub lost_in_part : (was is : BadNetwork) → next_fate was ≡ NeverComes → OffersOne (Err tt) was is → is.waiting.items ≡ was.waiting.items
+pub lost_in_part : (was is : BadNetwork) → next_fate In was ≡ NeverComes → OffersOne (Err tt) was is → is.waiting.items ≡ was.waiting.items
 lost_in_part was is draws offers =
     offers.in_part.1
     ∙ ap (λ (f : Fate). put_all (take offers.in_part.0 (copies_of f In (at_port 9 2727) (1 ∷ []) 5)) was.waiting.items) draws
     ∙ none_put offers.in_part.0 was.waiting.items
 
-pub one_in_part : (was is : BadNetwork) → next_fate was ≡ Once 10 → OffersOne (Err tt) was is
+pub one_in_part : (was is : BadNetwork) → next_fate In was ≡ Once 10 → OffersOne (Err tt) was is
     → (is.waiting.items ≡ was.waiting.items) ⊎ (is.waiting.items ≡ put_in (copy_behind 10) was.waiting.items)
 one_in_part was is draws offers =
     let same : is.waiting.items ≡ put_all (take offers.in_part.0 (copy_behind 10 ∷ [])) was.waiting.items =

@@ -5,7 +5,7 @@ ghost use Rattle.std.specs.Prelude.{◌≡◌, ℕ, List, Option, None, Some, Ok
 ghost use Rattle.std.specs.Borrow.{Bor};
 ghost use Rattle.std.specs.Global.{Box};
 ghost use Rattle.bad_network.specs.Drawing.{seeded};
-ghost use Rattle.bad_network.specs.Naming.{named, mixed};
+ghost use Rattle.bad_network.specs.Naming.{named, mixed, mixed_with};
 ghost use Rattle.bad_network.specs.declared.packet.Packet.{Packet};
 ghost use Rattle.bad_network.specs.declared.packet.Way.TheVariants.{In, Out};
 ghost use Rattle.endpoint_names.specs.declared.route.Route.TheVariants.{One, Two};
@@ -157,7 +157,7 @@ pub fn a_gateway_begins_with_nothing()
     ensures spoilt { (spoiling : Spoiling) (domain : List ℕ) (way : Box SpoiltWay) → BeginsNetwork (Some spoiling) domain (Some way)
         → way.value.network.spoiling ≡ named spoiling domain }
     ensures drawn { (spoiling : Spoiling) (domain : List ℕ) (way : Box SpoiltWay) → BeginsNetwork (Some spoiling) domain (Some way)
-        → way.value.network.generator ≡ seeded (mixed spoiling.seed domain) }
+        → way.value.network.generators.outgoing ≡ seeded (mixed_with (mixed spoiling.outgoing.seed domain) 111) }
     ensures unused { (exchange : Exchange ℕ) → IsUnused exchange → (exchange.faults.send ≡ 0) × (exchange.read ≡ 0) }
     ensures unplayed { (play : LivePlay ℕ) → IsUnplayed play → play.printed.items ≡ [] }
     ensures untyped { (lines : Lines) → IsUntyped lines → (left_of lines ≡ []) × (lines.sender ≡ None) }

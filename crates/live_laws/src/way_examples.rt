@@ -47,22 +47,23 @@ ghost use Rattle.live_laws.specs.Example.{at_port};
 ghost use Rattle.live_laws.specs.TurnExample.{anywhere, anybody_visits, HasNoTurn, WritesAtSeven, WritesNothing};
 ghost use Rattle.live_laws.specs.WayExample.{due_at, OffersOne, copy_behind, LooksSeeing, arrival, arrivals, counts_turns, is_told_by, stays_where_told};
 
-/// What becomes of a datagram that is offered is what the network draws next, and its copies wait; where memory is refused those that stand
-/// in front may, and as much is drawn.
+/// What becomes of a datagram that is offered is what the network draws next for its way, and its copies wait; where memory is refused those
+/// that stand in front may, and as much is drawn. For the other way nothing is.
 pub fn what_is_offered_waits_as_is_drawn()
-    ensures drawn { (fate : Fate) (was is : BadNetwork) → OffersOne (Ok fate) was is → fate ≡ next_fate was }
-    ensures lost { (was is : BadNetwork) → next_fate was ≡ NeverComes → OffersOne (Ok NeverComes) was is
+    ensures drawn { (fate : Fate) (was is : BadNetwork) → OffersOne (Ok fate) was is → fate ≡ next_fate In was }
+    ensures lost { (was is : BadNetwork) → next_fate In was ≡ NeverComes → OffersOne (Ok NeverComes) was is
         → is.waiting.items ≡ was.waiting.items }
-    ensures once { (was is : BadNetwork) → next_fate was ≡ Once 10 → OffersOne (Ok (Once 10)) was is
+    ensures once { (was is : BadNetwork) → next_fate In was ≡ Once 10 → OffersOne (Ok (Once 10)) was is
         → is.waiting.items ≡ put_in (copy_behind 10) was.waiting.items }
-    ensures twice { (was is : BadNetwork) → next_fate was ≡ Twice 10 3 → OffersOne (Ok (Twice 10 3)) was is
+    ensures twice { (was is : BadNetwork) → next_fate In was ≡ Twice 10 3 → OffersOne (Ok (Twice 10 3)) was is
         → is.waiting.items ≡ put_in (copy_behind 3) (put_in (copy_behind 10) was.waiting.items) }
-    ensures lost_for_memory { (was is : BadNetwork) → next_fate was ≡ NeverComes → OffersOne (Err tt) was is
+    ensures lost_for_memory { (was is : BadNetwork) → next_fate In was ≡ NeverComes → OffersOne (Err tt) was is
         → is.waiting.items ≡ was.waiting.items }
-    ensures once_for_memory { (was is : BadNetwork) → next_fate was ≡ Once 10 → OffersOne (Err tt) was is
+    ensures once_for_memory { (was is : BadNetwork) → next_fate In was ≡ Once 10 → OffersOne (Err tt) was is
         → (is.waiting.items ≡ was.waiting.items) ⊎ (is.waiting.items ≡ put_in (copy_behind 10) was.waiting.items) }
     ensures draws { (became : Result Fate ⊤) (was is : BadNetwork) → OffersOne became was is
-        → (is.generator ≡ after_draws was.generator) × (is.spoiling ≡ was.spoiling) }
+        → (is.generators.incoming ≡ after_draws was.generators.incoming) × (is.generators.outgoing ≡ was.generators.outgoing)
+        × (is.spoiling ≡ was.spoiling) }
 {}
 
 /// The first packet that waits is handed out, where it is due by now; nothing else is, and nothing is drawn.
@@ -73,7 +74,7 @@ pub fn what_is_due_is_handed_out()
         → (packet ≡ None) × (is.waiting.items ≡ due_at 6 ∷ []) }
     ensures none { (packet : Option Packet) (was is : BadNetwork) → was.waiting.items ≡ [] → TakesFirst 5 was packet is → packet ≡ None }
     ensures undrawn { (packet : Option Packet) (was is : BadNetwork) → TakesFirst 5 was packet is
-        → (is.generator ≡ was.generator) × (is.spoiling ≡ was.spoiling) }
+        → (is.generators ≡ was.generators) × (is.spoiling ≡ was.spoiling) }
     ensures nowhere { (packet : Option Packet) (is : Option (Box SpoiltWay)) → TakesDue 5 None packet is → (packet ≡ None) × (is ≡ None) }
     ensures kept { (packet : Option Packet) (was : Box SpoiltWay) → TakesDue 5 (Some was) packet None → ⊥ }
     ensures before { (packet : Option Packet) (was is : Box SpoiltWay) → was.value.network.waiting.items ≡ due_at 5 ∷ []
@@ -182,9 +183,9 @@ pub fn what_a_turn_leaves_has_examples()
         → HaveTurn {V = ℕ} {S = ℕ} (λ v s b at w t c. ⊤) 5 one 0 board None 0 (Some shown) → ⊥ }
     ensures boardless { (one two : Box ℕ) (board : Box BoardState)
         → HaveTurn {V = ℕ} {S = ℕ} (λ v s b at w t c. ⊤) 5 one 0 board (Some two) 0 None → ⊥ }
-    ensures copied { (network : BadNetwork) → next_fate network ≡ Once 10
+    ensures copied { (network : BadNetwork) → next_fate In network ≡ Once 10
         → next_copies network In (at_port 9 2727) (1 ∷ []) 5 ≡ copy_behind 10 ∷ [] }
-    ensures uncopied { (network : BadNetwork) → next_fate network ≡ NeverComes
+    ensures uncopied { (network : BadNetwork) → next_fate In network ≡ NeverComes
         → next_copies network In (at_port 9 2727) (1 ∷ []) 5 ≡ [] }
     ensures unturned { (was is : Desk ℕ ℕ × ℕ × ℕ) → HasNoTurn was is → ⊥ }
     ensures unwritten { (was is : Desk ℕ ℕ × ℕ × ℕ) → WritesNothing was is → ⊥ }

@@ -23,7 +23,7 @@ const BELOW: &str = "
   --route             it is an exchange: it routes calls between the lines
   --log               what is said is written to standard error, a line a message
   --capture FILE      datagrams are written into this file, for tshark and Wireshark
-  --network TEXT      datagrams are spoilt, as by \"lose 10%, copy 5%, late 0-3000, seed 7\"
+  --network TEXT      datagrams are spoilt, as by \"lose 10%, in copy 5%, out late 0-3000, seed 7\"
   --stop-after MS     it ends at this moment of its clock, in ms; else it goes on
   --help, --version   this, or the version, on standard output
 

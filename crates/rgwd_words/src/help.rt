@@ -39,7 +39,7 @@ const BELOW: &str = "
   --capture-size MB   they are written into FILE.1, FILE.2 .., of so many MB each
   --capture-files N   of these so many are kept; else 10
   --trace             all that happens is written to standard output; else nothing is
-  --network TEXT      datagrams are lost, copied and late, as \"lose 10%, copy 5%, late 0-3000, seed 7\"
+  --network TEXT      datagrams are lost, copied and late, as \"lose 10%, in copy 5%, out late 0-3000, seed 7\"
   --first N           ids begin with this number; else with one that the time of day gives, so that a new start has others
   --spread MS         it waits up to that before its clock begins, so that gateways don't start together; else it doesn't
   --stop-after MS     it ends at this moment of its clock, in ms; else it goes on

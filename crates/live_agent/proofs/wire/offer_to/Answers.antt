@@ -11,7 +11,7 @@ returns-in_default-clause-offers c = record {
     c.count_fate.ensures ∙ ap (λ (fate : Fate). with_fate fate c.args.journal.now.tally) c.in-Ok.ensures.fate,
   );
   spoiling = c.in-Ok.ensures.spoiling;
-  draws = c.in-Ok.ensures.generator;
+  draws = c.in-Ok.ensures.generators;
 }
 
 pub returns-clause-offers : goal.returns-clause-offers
@@ -23,12 +23,12 @@ returns-clause-offers c = record {
         ∙ ap (λ (fate : Fate). with_fate fate c.args.journal.now.tally) c.in-Ok.ensures.fate,
   );
   spoiling = c.in-Ok.ensures.spoiling;
-  draws = c.in-Ok.ensures.generator;
+  draws = c.in-Ok.ensures.generators;
 }
 
 pub returns-in-Err-clause-offers : goal.returns-in-Err-clause-offers
 returns-in-Err-clause-offers c = record {
   takes = inr (c.in-Err.ensures.err, ap (λ refused. record c.args.journal.now.tally { refused = refused }) c.count.ensures);
   spoiling = c.in-Err.ensures.spoiling;
-  draws = c.in-Err.ensures.generator;
+  draws = c.in-Err.ensures.generators;
 }

@@ -1,5 +1,6 @@
 use Rattle.std.proofs.Common.{◌≡◌, sym, ap}
 use Rattle.std.proofs.lemmas.Bool.{true≢false}
+use Rattle.bad_network.specs.declared.draws.Generators.{Generators}
 use Rattle.message_counts.specs.declared.reporting.Faults.{Faults}
 use Rattle.live_laws.proofs.examples.a_gateway_begins_with_nothing.Goals as goal
 
@@ -22,7 +23,7 @@ pub returns-clause-spoilt : goal.returns-clause-spoilt
 returns-clause-spoilt c = λ spoiling domain way begins. begins.1.1.0
 
 pub returns-clause-drawn : goal.returns-clause-drawn
-returns-clause-drawn c = λ spoiling domain way begins. begins.1.1.1
+returns-clause-drawn c = λ spoiling domain way begins. ap (λ (generators : Generators). generators.outgoing) begins.1.1.1
 
 pub returns-clause-unused : goal.returns-clause-unused
 returns-clause-unused c = λ exchange unused. (ap (λ (faults : Faults). faults.send) unused.1, unused.0)

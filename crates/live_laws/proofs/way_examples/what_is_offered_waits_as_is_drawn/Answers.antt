@@ -1,4 +1,5 @@
-use Rattle.std.proofs.Common.{◌∙◌}
+use Rattle.std.proofs.Common.{ap, ◌∙◌}
+use Rattle.bad_network.specs.declared.draws.Generators.{Generators}
 use Rattle.bad_network.specs.declared.fate.Fate.TheVariants.{Lost, Once, Twice}
 use Rattle.live_laws.proofs.WayExampleLemmas.{copies_wait, lost_in_part, one_in_part}
 use Rattle.live_laws.proofs.way_examples.what_is_offered_waits_as_is_drawn.Goals as goal
@@ -22,4 +23,8 @@ pub returns-clause-once_for_memory : goal.returns-clause-once_for_memory
 returns-clause-once_for_memory c = one_in_part
 
 pub returns-clause-draws : goal.returns-clause-draws
-returns-clause-draws c = λ became was is offers. (offers.draws, offers.spoiling)
+returns-clause-draws c = λ became was is offers. (
+  ap (λ (generators : Generators). generators.incoming) offers.draws,
+  ap (λ (generators : Generators). generators.outgoing) offers.draws,
+  offers.spoiling,
+)

@@ -24,7 +24,7 @@ loop-preserved g c =
           handed = taken;
           hands = record {
             first = first_of c.loop.self.now.clock c.loop.self.network (Some c.in-Some-take_due.packet) c.in-Some.network c.take_due.new.self c.in-Some.is
-                (c.in-Some-take_due.ensures.taken, c.in-Some-take_due.ensures.spoiling, c.in-Some-take_due.ensures.generator);
+                (c.in-Some-take_due.ensures.taken, c.in-Some-take_due.ensures.spoiling, c.in-Some-take_due.ensures.generators);
             rest = refl;
           };
           goes = goes_out c.in-Some-take_due.packet.way (sym c.comes_in.ensures ∙ c.if-comes_in.false);
@@ -56,7 +56,7 @@ returns-in_default-take_due-clause-hands g c = record {
   each = c.loop.invariant.out.2;
   last = inl (record {
     first = first_of c.loop.self.now.clock c.loop.self.network None c.in-Some.network c.take_due.new.self c.in-Some.is
-        (c.in_default-take_due.ensures.taken, c.in_default-take_due.ensures.spoiling, c.in_default-take_due.ensures.generator);
+        (c.in_default-take_due.ensures.taken, c.in_default-take_due.ensures.spoiling, c.in_default-take_due.ensures.generators);
     rest = refl;
   });
 }
@@ -77,7 +77,7 @@ returns-then-comes_in-clause-hands g c = record {
   last = (
     record {
       first = first_of c.loop.self.now.clock c.loop.self.network (Some c.in-Some-take_due.packet) c.in-Some.network c.take_due.new.self c.in-Some.is
-          (c.in-Some-take_due.ensures.taken, c.in-Some-take_due.ensures.spoiling, c.in-Some-take_due.ensures.generator);
+          (c.in-Some-take_due.ensures.taken, c.in-Some-take_due.ensures.spoiling, c.in-Some-take_due.ensures.generators);
       rest = refl;
     },
     goes_in c.in-Some-take_due.packet.way (sym c.comes_in.ensures ∙ c.if-comes_in.true),

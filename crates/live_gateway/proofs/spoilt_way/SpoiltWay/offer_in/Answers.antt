@@ -6,5 +6,5 @@ returns-clause-offers c = record {
   wait = c.offer.ensures.ok;
   in_part = c.offer.ensures.err;
   spoiling = c.offer.ensures.spoiling;
-  draws = c.offer.ensures.generator;
+  draws = c.offer.ensures.generators;
 }
