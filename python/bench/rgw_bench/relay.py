@@ -65,16 +65,18 @@ def parts_of(text: str) -> dict[str, tuple[int, int]]:
     return said
 
 
-def spoilt(text: str) -> Fate:
-    """The fate by a text as rgwd's --network has: `lose 20%, copy 10%, late 0-2000, seed 7`. Parts may be left out; times are in ms, and
-    the seed is 1 by default. Each datagram takes four draws, so a change of one number leaves what the others draw.
+def spoilt(text: str, direction: str = "") -> Fate:
+    """The fate by a text of one direction: `lose 20%, copy 10%, late 0-2000, seed 7`. Parts may be left out; times are in ms, and the seed
+    is 1 by default. Each datagram takes four draws, so a change of one number leaves what the others draw. With the name of a direction
+    another sequence is drawn from the same seed.
 
     ValueError: a part is none, or stands there twice.
     """
     said = parts_of(text)
     lose, copy = said.get("lose", (0, 0))[0], said.get("copy", (0, 0))[0]
     least, most = said.get("late", (0, 0))
-    draws = random.Random(said.get("seed", (1, 1))[0])
+    seed = said.get("seed", (1, 1))[0]
+    draws = random.Random(f"{seed} {direction}" if direction else seed)
 
     def fate(data: bytes, moment: float) -> Sequence[float]:
         lost, copied, *places = (draws.random() for _ in range(4))
@@ -82,6 +84,23 @@ def spoilt(text: str) -> Fate:
         return () if lost * 100 < lose else late if copied * 100 < copy else late[:1]
 
     return fate
+
+
+def by_direction(text: str) -> tuple[Fate, Fate]:
+    """The fates inward and outward by a text as rgwd's --network has: `in lose 20%, out late 0-2000, seed 7`. A part is for both
+    directions, or for one after `in` or `out`. Each direction draws from a sequence of its own.
+
+    ValueError: a part is none, or stands there twice for a direction.
+    """
+    said: dict[str, list[str]] = {"in": [], "out": []}
+    for part in filter(None, (it.strip() for it in text.split(","))):
+        word, _, rest = part.partition(" ")
+        if part in said:
+            raise ValueError(f"{part}: wanted lose, copy, late or seed after it")
+        for direction in (word,) if word in said else said:
+            said[direction].append(rest.strip() if word in said else part)
+    inward, outward = (spoilt(", ".join(parts), direction) for direction, parts in said.items())
+    return inward, outward
 
 
 @dataclass

@@ -19,7 +19,7 @@ from stubs import host
 
 from rgw_bench import mgcp
 from rgw_bench.answers import Answers, heads
-from rgw_bench.relay import Fate, Relay, clean, spoilt
+from rgw_bench.relay import Fate, Relay, by_direction, clean, spoilt
 from rgw_bench.times import Times, bucket_of
 
 HOST = host(2)
@@ -112,6 +112,24 @@ def test_each_direction_has_a_seed(agent: socket.socket, echo: Echo) -> None:
     assert 60 < len(fewer) < 140
     other, _ = passed(agent, echo, "lose 30%, seed 2", "")
     assert other != heard
+
+
+def test_a_network_by_direction() -> None:
+    inward, outward = by_direction("in lose 100%, out late 40-40, seed 7")
+    assert not inward(b"", 0) and tuple(outward(b"", 0)) == (0.04,)
+    for fate in by_direction("lose 100%"):
+        assert not fate(b"", 0)
+    first, second = ([len(fate(b"", 0)) for _ in range(64)] for fate in by_direction("lose 50%"))
+    assert first != second, "one seed, and each direction its own sequence"
+
+
+@pytest.mark.parametrize("text, why", [
+    ("in", "in: wanted lose, copy, late or seed after it"), ("in drop 1%", "drop 1%: wanted lose, copy, late or seed"),
+    ("lose 1%, out lose 2%", "lose 2%: wanted lose 0% to 100%, once"), ("in out lose 1%", "out lose 1%: wanted lose, copy, late or seed"),
+])
+def test_a_network_that_cant_be(text: str, why: str) -> None:
+    with pytest.raises(ValueError, match=why):
+        by_direction(text)
 
 
 def test_copies_and_lateness(agent: socket.socket, echo: Echo) -> None:
@@ -310,11 +328,13 @@ def test_the_program_relays_and_reports(agent: socket.socket, echo: Echo, tmp_pa
     ("", 2, "rgw-relay: the following arguments are required"), ("a=b --home 127.0.0.1:1", 2, "not an address"),
     (f"{place(FRONT)} --home {place(HOME)}", 2, "wanted FRONT=GATEWAY"),
     (f"{place(FRONT)}={place(GATEWAY)} --home {place(HOME)} --in lose", 2, "wanted lose 0% to 100%, once"),
+    (f"{place(FRONT)}={place(GATEWAY)} --home {place(HOME)} --network in", 2, "in: wanted lose, copy, late or seed after it"),
+    (f"{place(FRONT)}={place(GATEWAY)} --home {place(HOME)} --network seed --in seed", 2, "argument --network: seed: wanted seed a number"),
     (f"{place(FRONT)}={place(GATEWAY)} {place(FRONT)}={place(SECOND_GATEWAY)} --home {place(HOME)}", 2, "wanted each front once"),
     (f"{place(FRONT)}={place(GATEWAY)} --home {place(FRONT)}", 3, f"no socket at {place(FRONT)}: Address already in use"),
     (f"{place(FRONT)}={place(GATEWAY)} --home {place(HOME)} --report /nowhere/x", 3, "/nowhere/x: No such file or directory"),
     (f"{place(FRONT)}={place(GATEWAY)} --home {place(HOME)} --stop-after 0.1", 0, "relay "), ("--help", 0, ""),
-], ids=("none", "bad-address", "no-gateway", "bad-fate", "front-twice", "taken-address", "bad-file", "stop-after", "help"))
+], ids=("none", "bad-address", "no-gateway", "bad-fate", "bad-direction", "bad-network", "front-twice", "taken-address", "bad-file", "stop-after", "help"))
 def test_the_programs_words(words: str, status: int, said: str) -> None:
     program = begun(*words.split())
     out, err = program.communicate(timeout=60)

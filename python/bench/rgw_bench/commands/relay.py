@@ -1,13 +1,14 @@
 """rgw-relay: a bad network between a call agent and its gateways, or between anything and anything by UDP.
 
-usage: rgw-relay FRONT=GATEWAY .. --home ADDRESS [--agent ADDRESS] [--in TEXT] [--out TEXT] [--answer-rsip]
-                 [--report FILE] [--log] [--stop-after SECONDS]
+usage: rgw-relay FRONT=GATEWAY .. --home ADDRESS [--agent ADDRESS] [--network TEXT | [--in TEXT] [--out TEXT]]
+                 [--answer-rsip] [--report FILE] [--log] [--stop-after SECONDS]
 
 What the agent sends to FRONT goes to the gateway at GATEWAY; what a gateway sends to the home, for which it is configured, goes to the
 agent, from its front. Each is a.b.c.d:port or localhost:port.
 
   --home ADDRESS       the agent's address, as gateways know it
   --agent ADDRESS      where the agent is; else it is who speaks first to a front
+  --network TEXT       spoils both directions, or one after in (to gateways) or out, as "in lose 20%, out late 0-2000, seed 7"
   --in TEXT            spoils what goes to gateways, as by "lose 20%, copy 10%, late 0-2000, seed 7"; times are in ms
   --out TEXT           spoils what gateways send
   --answer-rsip        each RSIP is answered by 200 here, in the place of an agent that never does, and doesn't come there
@@ -33,7 +34,7 @@ from collections.abc import Callable
 from typing import Any, NoReturn
 
 from ..phone_wire import place_of
-from ..relay import Relay, spoilt
+from ..relay import Relay, by_direction, spoilt
 from ..wire import Address, written
 
 USAGE = __doc__.split("\n\n")[1]
@@ -56,13 +57,17 @@ def asked_by(words: list[str]) -> argparse.Namespace:
     parser.add_argument("ways", nargs="+", type=typed(way_of))
     parser.add_argument("--home", required=True, type=typed(place_of))
     parser.add_argument("--agent", type=typed(place_of))
+    parser.add_argument("--network", type=typed(network_of))
     parser.add_argument("--in", dest="inward", default="", type=typed(fate_of))
     parser.add_argument("--out", dest="outward", default="", type=typed(fate_of))
     parser.add_argument("--answer-rsip", action="store_true")
     parser.add_argument("--report")
     parser.add_argument("--log", action="store_true")
     parser.add_argument("--stop-after", type=float)
-    return parser.parse_args(words)
+    asked = parser.parse_args(words)
+    if asked.network is not None and (asked.inward or asked.outward):
+        parser.error("--network: wanted alone, or --in and --out in its place")
+    return asked
 
 
 def typed(read: Callable[[str], Any]) -> Callable[[str], Any]:
@@ -86,6 +91,11 @@ def way_of(text: str) -> tuple[Address, Address]:
 
 def fate_of(text: str) -> str:
     spoilt(text)
+    return text
+
+
+def network_of(text: str) -> str:
+    by_direction(text)
     return text
 
 
@@ -119,8 +129,8 @@ def main() -> None:
     try:
         if len(ways) < len(asked.ways):
             raise ValueError("wanted each front once")
-        fates = {"inward": spoilt(asked.inward), "outward": spoilt(asked.outward)}
-        relay = Relay(ways, asked.home, asked.agent, answers_rsip=asked.answer_rsip, note=log if asked.log else None, **fates)
+        fates = by_direction(asked.network) if asked.network is not None else (spoilt(asked.inward), spoilt(asked.outward))
+        relay = Relay(ways, asked.home, asked.agent, *fates, answers_rsip=asked.answer_rsip, note=log if asked.log else None)
     except ValueError as fault:
         print(f"rgw-relay: {fault}\n{USAGE}", file=sys.stderr)
         sys.exit(2)
