@@ -29,9 +29,9 @@ use Rattle.plain_machine.specs.Message.{Sent}
 use Rattle.gateway_core.proofs.AlikeLemmas.{effect_alike, refusal_alike, takes_alike, alike_purged, refusal_purged, outcomes_alike, account_alike}
 use Rattle.gateway_texts.specs.declared.outcome.TextOutcome.{TextOutcome}
 use Rattle.gateway_texts.specs.Outcomes.{outcomes_of, outcomes_after}
-use Rattle.plain_machine.specs.declared.label.SentMessage.{SentMessage}
+use Rattle.gateway_core.specs.declared.sent.SentMessage.{SentMessage}
 use Rattle.plain_machine.specs.declared.given_up.GivenUpCommand.{GivenUpCommand}
-use Rattle.plain_machine.specs.Labelling.{labels_of}
+use Rattle.gateway_core.specs.Labelling.{labels_of}
 use Rattle.plain_machine.specs.GivingUp.{given_up_with}
 use Rattle.gateway_core.specs.Accounts.{Account, no_account, account_of, account_after}
 use Rattle.gateway_texts.specs.State.{machine_in, purged_in, PutsOut, AllOr}

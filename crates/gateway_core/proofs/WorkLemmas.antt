@@ -17,9 +17,10 @@ use Rattle.plain_machine.specs.Setup.{IsSetUp}
 use Rattle.plain_machine.specs.Event.{GatewayEvent, datagram, phone, tick}
 use Rattle.plain_machine.specs.Message.{Sent, datagram_of, datagrams_of}
 use Rattle.plain_machine.specs.declared.label.OutMessage.{OutMessage}
-use Rattle.plain_machine.specs.declared.label.SentMessage.{SentMessage}
+use Rattle.gateway_core.specs.declared.sent.SentMessage.{SentMessage}
 use Rattle.plain_machine.specs.declared.given_up.GivenUpCommand.{GivenUpCommand}
-use Rattle.plain_machine.specs.Labelling.{messages_of, told_of, sent_message, labels_of}
+use Rattle.plain_machine.specs.Labelling.{messages_of}
+use Rattle.gateway_core.specs.Labelling.{told_of, sent_message, labels_of}
 use Rattle.plain_machine.specs.GivingUp.{given_up_until}
 use Rattle.plain_machine.proofs.GivingLaws.{given_up_none}
 use Rattle.plain_machine.specs.Notifying.{noted}

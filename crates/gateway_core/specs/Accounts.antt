@@ -2,10 +2,10 @@
 -- what was given up, both in their order.
 use Rattle.std.specs.Prelude.{List, [], ◌∷◌}
 use Rattle.plain_machine.specs.declared.setup.Setup.{Setup}
-use Rattle.plain_machine.specs.declared.label.SentMessage.{SentMessage}
+use Rattle.gateway_core.specs.declared.sent.SentMessage.{SentMessage}
 use Rattle.plain_machine.specs.declared.given_up.GivenUpCommand.{GivenUpCommand}
 use Rattle.plain_machine.specs.Event.{GatewayEvent}
-use Rattle.plain_machine.specs.Labelling.{labels_of}
+use Rattle.gateway_core.specs.Labelling.{labels_of}
 use Rattle.plain_machine.specs.GivingUp.{given_up_with}
 use Rattle.plain_machine.specs.Machine.{Machine, opening}
 use Rattle.plain_machine.specs.Happening.{effect}

@@ -1,7 +1,8 @@
 //! What is told of an event beside what its texts were.
 ghost use Rattle.std.specs.Prelude.{◌≡◌};
 
-use plain_machine::{GivenUpCommand, SentMessage};
+use crate::sent::SentMessage;
+use plain_machine::GivenUpCommand;
 use std::alloc::Global;
 use std::mem::swap;
 

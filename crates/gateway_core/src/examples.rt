@@ -10,16 +10,18 @@ ghost use Rattle.command_forms.specs.Refusing.{letter_k, letter_x};
 ghost use Rattle.transmission.specs.Example.{dot_lines};
 ghost use Rattle.transmission.specs.Texts.{most_texts};
 ghost use Rattle.plain_machine.specs.Event.{datagram, phone, tick};
-ghost use Rattle.plain_machine.specs.Example.{example, agent, other_agent, audit, rqnt, crcx, mdcx, response, from_agent};
+ghost use Rattle.plain_machine.specs.Example.{example, agent, other_agent, audit, rqnt, crcx, mdcx, response, from_agent, lifted, lifted_message};
 ghost use Rattle.gateway_texts.specs.declared.outcome.Reply.TheVariants.{First, Again, Silence, NoRoom};
 ghost use Rattle.gateway_texts.specs.declared.outcome.TextOutcome.TheVariants.{NoMessage, Command, Response};
-ghost use Rattle.plain_machine.specs.Labelling.{front_code};
+ghost use Rattle.plain_machine.specs.Labelling.{front_code, label_of};
 ghost use Rattle.gateway_texts.specs.Outcomes.{reply_by, last_outcomes};
 ghost use Rattle.plain_machine.specs.declared.label.Whose.TheVariants.{AnswerOf, OwnOf, Nobody};
 ghost use Rattle.plain_machine.specs.declared.label.What.TheVariants as whats;
 ghost use Rattle.plain_machine.specs.Lists.{plain};
 ghost use Rattle.gateway_core.specs.Remembering.{remembered};
-ghost use Rattle.gateway_core.specs.Example.{told, audited, accounted, labels, labelled};
+ghost use Rattle.gateway_core.specs.Labelling.{sent_message};
+ghost use Rattle.gateway_core.specs.Outgoing.{own_messages, other_messages, texts_within};
+ghost use Rattle.gateway_core.specs.Example.{told, audited, accounted, labels, labelled, sizes, sized, datagram_of};
 
 /// Each sentence at an example.
 pub fn each_sentence_has_an_example()
@@ -88,7 +90,7 @@ pub fn further_sentences_have_examples()
     ensures all_lines { labels (from_agent (codes "AUEP 1202 *@rgw.example.net MGCP 1.0\r\n") ∷ [])
         ≡ labelled (AnswerOf None) (whats.Answer 200) 1202 ∷ [] }
     ensures answers_are_told_of_again { labels (from_agent (audit 1206) ∷ datagram other_agent (audit 1206) ∷ [])
-        ≡ (record { to = other_agent; moment = 1000; label = record { whose = AnswerOf (Some 1); what = whats.Again 200; id = 1206 } })
+        ≡ (record { to = other_agent; moment = 1000; label = record { whose = AnswerOf (Some 1); what = whats.Again 200; id = 1206 }; size = 0 })
         ∷ [] }
     ensures again_as_another { labels (from_agent (audit 1206)
         ∷ from_agent (codes "AUEP 1206 aaln/2@rgw.example.net MGCP 1.0\r\n") ∷ [])
@@ -106,7 +108,7 @@ pub fn further_sentences_have_examples()
         ≡ labelled Nobody whats.Acknowledgement 9 ∷ [] }
     ensures own { labels (phone 1 OffHook ∷ []) ≡ labelled (OwnOf 1) (whats.Command Ntfy) 10000000 ∷ [] }
     ensures resent { labels (phone 1 OffHook ∷ tick 1500 ∷ [])
-        ≡ (record { to = agent; moment = 1500; label = record { whose = OwnOf 1; what = whats.Resent Ntfy 2; id = 10000000 } }) ∷ [] }
+        ≡ (record { to = agent; moment = 1500; label = record { whose = OwnOf 1; what = whats.Resent Ntfy 2; id = 10000000 }; size = 0 }) ∷ [] }
     ensures in_order { labels (from_agent (audit 1206 ++ codes ".\r\n" ++ audit 1207) ∷ [])
         ≡ labelled (AnswerOf (Some 1)) (whats.Answer 200) 1206 ∷ labelled (AnswerOf (Some 1)) (whats.Answer 200) 1207 ∷ [] }
     ensures other_messages_are_told_of_last { labels (from_agent (audit 1206) ∷ phone 1 OffHook ∷ [])
@@ -131,6 +133,22 @@ pub fn further_sentences_have_examples()
     ensures description { told (crcx 1 (codes "aaln/1") (codes "\r\nv=0\r\n") ∷ [])
         ≡ Command (Some Crcx) 1 (First 509 (Some parts.Description)) ∷ [] }
     ensures at_the_line { told (mdcx 1 (codes "C: 2\r\nI: 1\r\n") ∷ []) ≡ Command (Some Mdcx) 1 (First 516 None) ∷ [] }
+{}
+
+/// It is told how many bytes each message has, and by that messages stand in the datagrams that they go out in, one behind the other, with
+/// a dot line between two.
+pub fn messages_stand_in_datagrams_by_their_bytes()
+    ensures message { sent_message lifted_message
+        ≡ record { to = agent; moment = 1000; label = label_of lifted_message; size = length lifted } }
+    ensures answers { sizes (from_agent (audit 1206 ++ codes ".\r\n" ++ audit 12070) ∷ []) ≡ 13 ∷ 14 ∷ [] }
+    ensures command { sizes (phone 1 OffHook ∷ []) ≡ length lifted ∷ [] }
+    ensures both { own_messages (datagram_of (codes "ab\n.\r\ncde\n")) (sized 3 ∷ sized 4 ∷ sized 5 ∷ []) ≡ sized 3 ∷ sized 4 ∷ [] }
+    ensures behind { other_messages (datagram_of (codes "ab\n.\r\ncde\n")) (sized 3 ∷ sized 4 ∷ sized 5 ∷ []) ≡ sized 5 ∷ [] }
+    ensures one { own_messages (datagram_of (codes "ab\n")) (sized 3 ∷ sized 0 ∷ []) ≡ sized 3 ∷ [] }
+    ensures a_byte_short { own_messages (datagram_of (codes "ab\n.\r\ncde")) (sized 3 ∷ sized 4 ∷ []) ≡ sized 3 ∷ [] }
+    ensures no_message { own_messages (datagram_of (codes "ab\n")) [] ≡ [] }
+    ensures texts { texts_within (codes "ab\n.\r\ncde\n") (sized 3 ∷ sized 4 ∷ []) ≡ codes "ab\n" ∷ codes "cde\n" ∷ [] }
+    ensures no_text { texts_within (codes "ab\n") [] ≡ [] }
 {}
 
 /// As many texts are told of as a datagram can have: each of its lines is a single dot.

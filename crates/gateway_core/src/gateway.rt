@@ -9,6 +9,7 @@ ghost use Rattle.gateway_texts.specs.State.{machine_in};
 
 use crate::account::{Account, give_way};
 use crate::changing::{is_marked, no_marks};
+use crate::sent::SentMessage;
 use crate::stopped::Stopped;
 use crate::working::step_state;
 use arrayvec::ArrayVec;
@@ -18,7 +19,7 @@ use gateway_texts::{Outcomes, State, TextOutcome, opening_state};
 use history::MOST_FIRSTS;
 use mg_line::Hook;
 use plain_machine::{
-    Config, ConfigFault, Event, GivenUpCommand, Outputs, Refusal, SentMessage, Setup,
+    Config, ConfigFault, Event, GivenUpCommand, Outputs, Refusal, Setup,
 };
 use signals::ActiveSignal;
 use std::alloc::Global;
@@ -240,8 +241,8 @@ impl Gateway {
     }
 
     /// Each message that was sent at the last event that was taken, in their order, with its label: where to and when, whose it is,
-    /// what, its transaction id, its return code or verb, and which send of it this is. A refused event leaves what was told of
-    /// the one before it.
+    /// what, its transaction id, its return code or verb, which send of it this is, and how many bytes it has: by these `split_sent`
+    /// finds its datagram, and `split_text` its text there. A refused event leaves what was told of the one before it.
     pub fn sent(&self) -> &[SentMessage]
         ensures last { (events : List GatewayEvent) → Stands self.now events →
             result.now ≡ (last_account self.now.setup events).sent }

@@ -10,7 +10,9 @@ mod changing;
 pub mod examples;
 mod gateway;
 pub mod laws;
+mod outgoing;
 mod parting;
+mod sent;
 mod served;
 mod serving;
 mod stopped;
@@ -19,6 +21,8 @@ mod wire;
 mod working;
 
 pub use crate::gateway::Gateway;
+pub use crate::outgoing::{split_sent, split_text};
+pub use crate::sent::SentMessage;
 pub use crate::served::Served;
 pub use crate::stopped::Stopped;
 pub use crate::wire::{DATAGRAM_ROOM, Input, Wire, WireFault};
@@ -26,5 +30,5 @@ pub use endpoints::key_at_fault;
 pub use gateway_texts::{Reply, TextOutcome};
 pub use plain_machine::{
     Config, ConfigFault, ConfigKey, Event, FIRSTS, GivenUpCommand, Label, NamedRoute, OutDatagram,
-    Outputs, Refusal, SentMessage, What, Whose,
+    Outputs, Refusal, What, Whose,
 };

@@ -1,9 +1,10 @@
 //! Messages are parted into what is told of them, and the datagrams that each would have alone.
 ghost use Rattle.std.specs.Prelude.{◌≡◌, map, IfOk, OnOk};
-ghost use Rattle.plain_machine.specs.Labelling.{told_of};
+ghost use Rattle.gateway_core.specs.Labelling.{told_of};
 
+use crate::sent::SentMessage;
 use mg_bytes::OutOfMemory;
-use plain_machine::{OutDatagram, OutMessage, SentMessage};
+use plain_machine::{OutDatagram, OutMessage};
 use std::alloc::Global;
 
 /// The datagrams of messages, each of which would have one of its own; what is told of the messages takes the place of what was
@@ -24,6 +25,7 @@ pub(crate) fn part(
             to: datagram.to,
             moment: datagram.moment,
             label,
+            size: datagram.bytes.as_bytes().len(),
         })?;
         datagrams.push(datagram)?;
     }

@@ -2,7 +2,7 @@
 ghost use Rattle.std.specs.Prelude.{◌≡◌, is_ok, OnOk, OnErr};
 ghost use Rattle.plain_machine.specs.Event.{event_of};
 ghost use Rattle.plain_machine.specs.Happening.{effect};
-ghost use Rattle.plain_machine.specs.Labelling.{labels_of};
+ghost use Rattle.gateway_core.specs.Labelling.{labels_of};
 ghost use Rattle.plain_machine.specs.GivingUp.{given_up_with};
 ghost use Rattle.std.specs.Result.{result_err};
 ghost use Rattle.plain_machine.specs.Refusing.{Ends};

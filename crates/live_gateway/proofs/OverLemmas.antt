@@ -10,7 +10,7 @@ use Rattle.live_outlets.specs.declared.now.Now.{Now}
 use Rattle.live_journal.specs.declared.journal.Journal.{Journal}
 use Rattle.message_counts.specs.declared.reporting.Faults.{Faults}
 use Rattle.plain_machine.specs.Event.{GatewayEvent, datagram}
-use Rattle.plain_machine.specs.declared.label.SentMessage.{SentMessage}
+use Rattle.gateway_core.specs.declared.sent.SentMessage.{SentMessage}
 use Rattle.surroundings.specs.Speaking.{Admitted}
 use Rattle.surroundings.specs.declared.surroundings.Fault.{Fault}
 use Rattle.told_messages.specs.declared.log.Log.{Log}
@@ -18,7 +18,8 @@ use Rattle.traces.specs.Writing.{Input}
 use Rattle.traces.specs.declared.telling.Mark.{Mark}
 use Rattle.traces.specs.declared.telling.Mark.TheVariants.{Unsent, Lost}
 use Rattle.transmission.specs.declared.output.OutDatagram.{OutDatagram}
-use Rattle.live_play.specs.Running.{Live, own_messages, other_messages, HandsEach, TakesBy}
+use Rattle.gateway_core.specs.Outgoing.{own_messages, other_messages}
+use Rattle.live_play.specs.Running.{Live, HandsEach, TakesBy}
 use Rattle.live_gateway.specs.declared.exchange.Exchange.{Exchange}
 use Rattle.live_gateway.specs.Exchanging.{with_mark, with_refused, unsent_in, IsTold, HandsOver, OnlySends, OnlyNotes, Explains, Notes}
 use Rattle.live_gateway.specs.Exchanging.{NotesTaken, NotesRefused, TakesOver}

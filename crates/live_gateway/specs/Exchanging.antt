@@ -16,7 +16,7 @@ use Rattle.message_counts.specs.declared.reporting.Faults.{Faults}
 use Rattle.page_board.specs.declared.ring.Kind.TheVariants.{Sent as OfSent}
 use Rattle.gateway_texts.specs.declared.outcome.TextOutcome.{TextOutcome}
 use Rattle.plain_machine.specs.Event.{GatewayEvent, datagram}
-use Rattle.plain_machine.specs.declared.label.SentMessage.{SentMessage}
+use Rattle.gateway_core.specs.declared.sent.SentMessage.{SentMessage}
 use Rattle.told_messages.specs.Labelling.{sent_label}
 use Rattle.told_messages.specs.Logging.{Sends, Turns}
 use Rattle.told_messages.specs.Recording.{Records, unsent_text}

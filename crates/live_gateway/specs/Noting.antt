@@ -8,7 +8,7 @@ use Rattle.gateway_texts.specs.declared.outcome.TextOutcome.{TextOutcome}
 use Rattle.gateway_core.specs.Wire.{counted}
 use Rattle.page_board.specs.declared.ring.Kind.TheVariants.{Received as OfReceived}
 use Rattle.plain_machine.specs.Event.{GatewayEvent, datagram, phone, tick}
-use Rattle.plain_machine.specs.declared.label.SentMessage.{SentMessage}
+use Rattle.gateway_core.specs.declared.sent.SentMessage.{SentMessage}
 use Rattle.surroundings.specs.Speaking.{Admitted}
 use Rattle.surroundings.specs.declared.surroundings.Fault.{Fault}
 use Rattle.told_messages.specs.declared.log.Log.{Log}

@@ -6,7 +6,7 @@ use Rattle.std.specs.declared.net.socket_addr.SocketAddrV4.{SocketAddrV4}
 use Rattle.bad_network.specs.declared.fate.Fate.{Fate}
 use Rattle.page_board.specs.declared.ring.Kind.TheVariants.{Sent as OfSent}
 use Rattle.page_board.specs.Showing.{BoardState}
-use Rattle.plain_machine.specs.declared.label.SentMessage.{SentMessage}
+use Rattle.gateway_core.specs.declared.sent.SentMessage.{SentMessage}
 use Rattle.told_messages.specs.Labelling.{sent_label}
 use Rattle.told_messages.specs.Showing.{GoesOn, HappenedWith}
 use Rattle.traces.specs.declared.telling.Mark.{Mark}

@@ -18,8 +18,7 @@ use Rattle.bad_network.specs.declared.packet.Way.TheVariants.{In}
 use Rattle.bad_network.specs.Waiting.{copies_of, put_in, put_all}
 use Rattle.message_counts.specs.declared.reporting.Faults.{Faults}
 use Rattle.page_board.specs.Showing.{BoardState}
-use Rattle.piggyback.specs.Parts.{parts_of}
-use Rattle.plain_machine.specs.declared.label.SentMessage.{SentMessage}
+use Rattle.gateway_core.specs.declared.sent.SentMessage.{SentMessage}
 use Rattle.gateway_core.specs.GatewayState.{GatewayState}
 use Rattle.surroundings.specs.Sending.{Received, Grows, found_by}
 use Rattle.surroundings.specs.declared.surroundings.Fault.{Fault}
@@ -29,9 +28,10 @@ use Rattle.traces.specs.declared.telling.Mark.TheVariants.{Lost}
 use Rattle.traces.specs.Writing.{Entry, became}
 use Rattle.transmission.specs.declared.output.OutDatagram.{OutDatagram}
 use Rattle.live_journal.specs.declared.journal.Journal.{Journal}
-use Rattle.live_play.specs.Running.{AreNoted, own_messages, HandsEach}
+use Rattle.gateway_core.specs.Outgoing.{own_messages}
+use Rattle.live_play.specs.Running.{AreNoted, HandsEach}
 use Rattle.live_play.specs.Example.{says, lost_behind_one, loses_the_second, keeps}
-use Rattle.live_play.proofs.ExampleLemmas.{none_is_noted, lost_is_noted}
+use Rattle.live_play.proofs.ExampleLemmas.{none_is_noted, lost_is_noted, alone}
 use Rattle.live_telephones.specs.Paging.{IsOf, ShowsOn, ShowsPage}
 use Rattle.live_gateway.specs.Admitting.{is_heard, heard_of}
 use Rattle.live_gateway.specs.Exchanging.{received_by, read_at, faults_at, FoundSince}
@@ -169,15 +169,14 @@ lost_behind a messages (mark ∷ []) marks told to one each noted =
 lost_behind a messages (mark ∷ other ∷ said) marks told to one each noted = absurd each.2
 
 -- what is handed to one that keeps it has the messages of its gateway
-pub kept_of : (a : OutDatagram) (x : List ℕ) (one : SentMessage) (messages : List SentMessage) (said : List (Option Mark))
-    (told to : List (List SentMessage)) → told ≡ [] → messages ≡ one ∷ [] → parts_of a.bytes ≡ x ∷ []
+pub kept_of : (a : OutDatagram) (one : SentMessage) (messages : List SentMessage) (said : List (Option Mark))
+    (told to : List (List SentMessage)) → told ≡ [] → messages ≡ one ∷ [] → length a.bytes ≡ one.size
     → HandsEach keeps (a ∷ []) messages told said to → to ≡ (one ∷ []) ∷ []
-kept_of a x one messages [] told to none has first each = absurd each
-kept_of a x one messages (mark ∷ []) told to none has first each =
+kept_of a one messages [] told to none has first each = absurd each
+kept_of a one messages (mark ∷ []) told to none has first each =
     each.2 ∙ each.1 ∙ ap (λ (l : List (List SentMessage)). l ++ own_messages a messages ∷ []) none
-    ∙ ap (λ (l : List SentMessage). take (length (parts_of a.bytes)) l ∷ []) has
-    ∙ ap (λ (l : List (List ℕ)). take (length l) (one ∷ []) ∷ []) first
-kept_of a x one messages (mark ∷ other ∷ said) told to none has first each = absurd each.2
+    ∙ ap (λ (l : List SentMessage). own_messages a l ∷ []) has ∙ ap (λ (n : ℕ). take n (one ∷ []) ∷ []) (alone a one [] first)
+kept_of a one messages (mark ∷ other ∷ said) told to none has first each = absurd each.2
 
 -- ---- the page's acts
 

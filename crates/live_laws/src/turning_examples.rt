@@ -29,7 +29,7 @@ ghost use Rattle.gateway_core.specs.Wire.{counted};
 ghost use Rattle.message_counts.specs.Counting.{counts_in};
 ghost use Rattle.message_counts.specs.Tallying.{with_handed_out};
 ghost use Rattle.page_board.specs.declared.ring.Kind.TheVariants.{Sent as OfSent};
-ghost use Rattle.plain_machine.specs.declared.label.SentMessage.{SentMessage};
+ghost use Rattle.gateway_core.specs.declared.sent.SentMessage.{SentMessage};
 ghost use Rattle.told_messages.specs.Labelling.{sent_label};
 ghost use Rattle.told_messages.specs.Showing.{HappenedWith};
 ghost use Rattle.told_messages.specs.Coming.{untaken_text};

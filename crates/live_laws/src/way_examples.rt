@@ -1,7 +1,7 @@
 //! Worked examples of what goes over an exchange, of what an outlet is told and handed, and of what a page is shown, as theorems.
 #![tactic(auto)]
 
-ghost use Rattle.std.specs.Prelude.{◌≡◌, ◌⊎◌, ⊤, [], ◌∷◌, true, false, not, ℕ, Bool, List, Option, Some, None, Result, Ok, Err};
+ghost use Rattle.std.specs.Prelude.{◌≡◌, ◌⊎◌, ⊤, [], ◌∷◌, true, false, not, ℕ, Bool, List, length, Option, Some, None, Result, Ok, Err};
 ghost use Rattle.std.specs.Global.{Box};
 ghost use Rattle.std.specs.declared.net.socket_addr.SocketAddrV4.{SocketAddrV4};
 ghost use Rattle.bad_network.specs.declared.fate.Fate.{Fate};
@@ -15,8 +15,7 @@ ghost use Rattle.gateway_core.specs.GatewayState.{GatewayState};
 ghost use Rattle.gateway_core.specs.Stands.{Stands};
 ghost use Rattle.gateway_core.specs.Wire.{counted};
 ghost use Rattle.page_board.specs.Showing.{BoardState};
-ghost use Rattle.piggyback.specs.Parts.{parts_of};
-ghost use Rattle.plain_machine.specs.declared.label.SentMessage.{SentMessage};
+ghost use Rattle.gateway_core.specs.declared.sent.SentMessage.{SentMessage};
 ghost use Rattle.plain_machine.specs.Event.{GatewayEvent};
 ghost use Rattle.plain_machine.specs.Lists.{plain};
 ghost use Rattle.surroundings.specs.Sending.{Sent, found_by};
@@ -125,17 +124,17 @@ pub fn what_an_outlet_is_told_and_handed()
         → from.by.marks ≡ became Lost 1 ∷ [] }
     ensures teller { (teller : GatewayState) (was is : Live) → HandsFrom (is_told_by teller) (says None) was 0 [] is 0
         → is.gateway ≡ teller }
-    ensures messages { (was is : Live) (a : OutDatagram) (x : List ℕ) (one : SentMessage) (kept : List (List SentMessage))
-        → parts_of a.bytes ≡ x ∷ [] → is.gateway.account.sent ≡ one ∷ [] → HandsFrom stays_where_told keeps was [] (a ∷ []) is kept
+    ensures messages { (was is : Live) (a : OutDatagram) (one : SentMessage) (kept : List (List SentMessage))
+        → length a.bytes ≡ one.size → is.gateway.account.sent ≡ one ∷ [] → HandsFrom stays_where_told keeps was [] (a ∷ []) is kept
         → kept ≡ (one ∷ []) ∷ [] }
     ensures taken_before { (was is : Live) (a : OutDatagram) (input : Input) (event : GatewayEvent)
         (by : TakesBy counts_turns loses_the_second was 0 input event is 2) → by.takes.outputs ≡ a ∷ []
         → by.takes.marks ≡ became Lost 1 ∷ [] }
     ensures taken_teller { (teller : GatewayState) (was is : Live) (input : Input) (event : GatewayEvent)
         → TakesBy (is_told_by teller) (says None) was 0 input event is 0 → is.gateway ≡ teller }
-    ensures taken_messages { (was is : Live) (a : OutDatagram) (x : List ℕ) (one : SentMessage) (kept : List (List SentMessage))
+    ensures taken_messages { (was is : Live) (a : OutDatagram) (one : SentMessage) (kept : List (List SentMessage))
         (input : Input) (event : GatewayEvent) (by : TakesBy stays_where_told keeps was [] input event is kept)
-        → by.takes.outputs ≡ a ∷ [] → parts_of a.bytes ≡ x ∷ [] → is.gateway.account.sent ≡ one ∷ [] → kept ≡ (one ∷ []) ∷ [] }
+        → by.takes.outputs ≡ a ∷ [] → length a.bytes ≡ one.size → is.gateway.account.sent ≡ one ∷ [] → kept ≡ (one ∷ []) ∷ [] }
 {}
 
 /// The page is asked for its next act where it is its turn, or nobody may have typed; behind a line that was typed it is its turn. Where it

@@ -1,15 +1,16 @@
 -- What is noted of datagrams, and what each has, in worked examples.
-use Rattle.std.proofs.Common.{◌≡◌, inl, inr, ℕ, ◌+◌, ◌<◌, ◌≤◌, List, [], ◌∷◌, ◌++◌, length, take, drop, Option, Some, None, refl, ◌∙◌, ap, subst, arith}
-use Rattle.piggyback.specs.Parts.{parts_of}
-use Rattle.plain_machine.specs.declared.label.SentMessage.{SentMessage}
+use Rattle.std.proofs.Common.{◌≡◌, inl, inr, ℕ, suc, ◌+◌, ◌<◌, ◌≤◌, List, [], ◌∷◌, ◌++◌, length, take, drop, Option, Some, None, refl, ◌∙◌, ap, subst, arith}
+use Rattle.gateway_core.specs.declared.sent.SentMessage.{SentMessage}
 use Rattle.transmission.specs.declared.output.OutDatagram.{OutDatagram}
 use Rattle.traces.specs.declared.telling.Mark.{Mark}
 use Rattle.traces.specs.declared.telling.Mark.TheVariants.{Lost}
 use Rattle.traces.specs.Writing.{Entry, Input, became}
 use Rattle.std.specs.Prelude.{⊤}
 use Rattle.gateway_core.specs.GatewayState.{GatewayState}
+use Rattle.gateway_core.specs.Outgoing.{dot_line, count_within, own_messages, other_messages}
+use Rattle.gateway_core.proofs.OutgoingLemmas.{none_within, one_within}
 use Rattle.plain_machine.specs.Event.{GatewayEvent}
-use Rattle.live_play.specs.Running.{Live, IsNoted, AreNoted, own_messages, other_messages, messages_behind, HandsEach, HandsFrom, TakesBy}
+use Rattle.live_play.specs.Running.{Live, IsNoted, AreNoted, messages_behind, HandsEach, HandsFrom, TakesBy}
 use Rattle.live_play.specs.Readable.{first_unread}
 use Rattle.live_play.specs.Example.{says, lost_behind_one, loses_the_second, keeps}
 
@@ -70,29 +71,40 @@ one_is_marked was is to input event a takes same =
     one_is_lost a is.gateway.account.sent takes.turned to takes.said takes.takes.marks
     (subst (λ (l : List OutDatagram). HandsEach (says (Some Lost)) l is.gateway.account.sent takes.turned takes.said to) same takes.each) takes.noted
 
-pub each_has_one : (a b : OutDatagram) (x y : List ℕ) (one other : SentMessage) (said : List (Option Mark)) (is : List (List SentMessage))
-    → parts_of a.bytes ≡ x ∷ [] → parts_of b.bytes ≡ y ∷ [] → HandsEach keeps (a ∷ b ∷ []) (one ∷ other ∷ []) [] said is
+-- a datagram that is as long as the first message has that alone
+pub alone : (a : OutDatagram) (one : SentMessage) (more : List SentMessage) → length a.bytes ≡ one.size
+    → count_within (length a.bytes + dot_line) (one ∷ more) ≡ 1
+alone a one more long =
+    let room : length a.bytes + dot_line ≡ one.size + dot_line + 0 = omega (arith, long) in
+    one_within one more _ 0 room ∙ ap suc (none_within more)
+
+pub each_has_one : (a b : OutDatagram) (one other : SentMessage) (said : List (Option Mark)) (is : List (List SentMessage))
+    → length a.bytes ≡ one.size → length b.bytes ≡ other.size → HandsEach keeps (a ∷ b ∷ []) (one ∷ other ∷ []) [] said is
     → is ≡ (one ∷ []) ∷ (other ∷ []) ∷ []
-each_has_one a b x y one other [] is first second h = absurd h
-each_has_one a b x y one other (m ∷ []) is first second h = absurd h.2
-each_has_one a b x y one other (m ∷ n ∷ []) is first second h =
+each_has_one a b one other [] is first second h = absurd h
+each_has_one a b one other (m ∷ []) is first second h = absurd h.2
+each_has_one a b one other (m ∷ n ∷ []) is first second h =
     let more = h.2 in
-    let own : own_messages a (one ∷ other ∷ []) ≡ one ∷ [] = ap (λ (l : List (List ℕ)). take (length l) (one ∷ other ∷ [])) first in
-    let left : other_messages a (one ∷ other ∷ []) ≡ other ∷ [] = ap (λ (l : List (List ℕ)). drop (length l) (one ∷ other ∷ [])) first in
+    let own : own_messages a (one ∷ other ∷ []) ≡ one ∷ [] = ap (λ (n : ℕ). take n (one ∷ other ∷ [])) (alone a one (other ∷ []) first) in
+    let left : other_messages a (one ∷ other ∷ []) ≡ other ∷ [] = ap (λ (n : ℕ). drop n (one ∷ other ∷ [])) (alone a one (other ∷ []) first) in
     let next : own_messages b (other_messages a (one ∷ other ∷ [])) ≡ other ∷ [] =
-    ap (λ (l : List SentMessage). take (length (parts_of b.bytes)) l) left ∙ ap (λ (l : List (List ℕ)). take (length l) (other ∷ [])) second in
+    ap (λ (l : List SentMessage). own_messages b l) left ∙ ap (λ (n : ℕ). take n (other ∷ [])) (alone b other [] second) in
     more.2 ∙ more.1
     ∙ ap (λ (l : List (List SentMessage)). l ++ own_messages b (other_messages a (one ∷ other ∷ [])) ∷ []) (h.1 ∙ ap (λ (l : List SentMessage). l ∷ []) own)
     ∙ ap (λ (l : List SentMessage). (one ∷ []) ∷ l ∷ []) next
-each_has_one a b x y one other (m ∷ n ∷ o ∷ said) is first second h = let more = h.2 in absurd more.2
+each_has_one a b one other (m ∷ n ∷ o ∷ said) is first second h = let more = h.2 in absurd more.2
 
-pub one_has_both : (a : OutDatagram) (x y : List ℕ) (one other : SentMessage) (said : List (Option Mark)) (is : List (List SentMessage))
-    → parts_of a.bytes ≡ x ∷ y ∷ [] → HandsEach keeps (a ∷ []) (one ∷ other ∷ []) [] said is → is ≡ (one ∷ other ∷ []) ∷ []
-one_has_both a x y one other [] is both h = absurd h
-one_has_both a x y one other (m ∷ []) is both h =
-    h.2 ∙ h.1 ∙ ap (λ (l : List (List ℕ)). take (length l) (one ∷ other ∷ []) ∷ []) both
-one_has_both a x y one other (m ∷ n ∷ said) is both h = absurd h.2
+pub one_has_both : (a : OutDatagram) (one other : SentMessage) (said : List (Option Mark)) (is : List (List SentMessage))
+    → length a.bytes ≡ one.size + 3 + other.size → HandsEach keeps (a ∷ []) (one ∷ other ∷ []) [] said is → is ≡ (one ∷ other ∷ []) ∷ []
+one_has_both a one other [] is both h = absurd h
+one_has_both a one other (m ∷ []) is both h =
+    let room : length a.bytes + dot_line ≡ one.size + dot_line + (other.size + dot_line) = omega (arith, both) in
+    let rest : other.size + dot_line ≡ other.size + dot_line + 0 = omega arith in
+    let two : count_within (length a.bytes + dot_line) (one ∷ other ∷ []) ≡ 2 =
+    one_within one (other ∷ []) _ _ room ∙ ap suc (one_within other [] _ 0 rest ∙ ap suc (none_within [])) in
+    h.2 ∙ h.1 ∙ ap (λ (n : ℕ). take n (one ∷ other ∷ []) ∷ []) two
+one_has_both a one other (m ∷ n ∷ said) is both h = absurd h.2
 
-pub second_is_behind : (a : OutDatagram) (x : List ℕ) (one other : SentMessage) → parts_of a.bytes ≡ x ∷ []
+pub second_is_behind : (a : OutDatagram) (one other : SentMessage) → length a.bytes ≡ one.size
     → messages_behind (a ∷ []) (one ∷ other ∷ []) ≡ other ∷ []
-second_is_behind a x one other first = ap (λ (l : List (List ℕ)). drop (length l) (one ∷ other ∷ [])) first
+second_is_behind a one other first = ap (λ (n : ℕ). drop n (one ∷ other ∷ [])) (alone a one (other ∷ []) first)

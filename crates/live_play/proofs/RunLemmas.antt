@@ -1,7 +1,7 @@
 -- How entries follow one another.
-use Rattle.std.proofs.Common.{◌≡◌, inl, inr, ℕ, ◌+◌, ◌<◌, ◌≤◌, length, take, drop, min, get_or, Bool, true, false, List, [], ◌∷◌, ◌++◌, map, Option, Some, None, refl, sym, ◌∙◌, ap, subst, append_assoc, append-nil, arith}
+use Rattle.std.proofs.Common.{◌≡◌, inl, inr, ℕ, ◌+◌, ◌<◌, ◌≤◌, length, take, get_or, Bool, true, false, List, [], ◌∷◌, ◌++◌, map, Option, Some, None, refl, sym, ◌∙◌, ap, subst, append_assoc, append-nil, arith}
 use Rattle.std.specs.Prelude.{IfSome, OnOk, Result, Ok, Err}
-use Rattle.std.proofs.lemmas.List.{map-append, take_more, take_min, drop_min, length-append, length-take-le}
+use Rattle.std.proofs.lemmas.List.{map-append, take_more, length-append, length-take-le}
 use Rattle.std.proofs.lemmas.Bool.{le-leb}
 use Rattle.std.proofs.lemmas.Grind.{flat_map-append}
 use Rattle.std.specs.declared.net.socket_addr.SocketAddrV4.{SocketAddrV4}
@@ -10,9 +10,8 @@ use Rattle.mg_line.specs.declared.phone.Act.{Act}
 use Rattle.surroundings.specs.Sending.{Sent, Grows}
 use Rattle.surroundings.proofs.TrafficLemmas.{grows_nothing, grows_on, known}
 use Rattle.transmission.specs.declared.output.OutDatagram.{OutDatagram}
-use Rattle.piggyback.specs.Parts.{parts_of}
 use Rattle.plain_machine.specs.declared.setup.Setup.{Setup}
-use Rattle.plain_machine.specs.declared.label.SentMessage.{SentMessage}
+use Rattle.gateway_core.specs.declared.sent.SentMessage.{SentMessage}
 use Rattle.gateway_rules.specs.declared.refusal.Refusal.{Refusal}
 use Rattle.gateway_rules.specs.declared.refusal.Refusal.TheVariants.{OutOfMemory, NoSuchLine}
 use Rattle.plain_machine.specs.Event.{GatewayEvent, phone}
@@ -21,6 +20,7 @@ use Rattle.plain_machine.specs.Machine.{Machine}
 use Rattle.plain_machine.specs.Refusing.{Ends, ends, refusal_of, takes_none}
 use Rattle.plain_machine.proofs.EndLaws.{ends_fine, ends_cause}
 use Rattle.gateway_core.specs.GatewayState.{GatewayState}
+use Rattle.gateway_core.specs.Outgoing.{own_messages, other_messages}
 use Rattle.gateway_core.specs.Stands.{Stands, Took}
 use Rattle.gateway_core.proofs.StandLemmas.{took_none}
 use Rattle.rgw_scripts.specs.declared.step.ScriptLine.TheVariants.{Whole}
@@ -34,7 +34,7 @@ use Rattle.rgw_scripts.specs.Printing.{printed_line, refusal_line, shown_line}
 use Rattle.traces.specs.Replaying.{move_in}
 use Rattle.traces.specs.Telling.{told, told_mark, told_text}
 use Rattle.traces.specs.Writing.{Entry, Input, arrived, typed, passed, clock_text, at_clock, showed, became, Says, IsPlay, taken_after, sent_at, sent_in, input_text, after_input, datagrams_in, entry_text, after_entry, written, script_after}
-use Rattle.live_play.specs.Running.{Live, sent_of, Ran, AreOf, RanOf, AreInPlace, AreMarks, HandsOut, IsNoted, AreNoted, own_messages, other_messages, messages_behind, HandsEach, HandsBy, HandsFrom, Takes, TakesBy, Refuses, Asked, IsAnswer, TellsRefusal}
+use Rattle.live_play.specs.Running.{Live, sent_of, Ran, AreOf, RanOf, AreInPlace, AreMarks, HandsOut, IsNoted, AreNoted, messages_behind, HandsEach, HandsBy, HandsFrom, Takes, TakesBy, Refuses, Asked, IsAnswer, TellsRefusal}
 use Rattle.live_play.specs.Readable.{first_unread, KeepsClock, IsByTick, AreByTicks, IsLater, AreLater}
 use Rattle.traces.proofs.ShowLemmas.{both_not}
 
@@ -153,17 +153,6 @@ hands_on was mid is before some more marks others a b = record {
   all = rw (length-append some more) (omega arith)
 
 -- ---- what an outlet is handed, and says
-
--- of messages as many go with a datagram as it has texts, if so many are left
-pub own_so : (count : ℕ) (datagram : OutDatagram) (messages own : List SentMessage) → count ≡ min (length (parts_of datagram.bytes)) (length messages)
-    → own ≡ take count messages → own ≡ own_messages datagram messages
-own_so count datagram messages own many cut =
-    cut ∙ ap (λ (n : ℕ). take n messages) many ∙ take_min (length (parts_of datagram.bytes)) messages
-
-pub others_so : (count : ℕ) (datagram : OutDatagram) (messages others : List SentMessage) → count ≡ min (length (parts_of datagram.bytes)) (length messages)
-    → others ≡ drop count messages → others ≡ other_messages datagram messages
-others_so count datagram messages others many cut =
-    cut ∙ ap (λ (n : ℕ). drop n messages) many ∙ drop_min (length (parts_of datagram.bytes)) messages
 
 behind_one_more : (some : List OutDatagram) (d : OutDatagram) (messages : List SentMessage)
     → messages_behind (some ++ d ∷ []) messages ≡ other_messages d (messages_behind some messages)

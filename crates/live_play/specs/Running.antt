@@ -1,13 +1,13 @@
 -- How a gateway runs live.
-use Rattle.std.specs.Prelude.{◌≡◌, ⊤, ◌⊎◌, ℕ, zero, suc, ◌+◌, ◌<◌, ◌≤◌, List, [], ◌∷◌, ◌++◌, length, map, take, drop, Option, Some, None, IfSome}
+use Rattle.std.specs.Prelude.{◌≡◌, ⊤, ◌⊎◌, ℕ, zero, suc, ◌+◌, ◌<◌, ◌≤◌, List, [], ◌∷◌, ◌++◌, length, map, Option, Some, None, IfSome}
 use Rattle.std.specs.declared.net.socket_addr.SocketAddrV4.{SocketAddrV4}
 use Rattle.surroundings.specs.Sending.{Sent, Grows}
 use Rattle.transmission.specs.declared.output.OutDatagram.{OutDatagram}
-use Rattle.piggyback.specs.Parts.{parts_of}
 use Rattle.plain_machine.specs.declared.setup.Setup.{Setup}
-use Rattle.plain_machine.specs.declared.label.SentMessage.{SentMessage}
+use Rattle.gateway_core.specs.declared.sent.SentMessage.{SentMessage}
 use Rattle.plain_machine.specs.Event.{GatewayEvent}
 use Rattle.gateway_core.specs.GatewayState.{GatewayState}
+use Rattle.gateway_core.specs.Outgoing.{own_messages, other_messages}
 use Rattle.gateway_core.specs.Stands.{Stands, Took}
 use Rattle.gateway_rules.specs.declared.refusal.Refusal.{Refusal}
 use Rattle.gateway_rules.specs.declared.refusal.Refusal.TheVariants.{OutOfMemory}
@@ -108,14 +108,7 @@ AreNoted before [] marks = marks ≡ []
 AreNoted before (mark ∷ said) marks =
     (noted others : List Entry) × IsNoted mark (before + 1) noted × (marks ≡ noted ++ others) × AreNoted (before + 1) said others
 
--- Of messages that go out in their order, those that stand in the datagram that goes next: so many as this has texts; those that stand
--- behind it; and those that are left behind several.
-abbrev pub own_messages : OutDatagram → List SentMessage → List SentMessage
-own_messages datagram messages = take (length (parts_of datagram.bytes)) messages
-
-abbrev pub other_messages : OutDatagram → List SentMessage → List SentMessage
-other_messages datagram messages = drop (length (parts_of datagram.bytes)) messages
-
+-- of messages that go out in their order, those that are left behind several datagrams
 abbrev pub messages_behind : List OutDatagram → List SentMessage → List SentMessage
 messages_behind [] messages = messages
 messages_behind (datagram ∷ more) messages = messages_behind more (other_messages datagram messages)

@@ -12,7 +12,7 @@ pub trait Outlet {
     ghost use Rattle.std.specs.declared.net.socket_addr.SocketAddrV4.{SocketAddrV4};
     ghost use Rattle.gateway_core.specs.GatewayState.{GatewayState};
     ghost use Rattle.surroundings.specs.Sending.{Sent};
-    ghost use Rattle.plain_machine.specs.declared.label.SentMessage.{SentMessage};
+    ghost use Rattle.gateway_core.specs.declared.sent.SentMessage.{SentMessage};
     ghost use Rattle.traces.specs.declared.telling.Mark.{Mark};
     ghost use Rattle.live_play.specs.Coming.{Came};
 

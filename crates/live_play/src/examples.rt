@@ -1,10 +1,9 @@
 //! Worked examples of what is noted of datagrams that are handed out, and of the messages that each has, as theorems.
 #![tactic(auto)]
 
-ghost use Rattle.std.specs.Prelude.{◌≡◌, ◌∷◌, [], ⊤, ℕ, List, Option, Some, None};
-ghost use Rattle.piggyback.specs.Parts.{parts_of};
+ghost use Rattle.std.specs.Prelude.{◌≡◌, ◌+◌, ◌∷◌, [], ⊤, ℕ, List, length, Option, Some, None};
 ghost use Rattle.plain_machine.specs.Event.{GatewayEvent};
-ghost use Rattle.plain_machine.specs.declared.label.SentMessage.{SentMessage};
+ghost use Rattle.gateway_core.specs.declared.sent.SentMessage.{SentMessage};
 ghost use Rattle.transmission.specs.declared.output.OutDatagram.{OutDatagram};
 ghost use Rattle.traces.specs.declared.telling.Mark.{Mark};
 ghost use Rattle.traces.specs.declared.telling.Mark.TheVariants.{Lost};
@@ -29,13 +28,15 @@ pub fn what_is_noted_is_what_an_outlet_said()
         → takes.takes.marks ≡ became Lost 1 ∷ [] }
 {}
 
-/// Each datagram is handed over with the messages that stand in it, in their order: as many as it has texts.
+/// Each datagram is handed over with the messages that stand in it, in their order: those whose bytes are its own, with a dot line of three
+/// bytes between two.
 pub fn a_datagram_has_the_messages_that_stand_in_it()
-    ensures apart { (a b : OutDatagram) (x y : List ℕ) (one other : SentMessage) (said : List (Option Mark)) (is : List (List SentMessage))
-        → parts_of a.bytes ≡ x ∷ [] → parts_of b.bytes ≡ y ∷ [] → HandsEach keeps (a ∷ b ∷ []) (one ∷ other ∷ []) [] said is
+    ensures apart { (a b : OutDatagram) (one other : SentMessage) (said : List (Option Mark)) (is : List (List SentMessage))
+        → length a.bytes ≡ one.size → length b.bytes ≡ other.size → HandsEach keeps (a ∷ b ∷ []) (one ∷ other ∷ []) [] said is
         → is ≡ (one ∷ []) ∷ (other ∷ []) ∷ [] }
-    ensures together { (a : OutDatagram) (x y : List ℕ) (one other : SentMessage) (said : List (Option Mark)) (is : List (List SentMessage))
-        → parts_of a.bytes ≡ x ∷ y ∷ [] → HandsEach keeps (a ∷ []) (one ∷ other ∷ []) [] said is → is ≡ (one ∷ other ∷ []) ∷ [] }
-    ensures behind { (a : OutDatagram) (x : List ℕ) (one other : SentMessage) → parts_of a.bytes ≡ x ∷ []
+    ensures together { (a : OutDatagram) (one other : SentMessage) (said : List (Option Mark)) (is : List (List SentMessage))
+        → length a.bytes ≡ one.size + 3 + other.size → HandsEach keeps (a ∷ []) (one ∷ other ∷ []) [] said is
+        → is ≡ (one ∷ other ∷ []) ∷ [] }
+    ensures behind { (a : OutDatagram) (one other : SentMessage) → length a.bytes ≡ one.size
         → messages_behind (a ∷ []) (one ∷ other ∷ []) ≡ other ∷ [] }
 {}

@@ -1,49 +1,20 @@
 //! What a gateway sends is handed out, and its trace told what became of it.
-ghost use Rattle.std.specs.Prelude.{◌≡◌, ◌≤◌, ◌+◌, ◌∷◌, [], ℕ, List, length, min};
-ghost use Rattle.piggyback.specs.Parts.{parts_of};
-ghost use Rattle.plain_machine.specs.declared.label.SentMessage.{SentMessage};
+ghost use Rattle.std.specs.Prelude.{◌≡◌, ◌+◌, ◌∷◌, [], ℕ, List};
+ghost use Rattle.gateway_core.specs.declared.sent.SentMessage.{SentMessage};
 ghost use Rattle.gateway_core.specs.GatewayState.{GatewayState};
 ghost use Rattle.traces.specs.declared.script.Script.{Script};
-ghost use Rattle.live_play.specs.Running.{live, own_messages, other_messages, HandsBy};
+ghost use Rattle.gateway_core.specs.Outgoing.{own_messages};
+ghost use Rattle.live_play.specs.Running.{live, HandsBy};
 
 use crate::ends::Outlet;
 use crate::placed::Placed;
 use crate::telling::tell_mark;
-use gateway_core::{OutDatagram, SentMessage};
-use piggyback::parts;
+use gateway_core::{OutDatagram, SentMessage, split_sent};
 use std::alloc::Global;
 use surroundings::Teller;
 
 /// The first place that isn't read again, of 19 digits.
 pub const FIRST_UNREAD: u64 = 1_000_000_000_000_000_000;
-
-// How many texts a datagram has, of so many at most.
-fn texts_in(bytes: &[u8], most: usize) -> usize
-    ensures count { result ≡ min (length (parts_of bytes.now)) most }
-    ensures few { result ≤ most }
-{
-    let mut count: usize = 0;
-    for _text in parts(bytes) {
-        if count == most {
-            return count;
-        }
-        count += 1;
-    }
-    count
-}
-
-// Of messages that go out in their order, those that stand in the datagram that goes next, and those behind it. No label says how long
-// its message is: where a datagram ends whose successor goes to the same address at the same moment, its bytes alone tell.
-fn split_messages<'a>(
-    datagram: &OutDatagram,
-    messages: &'a [SentMessage],
-) -> (&'a [SentMessage], &'a [SentMessage])
-    ensures own { result.0.now ≡ own_messages datagram.now messages.now }
-    ensures others { result.1.now ≡ other_messages datagram.now messages.now }
-{
-    let count = texts_in(datagram.bytes.as_bytes(), messages.len());
-    messages.split_at(count)
-}
 
 // The datagram at this place is handed out with its own messages. What became of it isn't told at a place that isn't read again.
 fn hand<O: Outlet, T: Teller>(
@@ -88,7 +59,7 @@ pub(crate) fn hand_all<O: Outlet, T: Teller>(
     let mut left = messages;
     for datagram in datagrams {
         place = place.saturating_add(1);
-        let (own, others) = split_messages(datagram, left);
+        let (own, others) = split_sent(datagram, left);
         hand(alloc, teller, out, datagram, own, place);
         left = others;
     }

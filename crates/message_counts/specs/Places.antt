@@ -6,10 +6,10 @@ use Rattle.std.specs.Net.Addr.{ipv4_octets}
 use Rattle.std.specs.declared.net.socket_addr.SocketAddrV4.{SocketAddrV4}
 use Rattle.endpoint_names.specs.declared.route.Route.{Route}
 use Rattle.endpoint_names.specs.Route.{addresses, most_addresses}
-use Rattle.plain_machine.specs.declared.label.SentMessage.{SentMessage}
+use Rattle.gateway_core.specs.declared.sent.SentMessage.{SentMessage}
 use Rattle.plain_machine.specs.declared.setup.Setup.{Setup}
 use Rattle.plain_machine.specs.Event.{GatewayEvent}
-use Rattle.plain_machine.specs.Labelling.{labels_of}
+use Rattle.gateway_core.specs.Labelling.{labels_of}
 use Rattle.plain_machine.specs.Machine.{Machine}
 use Rattle.plain_machine.specs.Happening.{effect}
 use Rattle.message_counts.specs.SentCounting.{one_more_at}

@@ -2,7 +2,7 @@
 use Rattle.std.specs.Prelude.{[], ◌∷◌}
 use Rattle.mgcp_text.specs.declared.message.Verb.TheVariants.{Ntfy, Rsip}
 use Rattle.plain_machine.specs.declared.given_up.GivenUpCommand.{GivenUpCommand}
-use Rattle.plain_machine.specs.declared.label.SentMessage.{SentMessage}
+use Rattle.gateway_core.specs.declared.sent.SentMessage.{SentMessage}
 use Rattle.plain_machine.specs.declared.label.What.{What}
 use Rattle.plain_machine.specs.declared.label.Whose.TheVariants.{Nobody}
 use Rattle.plain_machine.specs.Example.{agent}
@@ -10,7 +10,7 @@ use Rattle.message_counts.specs.SentCounting.{Tally, no_tally, with_sent}
 
 -- a message to the agent at 1,000 that is this
 abbrev pub said : What → SentMessage
-said what = record { to = agent; moment = 1000; label = record { whose = Nobody; what = what; id = 7 } }
+said what = record { to = agent; moment = 1000; label = record { whose = Nobody; what = what; id = 7 }; size = 0 }
 
 -- what is counted where this alone was sent
 abbrev pub counted_once : What → Tally

@@ -3,12 +3,12 @@ use Rattle.std.specs.Prelude.{ℕ, Bool, true, false, if◌then◌else◌, List,
 use Rattle.std.specs.List.{list_any}
 use Rattle.gateway_texts.specs.declared.outcome.TextOutcome.{TextOutcome}
 use Rattle.gateway_texts.specs.Outcomes.{outcomes_of}
-use Rattle.plain_machine.specs.declared.label.SentMessage.{SentMessage}
+use Rattle.gateway_core.specs.declared.sent.SentMessage.{SentMessage}
 use Rattle.plain_machine.specs.declared.label.What.{What}
 use Rattle.plain_machine.specs.declared.label.What.TheVariants as whats
 use Rattle.plain_machine.specs.declared.setup.Setup.{Setup}
 use Rattle.plain_machine.specs.Event.{GatewayEvent}
-use Rattle.plain_machine.specs.Labelling.{labels_of}
+use Rattle.gateway_core.specs.Labelling.{labels_of}
 use Rattle.plain_machine.specs.Machine.{Machine}
 use Rattle.plain_machine.specs.Happening.{effect}
 use Rattle.message_counts.specs.Counting.{is_response}

@@ -1,10 +1,10 @@
 //! What the counts are: laws, whose functions do nothing.
 ghost use Rattle.std.specs.Prelude.{◌≡◌, ◌<◌, List, length, slice_index_or, count_by};
 ghost use Rattle.plain_machine.specs.declared.given_up.GivenUpCommand.{GivenUpCommand};
-ghost use Rattle.plain_machine.specs.declared.label.SentMessage.{SentMessage};
+ghost use Rattle.gateway_core.specs.declared.sent.SentMessage.{SentMessage};
 ghost use Rattle.plain_machine.specs.declared.setup.Setup.{Setup};
 ghost use Rattle.plain_machine.specs.Event.{GatewayEvent};
-ghost use Rattle.plain_machine.specs.Labelling.{labels_of};
+ghost use Rattle.gateway_core.specs.Labelling.{labels_of};
 ghost use Rattle.plain_machine.specs.Lists.{sent_from};
 ghost use Rattle.plain_machine.specs.Machine.{Machine};
 ghost use Rattle.small_rules.specs.Counting.{counted};

@@ -13,7 +13,6 @@ use Rattle.plain_machine.specs.declared.label.What.{What}
 use Rattle.plain_machine.specs.declared.label.What.TheVariants as whats
 use Rattle.plain_machine.specs.declared.label.Label.{Label}
 use Rattle.plain_machine.specs.declared.label.OutMessage.{OutMessage}
-use Rattle.plain_machine.specs.declared.label.SentMessage.{SentMessage}
 use Rattle.plain_machine.specs.Message.{Owner, answer_of, own_of, of_none, Said, answer, again, command, resent, acknowledgement, Sent, datagram_of}
 
 abbrev pub whose_of : Owner → Whose
@@ -75,13 +74,3 @@ message_of sent = record { datagram = datagram_of sent; label = label_of sent }
 
 abbrev pub messages_of : List Sent → List OutMessage
 messages_of sent = map message_of sent
-
--- what is told of it once it was sent
-abbrev pub told_of : OutMessage → SentMessage
-told_of message = record { to = message.datagram.to; moment = message.datagram.moment; label = message.label }
-
-abbrev pub sent_message : Sent → SentMessage
-sent_message sent = record { to = sent.to; moment = sent.moment; label = label_of sent }
-
-abbrev pub labels_of : List Sent → List SentMessage
-labels_of sent = map sent_message sent

@@ -4,7 +4,6 @@ ghost use Rattle.plain_machine.specs.Labelling.{send_of, own_verb, front_code};
 
 use mg_bytes::decimal;
 use mgcp_text::{TransactionId, Verb};
-use std::net::SocketAddrV4;
 use transmission::OutDatagram;
 
 /// Whose a message is that is sent.
@@ -45,14 +44,6 @@ pub struct Label {
 #[derive(Drop)]
 pub struct OutMessage {
     pub datagram: OutDatagram,
-    pub label: Label,
-}
-
-/// A message that was sent: where to, when (in ms), and its label.
-#[derive(Clone, Copy)]
-pub struct SentMessage {
-    pub to: SocketAddrV4,
-    pub moment: u64,
     pub label: Label,
 }
 

@@ -8,7 +8,7 @@ use Rattle.plain_machine.specs.declared.label.Whose.{Whose}
 use Rattle.plain_machine.specs.declared.label.Whose.TheVariants.{AnswerOf, OwnOf, Nobody}
 use Rattle.plain_machine.specs.declared.label.What.{What}
 use Rattle.plain_machine.specs.declared.label.What.TheVariants.{Answer, Again, Command, Resent, Acknowledgement}
-use Rattle.plain_machine.specs.declared.label.SentMessage.{SentMessage}
+use Rattle.gateway_core.specs.declared.sent.SentMessage.{SentMessage}
 use Rattle.plain_machine.specs.Labelling.{send_of}
 use Rattle.rgw_c.specs.declared.instance.Instance.{Instance}
 use Rattle.rgw_c.specs.declared.structs.Message.{Message}

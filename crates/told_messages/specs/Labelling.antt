@@ -8,7 +8,7 @@ use Rattle.page_board.specs.declared.label.MessageKind.{MessageKind}
 use Rattle.page_board.specs.declared.label.MessageKind.TheVariants as kinds
 use Rattle.page_board.specs.declared.label.MessageLabel.{MessageLabel}
 use Rattle.plain_machine.specs.declared.given_up.GivenUpCommand.{GivenUpCommand}
-use Rattle.plain_machine.specs.declared.label.SentMessage.{SentMessage}
+use Rattle.gateway_core.specs.declared.sent.SentMessage.{SentMessage}
 use Rattle.plain_machine.specs.declared.label.What.{What}
 use Rattle.plain_machine.specs.declared.label.What.TheVariants as whats
 use Rattle.plain_machine.specs.declared.label.Whose.{Whose}

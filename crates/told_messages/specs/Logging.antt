@@ -5,9 +5,9 @@ use Rattle.exchange_log.specs.declared.note.Note.{Note}
 use Rattle.exchange_log.specs.declared.stamp.Stamp.{Stamp}
 use Rattle.gateway_texts.specs.declared.outcome.TextOutcome.{TextOutcome}
 use Rattle.live_outlets.specs.Recording.{is_told}
-use Rattle.piggyback.specs.Parts.{parts_of}
 use Rattle.plain_machine.specs.declared.given_up.GivenUpCommand.{GivenUpCommand}
-use Rattle.plain_machine.specs.declared.label.SentMessage.{SentMessage}
+use Rattle.gateway_core.specs.declared.sent.SentMessage.{SentMessage}
+use Rattle.gateway_core.specs.Outgoing.{texts_within}
 use Rattle.told_messages.specs.declared.log.Log.{Log}
 use Rattle.told_messages.specs.Coming.{arrival_text, given_up_text, untaken_text}
 use Rattle.told_messages.specs.Recording.{Records}
@@ -41,9 +41,9 @@ LeavesOut was from bytes why is =
 -- A datagram was sent that has these messages: that stands in the log, and what its lines sent last is kept for as long as all is told.
 abbrev pub Sends : Log → Stamp → List ℕ → List SentMessage → Log → Type 0
 Sends was to bytes messages is =
-    Records was.record (datagram_text was.domain was.came.moment to (parts_of bytes) messages) is.record
+    Records was.record (datagram_text was.domain was.came.moment to (texts_within bytes messages) messages) is.record
     × (is_told is.record.state ≡ true →
-    (is.own.entries ≡ last_behind to (parts_of bytes) messages was.own.entries) × (is.sent ≡ to.moment))
+    (is.own.entries ≡ last_behind to (texts_within bytes messages) messages was.own.entries) × (is.sent ≡ to.moment))
     × (is ≡ record was { «record» = is.record; own = is.own; sent = is.sent })
 
 -- why commands of the datagram that came last were refused stands behind what was sent at it, and so at no moment before that

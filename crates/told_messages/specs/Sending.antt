@@ -7,7 +7,7 @@ use Rattle.exchange_log.specs.declared.stamp.Stamp.{Stamp}
 use Rattle.exchange_log.specs.declared.stamp.Way.TheVariants as ways
 use Rattle.exchange_log.specs.Lines.{message_line, note_line}
 use Rattle.plain_machine.specs.declared.label.Label.{Label}
-use Rattle.plain_machine.specs.declared.label.SentMessage.{SentMessage}
+use Rattle.gateway_core.specs.declared.sent.SentMessage.{SentMessage}
 use Rattle.plain_machine.specs.declared.label.What.{What}
 use Rattle.plain_machine.specs.declared.label.What.TheVariants as whats
 use Rattle.plain_machine.specs.declared.label.Whose.{Whose}

@@ -10,7 +10,7 @@ ghost use Rattle.exchange_log.specs.Lines.{message_line, note_line, given_up_lin
 ghost use Rattle.gateway_texts.specs.declared.outcome.Reply.TheVariants.{Silence};
 ghost use Rattle.gateway_texts.specs.declared.outcome.TextOutcome.{TextOutcome};
 ghost use Rattle.gateway_texts.specs.declared.outcome.TextOutcome.TheVariants.{NoMessage, Command, Response};
-ghost use Rattle.plain_machine.specs.declared.label.SentMessage.{SentMessage};
+ghost use Rattle.gateway_core.specs.declared.sent.SentMessage.{SentMessage};
 ghost use Rattle.plain_machine.specs.declared.label.What.TheVariants as whats;
 ghost use Rattle.plain_machine.specs.declared.label.Whose.TheVariants.{AnswerOf, OwnOf, Nobody};
 ghost use Rattle.message_counts.specs.Example.{said_of};

@@ -1,15 +1,14 @@
 //! What is sent, as the log says it: a line a message, by its label.
 ghost use Rattle.std.specs.Prelude.{◌≡◌, ◌++◌, OnOk};
-ghost use Rattle.piggyback.specs.Parts.{parts_of};
+ghost use Rattle.gateway_core.specs.Outgoing.{texts_within};
 ghost use Rattle.told_messages.specs.Logging.{Sends};
 ghost use Rattle.told_messages.specs.Sending.{own_line, begun_by, sent_text, datagram_text, last_with, last_behind};
 
 use crate::log::{LastCommands, Log, OwnCommand, ms_between};
 use exchange_log::{Note, Stamp, Way, put_message, put_note};
-use gateway_core::{Label, SentMessage, What, Whose};
+use gateway_core::{Label, SentMessage, What, Whose, split_text};
 use live_outlets::Now;
 use mg_bytes::{OutOfMemory, Text};
-use piggyback::parts;
 use std::alloc::Global;
 use std::net::SocketAddrV4;
 
@@ -108,8 +107,8 @@ impl Log {
         keep_command(self.alloc, &mut self.own, to, label, text)
     }
 
-    // The same of each message of a datagram, whose bytes say where each text ends.
-    #[tactic(auto, unfolding(crate::specs::Sending::datagram_text, crate::specs::Sending::last_behind))]
+    // The same of each message of a datagram.
+    #[tactic(auto, unfolding(crate::specs::Sending::datagram_text, crate::specs::Sending::last_behind, gateway_core::specs::Outgoing::texts_within))]
     fn put_datagram_sent(
         &mut self,
         to: Stamp,
@@ -117,19 +116,20 @@ impl Log {
         messages: &[SentMessage],
     ) -> Result<(), OutOfMemory>
         ensures out { OnOk result (self.new.record.out.items ≡ self.old.record.out.items
-            ++ datagram_text self.old.domain self.old.came.moment to (parts_of bytes.now) messages.now) }
-        ensures own { OnOk result (self.new.own.entries ≡ last_behind to (parts_of bytes.now) messages.now self.old.own.entries) }
+            ++ datagram_text self.old.domain self.old.came.moment to (texts_within bytes.now messages.now) messages.now) }
+        ensures own { OnOk result (self.new.own.entries
+            ≡ last_behind to (texts_within bytes.now messages.now) messages.now self.old.own.entries) }
         ensures rest { self.new ≡ record self.old {
           «record» = record self.old.record { out = self.new.record.out };
           own = self.new.own;
         } }
     {
+        let mut rest = bytes;
         let mut left = messages;
-        for text in parts(bytes) {
-            let [message, others @ ..] = left else {
-                return Ok(());
-            };
+        while let [message, others @ ..] = left {
+            let (text, behind) = split_text(rest, message);
             self.put_message_sent(to, &message.label, text)?;
+            rest = behind;
             left = others;
         }
         Ok(())

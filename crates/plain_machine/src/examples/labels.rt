@@ -9,7 +9,7 @@ ghost use Rattle.plain_machine.specs.declared.label.Whose.TheVariants.{AnswerOf,
 ghost use Rattle.plain_machine.specs.declared.label.What.TheVariants as whats;
 ghost use Rattle.plain_machine.specs.Event.{phone, tick};
 ghost use Rattle.plain_machine.specs.GivingUp.{given_up_with};
-ghost use Rattle.plain_machine.specs.Labelling.{what_of, label_of, send_of, message_of, sent_message, labels_of, own_verb, front_code};
+ghost use Rattle.plain_machine.specs.Labelling.{what_of, label_of, send_of, message_of, own_verb, front_code};
 ghost use Rattle.plain_machine.specs.Lists.{machine_after};
 ghost use Rattle.plain_machine.specs.Message.{answer, again, command, resent};
 ghost use Rattle.plain_machine.specs.Example.{example, agent, audit, from_agent, lifted, lifted_again, announced_again, lifted_message, to_agent_at, messages_at, machine_then, own_at, answer_at, acknowledged_to, announcing_machine};
@@ -34,13 +34,10 @@ pub fn each_sentence_has_an_example()
         ≡ record { whose = Nobody; what = whats.Acknowledgement; id = 9 } }
     ensures no_command { what_of (command (messages.Response 200 7 [] [])) ≡ whats.Command Other }
     ensures no_answer { what_of (answer (messages.Command Auep 7 [] [] [])) ≡ whats.Answer 0 }
-    // It goes out in a datagram of its own, and is told of with where it goes and when.
+    // It goes out in a datagram of its own.
     ensures out { message_of lifted_message ≡ record { datagram = to_agent_at 1000 lifted; label = label_of lifted_message } }
-    ensures told { sent_message lifted_message ≡ record { to = agent; moment = 1000; label = label_of lifted_message } }
-    ensures a_label_goes_with_its_message_in_order { labels_of (lifted_message ∷ acknowledged_to agent 9 ∷ [])
-        ≡ sent_message lifted_message ∷ sent_message (acknowledged_to agent 9) ∷ [] }
     // A command that nobody answers is sent eight times, and each send has its number; any other message is sent once.
-    ensures all { map (λ one. one.label.what) (labels_of (messages_at (phone 1 OffHook ∷ tick 24499 ∷ [])))
+    ensures all { map (λ one. (label_of one).what) (messages_at (phone 1 OffHook ∷ tick 24499 ∷ []))
         ≡ whats.Command Ntfy ∷ whats.Resent Ntfy 2 ∷ whats.Resent Ntfy 3 ∷ whats.Resent Ntfy 4 ∷ whats.Resent Ntfy 5
         ∷ whats.Resent Ntfy 6 ∷ whats.Resent Ntfy 7 ∷ whats.Resent Ntfy 8 ∷ [] }
     ensures numbers { map send_of (whats.Answer 200 ∷ whats.Again 200 ∷ whats.Command Ntfy ∷ whats.Resent Ntfy 5

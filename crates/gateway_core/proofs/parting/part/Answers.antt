@@ -1,6 +1,6 @@
 use Rattle.std.proofs.Common.{◌≡◌, List, [], ◌∷◌, ◌++◌, map, refl, sym, ap, ◌∙◌, append_assoc}
 use Rattle.plain_machine.specs.declared.label.OutMessage.{OutMessage}
-use Rattle.plain_machine.specs.Labelling.{told_of}
+use Rattle.gateway_core.specs.Labelling.{told_of}
 use Rattle.gateway_core.proofs.parting.part.Goals as goal
 
 -- what is made of the next message is put, and what is made of those behind it is left

@@ -1,7 +1,7 @@
 use Rattle.std.proofs.Common.{◌≡◌, ◌++◌, map}
 use Rattle.std.specs.Vec.Iter.{into_iter_items}
 use Rattle.plain_machine.specs.declared.label.OutMessage.{OutMessage}
-use Rattle.plain_machine.specs.Labelling.{told_of}
+use Rattle.gateway_core.specs.Labelling.{told_of}
 use Rattle.gateway_core.proofs.parting.part.Given as goal
 
 abbrev pub invariant-loop-message : goal.invariant-loop-message

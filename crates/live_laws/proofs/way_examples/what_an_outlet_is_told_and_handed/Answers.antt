@@ -25,8 +25,8 @@ pub returns-clause-teller : goal.returns-clause-teller
 returns-clause-teller c = λ teller was is from. from.told
 
 pub returns-clause-messages : goal.returns-clause-messages
-returns-clause-messages c = λ was is a x one kept first has from.
-    kept_of a x one is.gateway.account.sent from.by.said from.turned kept from.told has first from.by.each
+returns-clause-messages c = λ was is a one kept first has from.
+    kept_of a one is.gateway.account.sent from.by.said from.turned kept from.told has first from.by.each
 
 pub returns-clause-taken_before : goal.returns-clause-taken_before
 returns-clause-taken_before c = λ was is a input event by alone.
@@ -37,6 +37,6 @@ pub returns-clause-taken_teller : goal.returns-clause-taken_teller
 returns-clause-taken_teller c = λ teller was is input event by. by.told
 
 pub returns-clause-taken_messages : goal.returns-clause-taken_messages
-returns-clause-taken_messages c = λ was is a x one kept input event by alone first has.
-    kept_of a x one is.gateway.account.sent by.said by.turned kept by.told has first
+returns-clause-taken_messages c = λ was is a one kept input event by alone first has.
+    kept_of a one is.gateway.account.sent by.said by.turned kept by.told has first
     (subst (λ (l : List OutDatagram). HandsEach keeps l is.gateway.account.sent by.turned by.said kept) alone by.each)

@@ -19,9 +19,9 @@ loop-datagram-preserved g c =
     let next : c.saturating_add-place.result ≡ c.loop-datagram.datagram-index + 1 = omega (arith, here, inside, capped) in
     record {
       place = next;
-      left = left_behind _ _ _ _ _ _ inside so_far.left (rw (c.datagram-item.is) at c.split_messages.ensures.others);
+      left = left_behind _ _ _ _ _ _ inside so_far.left (rw (c.datagram-item.is) at c.split_sent.ensures.others);
       handed = λ gateway script. one_more g.O.Outlet.hands _ _ _ _ _ _ _ _ _ _ _ inside so_far.left (so_far.handed gateway script)
-          (rw (c.datagram-item.is) at (c.hand.ensures.handed gateway script c.loop-datagram.datagram-index _ next c.split_messages.ensures.own));
+          (rw (c.datagram-item.is) at (c.hand.ensures.handed gateway script c.loop-datagram.datagram-index _ next c.split_sent.ensures.own));
       came = c.hand.ensures.came ∙ so_far.came;
     }
 
