@@ -29,10 +29,11 @@ accounted events = account_after example (machine_at 1000) no_account events
 
 -- the messages that the last of them sent, but for how many bytes each has; and how many those are
 abbrev pub labels : List GatewayEvent → List SentMessage
-labels events = map (λ message. record message { size = 0 }) (accounted events).sent
+labels events =
+    map (λ (message : SentMessage). let sizeless : SentMessage = record message { size = 0 } in sizeless) (accounted events).sent
 
 abbrev pub sizes : List GatewayEvent → List ℕ
-sizes events = map (λ message. message.size) (accounted events).sent
+sizes events = map (λ (message : SentMessage). message.size) (accounted events).sent
 
 -- a message to the agent at 1,000
 abbrev pub labelled : Whose → What → ℕ → SentMessage

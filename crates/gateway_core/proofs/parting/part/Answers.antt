@@ -1,5 +1,6 @@
-use Rattle.std.proofs.Common.{◌≡◌, List, [], ◌∷◌, ◌++◌, map, refl, sym, ap, ◌∙◌, append_assoc}
+use Rattle.std.proofs.Common.{◌≡◌, ℕ, List, [], ◌∷◌, ◌++◌, length, map, refl, sym, ap, ◌∙◌, append_assoc}
 use Rattle.plain_machine.specs.declared.label.OutMessage.{OutMessage}
+use Rattle.gateway_core.specs.declared.sent.SentMessage.{SentMessage}
 use Rattle.gateway_core.specs.Labelling.{told_of}
 use Rattle.gateway_core.proofs.parting.part.Goals as goal
 
@@ -18,5 +19,7 @@ pub loop-message-preserved : goal.loop-message-preserved
 loop-message-preserved c = record {
   datagrams = moved (λ (message : OutMessage). message.datagram) _ _ _ _ _ _ _ c.in-Some.ensures.steps.0 refl c.in_ok-push-2.ensures.items
       c.loop-message.invariant.datagrams;
-  told = moved told_of _ _ _ _ _ _ _ c.in-Some.ensures.steps.0 refl c.in_ok-push.ensures.items c.loop-message.invariant.told;
+  told = moved told_of _ _ _ _ _ c.in-Some.message _ c.in-Some.ensures.steps.0
+      (ap (λ (bytes : List ℕ). let told : SentMessage = record (told_of c.in-Some.message) { size = length bytes } in told) c.as_bytes.ensures)
+      c.in_ok-push.ensures.items c.loop-message.invariant.told;
 }
