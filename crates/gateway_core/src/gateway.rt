@@ -18,9 +18,7 @@ use endpoints::{Context, judged};
 use gateway_texts::{Outcomes, State, TextOutcome, opening_state};
 use history::MOST_FIRSTS;
 use mg_line::Hook;
-use plain_machine::{
-    Config, ConfigFault, Event, GivenUpCommand, Outputs, Refusal, Setup,
-};
+use plain_machine::{Config, ConfigFault, Event, GivenUpCommand, Outputs, Refusal, Setup};
 use signals::ActiveSignal;
 use std::alloc::Global;
 use std::marker::Model;

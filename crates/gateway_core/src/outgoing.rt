@@ -1,5 +1,5 @@
 //! Where the messages of an event stand in its datagrams: how many bytes each has tells it, and no datagram is read again.
-ghost use Rattle.std.specs.Prelude.{◌≡◌, ◌+◌, ◌-◌, ◌<◌, ◌≤◌, ◌^◌, length, nat_le, take, drop, if◌then◌else◌, Some, None};
+ghost use Rattle.std.specs.Prelude.{◌≡◌, ◌+◌, ◌<◌, ◌≤◌, ◌^◌, length, take, drop};
 ghost use Rattle.gateway_core.specs.Outgoing.{dot_line, room_behind, count_within, own_messages, other_messages};
 
 use crate::sent::SentMessage;

@@ -73,19 +73,19 @@ joined_on begun [] ends is all = All-cons IsJoined begun [] is (All-nil IsJoined
 joined_on begun (next ∷ more) ends is all =
     by_join (joins begun next) (joined_on (with_message begun next) more (ends-with_text begun.bytes next.bytes m.ends) (joined_with begun next ends message is) rest)
     (joined_on next more m.ends (joined_itself next message) rest) where
-  message : IsMessage next
-  message = All-head IsMessage next more all
+      message : IsMessage next
+      message = All-head IsMessage next more all
 
-  rest : All IsMessage more
-  rest = All-tail IsMessage next more all
+      rest : All IsMessage more
+      rest = All-tail IsMessage next more all
 
-  m : Joins largest_datagram next.bytes
-  m = joins-from largest_datagram next.bytes message
+      m : Joins largest_datagram next.bytes
+      m = joins-from largest_datagram next.bytes message
 
-  by_join : (b : Bool) → All IsJoined (packed_after (with_message begun next) more) → All IsJoined (packed_after next more)
-      → All IsJoined (if b then packed_after (with_message begun next) more else begun ∷ packed_after next more)
-  by_join true on_joined on_next = on_joined
-  by_join false on_joined on_next = All-cons IsJoined begun (packed_after next more) is on_next
+      by_join : (b : Bool) → All IsJoined (packed_after (with_message begun next) more) → All IsJoined (packed_after next more)
+          → All IsJoined (if b then packed_after (with_message begun next) more else begun ∷ packed_after next more)
+      by_join true on_joined on_next = on_joined
+      by_join false on_joined on_next = All-cons IsJoined begun (packed_after next more) is on_next
 
 packed_joined : (messages : List OutDatagram) → All IsMessage messages → All IsJoined (packed messages)
 packed_joined [] all = All-nil IsJoined
@@ -157,9 +157,9 @@ texts_same datagram group holds =
     sym (map_same (parts_of datagram.bytes))
     ∙ sym (map-map (λ (d : OutDatagram). d.bytes) (λ (text : List ℕ). let d : OutDatagram = record datagram { bytes = text } in d) (parts_of datagram.bytes))
     ∙ ap (map (λ (d : OutDatagram). d.bytes)) holds ∙ map-map (λ (d : OutDatagram). d.bytes) datagram_of group where
-  map_same : (xs : List (List ℕ)) → map (λ (x : List ℕ). x) xs ≡ xs
-  map_same [] = refl
-  map_same (x ∷ xs) = ap (λ (l : List (List ℕ)). x ∷ l) (map_same xs)
+      map_same : (xs : List (List ℕ)) → map (λ (x : List ℕ). x) xs ≡ xs
+      map_same [] = refl
+      map_same (x ∷ xs) = ap (λ (l : List (List ℕ)). x ∷ l) (map_same xs)
 
 -- datagrams that hold the texts of messages, joined, hold them group by group
 goes_out : (datagrams : List OutDatagram) (sent : List Sent) → flat_map messages_in datagrams ≡ datagrams_of sent → All IsJoined datagrams
