@@ -334,7 +334,10 @@ def test_the_program_relays_and_reports(agent: socket.socket, echo: Echo, tmp_pa
     (f"{place(FRONT)}={place(GATEWAY)} --home {place(FRONT)}", 3, f"no socket at {place(FRONT)}: Address already in use"),
     (f"{place(FRONT)}={place(GATEWAY)} --home {place(HOME)} --report /nowhere/x", 3, "/nowhere/x: No such file or directory"),
     (f"{place(FRONT)}={place(GATEWAY)} --home {place(HOME)} --stop-after 0.1", 0, "relay "), ("--help", 0, ""),
-], ids=("none", "bad-address", "no-gateway", "bad-fate", "bad-direction", "bad-network", "front-twice", "taken-address", "bad-file", "stop-after", "help"))
+], ids=(
+    "none", "bad-address", "no-gateway", "bad-fate", "bad-direction", "bad-network", "front-twice", "taken-address", "bad-file",
+    "stop-after", "help",
+))
 def test_the_programs_words(words: str, status: int, said: str) -> None:
     program = begun(*words.split())
     out, err = program.communicate(timeout=60)
