@@ -196,6 +196,15 @@ def test_network_loses_what_rgwd_sends(bench: Bench) -> None:
     assert heard(bench.agent, 0.2) == b""
 
 
+def test_network_loses_what_comes_alone(bench: Bench) -> None:
+    """With `in` before it a part is of what comes: the announcement goes out, and an audit isn't answered."""
+    program = bench.start(bench.gateway_words("--log", "--network", "in lose 100%"))
+    assert heard(bench.agent, 2).startswith(b"RSIP ")
+    bench.agent.sendto(b"AUEP 7 aaln/1@rgw.example.net MGCP 1.0\r\n", program.address)
+    assert until(lambda: " ! lost on its way" in program.logged())
+    assert not heard(bench.agent, 0.2).startswith(b"200 7")
+
+
 @pytest.mark.parametrize("words, is_heard", [([], False), (["--agents", "127.0.0.0/8"], True)], ids=["stranger", "admitted"])
 def test_who_may_speak(bench: Bench, words: list[str], is_heard: bool) -> None:
     """rgwd answers its agent's hosts alone, and whom --agents admits."""

@@ -255,6 +255,17 @@ def test_network_that_is_too_late(bench: Bench) -> None:
     assert status == 2 and said.startswith("--network: late: ")
 
 
+@pytest.mark.parametrize("network, wanted", [
+    ("lose 10", "lose: 0% to 100%, once for each direction"),
+    ("lose 1%, out lose 2%", "lose: 0% to 100%, once for each direction"),
+    ("in late 2-1", "late: LEAST-MOST in ms, 10000 at most, once for each direction"),
+    ("out", "lose N%, copy N%, late LEAST-MOST, seed N, or one of these after in or out"),
+    ("in drop 1%", "lose N%, copy N%, late LEAST-MOST, seed N, or one of these after in or out"),
+])
+def test_network_that_cant_be(bench: Bench, network: str, wanted: str) -> None:
+    assert ran([*command("rgwd"), bench.config(), "--network", network]) == (2, "", f"--network: {wanted}\n")
+
+
 def test_systemd_takes_the_unit(tmp_path: Path) -> None:
     text = (TOP / "examples/rgwd.service").read_text()
     # (the page of the manual isn't installed here)
