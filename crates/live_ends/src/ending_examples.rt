@@ -84,9 +84,10 @@ pub fn further_sentences_have_examples()
     ensures agent_words { map word_text (words.Control ∷ words.OwnKey ∷ []) ≡ codes "--control" ∷ codes "own" ∷ [] }
     // Where a text says nothing of a network, what would stands there.
     ensures wanted { map wanted_by (faults.Lose ∷ faults.Copy ∷ faults.Seed ∷ [])
-        ≡ codes "lose: 0% to 100%, once" ∷ codes "copy: 0% to 100%, once" ∷ codes "seed: a number, once" ∷ [] }
-    ensures wanted_late { wanted_by faults.Late ≡ codes "late: LEAST-MOST in ms, 10000 at most, once" }
-    ensures wanted_other { wanted_by faults.Other ≡ codes "lose N%, copy N%, late LEAST-MOST, seed N" }
+        ≡ codes "lose: 0% to 100%, once for each direction" ∷ codes "copy: 0% to 100%, once for each direction"
+        ∷ codes "seed: a number, once for each direction" ∷ [] }
+    ensures wanted_late { wanted_by faults.Late ≡ codes "late: LEAST-MOST in ms, 10000 at most, once for each direction" }
+    ensures wanted_other { wanted_by faults.Other ≡ codes "lose N%, copy N%, late LEAST-MOST, seed N, or one of these after in or out" }
 {}
 
 /// Each sentence at an example.

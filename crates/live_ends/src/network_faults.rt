@@ -14,6 +14,7 @@ pub(crate) fn wanted_by(fault: SpoilingFault) -> &'static str
         SpoilingFault::Copy => "copy: 0% to 100%, once for each direction",
         SpoilingFault::Late => "late: LEAST-MOST in ms, 10000 at most, once for each direction",
         SpoilingFault::Seed => "seed: a number, once for each direction",
-        SpoilingFault::Other => "lose N%, copy N%, late LEAST-MOST, seed N, or one of these after in or out",
+        SpoilingFault::Other =>
+            "lose N%, copy N%, late LEAST-MOST, seed N, or one of these after in or out",
     }
 }
