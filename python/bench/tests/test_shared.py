@@ -1,8 +1,10 @@
 """Several workers check one gateway: whose a message is, and who plays alone."""
 
+import fcntl
 import multiprocessing
+import os
 import time
-from collections.abc import Generator
+from collections.abc import Callable, Generator
 from multiprocessing.synchronize import Event
 from pathlib import Path
 
@@ -114,6 +116,63 @@ def test_turns(first: bool, second: bool, is_waited_for: bool, tmp_path: Path) -
         assert ends.is_set() is is_waited_for
     other.kill()
     other.join()
+
+
+def queue(folder: Path, name: str, is_alone: bool, begun: Event, ends: Event) -> None:
+    """Has a turn until it may end, and writes down that it had it."""
+    begun.set()
+    with Turns(folder).turn(is_alone):
+        with open(folder / "turns", "a") as file:
+            file.write(f"{name} ")
+        ends.wait(120)
+
+
+def is_held(folder: Path, name: str) -> bool:
+    """Whether a process has this lock."""
+    file = os.open(folder / name, os.O_RDWR | os.O_CREAT, 0o600)
+    try:
+        fcntl.flock(file, fcntl.LOCK_EX | fcntl.LOCK_NB)
+        return False
+    except BlockingIOError:
+        return True
+    finally:
+        os.close(file)
+
+
+def waited(test: Callable[[], bool]) -> bool:
+    """Whether this is so within a minute."""
+    over = time.monotonic() + 60
+    while not test():
+        if time.monotonic() > over:
+            return False
+        time.sleep(0.02)
+    return True
+
+
+def test_who_wants_to_be_alone_is_overtaken_by_nobody(tmp_path: Path) -> None:
+    """One process has a turn beside others, a second wants one alone, and a third, which comes later, one beside others: in this order."""
+    names, turns = ("first", "alone", "later"), tmp_path / "turns"
+    begun, ends = multiprocessing.Event(), [multiprocessing.Event() for _ in names]
+    processes = []
+    for at, name in enumerate(names):
+        begun.clear()
+        processes.append(multiprocessing.Process(target=queue, args=(tmp_path, name, name == "alone", begun, ends[at])))
+        processes[-1].start()
+        assert begun.wait(60)
+        if name == "first":
+            assert waited(turns.exists)
+        elif name == "alone":
+            assert waited(lambda: is_held(tmp_path, "door")), "who waits to be alone doesn't keep the door"
+    time.sleep(0.5)
+    assert turns.read_text() == "first "
+    ends[0].set()
+    assert waited(lambda: turns.read_text() == "first alone ")
+    ends[1].set()
+    assert waited(lambda: turns.read_text() == "first alone later ")
+    ends[2].set()
+    for process in processes:
+        process.join(60)
+        assert process.exitcode == 0
 
 
 def test_a_turn_is_waited_for_no_longer_than_the_whole_run(tmp_path: Path) -> None:
