@@ -1,16 +1,20 @@
-"""The page's own socket: who is let in, answered and let go."""
+"""The page's own socket: who is let in, answered and let go, whether the gateway serves, and what it counts."""
 import json
 import os
 import resource
 import select
 import shutil
+import signal
 import socket
 import time
 
 import pytest
 from page import asked
-from running import Address, Bench, Program, heard, ran
+from running import Address, Bench, Program, heard, ran, until
 
+# What is counted that an operator watches.
+METRICS = ("rgw_serving 1", 'rgw_given_up_total{owner="line"}', 'rgw_sends_total{place="1"}', "rgw_strangers_total",
+           "rgw_lost_commands_total")
 # What lifts the handset of line 2, as the page posts it.
 ACT, KIND = b'{"line": 2, "act": "off"}', "application/json"
 
@@ -55,10 +59,32 @@ def test_sixteen_idle_visitors_keep_nobody_out(gateway: Program) -> None:
         visitor.close()
 
 
-@pytest.mark.parametrize("host, status", [("rgw.example.net", 200), ("rgw.example.com", 421)])
-def test_named_hosts(gateway: Program, host: str, status: int) -> None:
-    """--http-host names a host under which the counts are served."""
-    assert asked(gateway.addresses[2], "GET", "/metrics", Host=host)[0] == status
+def status(gateway: Program, path: str, **fields: str) -> int:
+    """The status of what is asked for."""
+    return asked(gateway.addresses[2], "GET", path, None, **fields)[0]
+
+
+@pytest.mark.parametrize("host, told", [("rgw.example.net", [200, 200, 200, 421, 421]), ("rgw.example.com", 5 * [421])])
+def test_named_hosts(gateway: Program, host: str, told: list[int]) -> None:
+    """--http-host names a host under which health and counts are served, and nothing else."""
+    assert until(lambda: status(gateway, "/readyz") == 200)
+    assert [status(gateway, path, Host=host) for path in ("/healthz", "/readyz", "/metrics", "/state", "/")] == told
+
+
+def test_serves_once_an_agent_answers(bench: Bench) -> None:
+    gateway = bench.start(bench.gateway_words("--http", "127.0.0.1:0"))
+    assert (status(gateway, "/healthz"), status(gateway, "/readyz")) == (200, 503)
+    bench.answered(gateway)
+    assert until(lambda: status(gateway, "/readyz") == 200)
+
+
+def test_one_that_is_stopped_does_not_answer(gateway: Program) -> None:
+    gateway.process.send_signal(signal.SIGSTOP)
+    with socket.create_connection(gateway.addresses[2], 1.5) as visitor, pytest.raises(TimeoutError):
+        visitor.sendall(b"GET /healthz HTTP/1.1\r\n\r\n")
+        visitor.recv(1)
+    gateway.process.send_signal(signal.SIGCONT)
+    assert until(lambda: status(gateway, "/healthz") == 200)
 
 
 def test_other_sites_are_refused(gateway: Program) -> None:
@@ -81,11 +107,11 @@ def test_other_sites_are_refused(gateway: Program) -> None:
 
 
 def test_metrics(gateway: Program, bench: Bench) -> None:
-    """Commands are counted by verb; promtool, where it is there, takes them."""
+    """Commands are counted by verb, and what an operator watches; promtool, where it is there, takes them."""
     bench.agent.sendto(b"RQNT 7 aaln/1@rgw.example.net MGCP 1.0\r\nX: 1\r\n", gateway.address)
     assert heard(bench.agent).startswith(b"200 7 ")
     status, text = asked(gateway.addresses[2], "GET", "/metrics")
-    assert status == 200 and 'rgw_commands_total{verb="RQNT"} 1\n' in text
+    assert status == 200 and 'rgw_commands_total{verb="RQNT"} 1\n' in text and not [it for it in METRICS if f"\n{it}" not in text]
     if shutil.which("promtool"):
         checked = ran(["promtool", "check", "metrics"], input=text, stdin=None)
         assert checked[0] == 0, checked
