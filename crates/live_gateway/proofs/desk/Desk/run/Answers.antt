@@ -41,7 +41,7 @@ pub returns-then-not-goes_on-clause-end : goal.returns-then-not-goes_on-clause-e
 returns-then-not-goes_on-clause-end g c =
     let over = c.turn-goes_on.ensures.over c.if-not-goes_on.true in (
       c.loop.counter + 1,
-      runs_once_more _ _ _ _ _ _ _ _ _ _ _ _ _ _ _ c.loop.invariant.1 c.turn-goes_on.ensures.does c.write.ensures.wrote c.write.ensures.offering
+      runs_once_more _ _ _ _ _ _ _ _ _ _ _ _ _ _ c.loop.invariant.1 c.turn-goes_on.ensures.does c.write.ensures.wrote c.write.ensures.offering
           c.write.ensures.teller c.write.ensures.exchange c.write.ensures.rest,
       inl (
           ends_so c.loop.self.end c.write.new.self.end c.loop.self.play.gateway.value c.write.new.self.play.gateway.value true
@@ -53,7 +53,7 @@ returns-then-not-goes_on-clause-end g c =
 pub loop-preserved : goal.loop-preserved
 loop-preserved g c = (
   goes_on_then _ _ _ _ _ c.loop.invariant.0 (goes_on_then _ _ _ _ _ c.turn-goes_on.ensures.play c.write.ensures.play),
-  runs_once_more _ _ _ _ _ _ _ _ _ _ _ _ _ _ _ c.loop.invariant.1 c.turn-goes_on.ensures.does c.write.ensures.wrote c.write.ensures.offering
+  runs_once_more _ _ _ _ _ _ _ _ _ _ _ _ _ _ c.loop.invariant.1 c.turn-goes_on.ensures.does c.write.ensures.wrote c.write.ensures.offering
       c.write.ensures.teller c.write.ensures.exchange c.write.ensures.rest,
 )
 
