@@ -200,6 +200,10 @@ class Program:
         """Seconds of a processor that it has used."""
         return spent(self.process.pid)
 
+    def is_asleep(self) -> bool:
+        """Whether it waits until something comes."""
+        return Path(f"/proc/{self.process.pid}/stat").read_text().rpartition(")")[2].split()[0] == "S"
+
     def close(self) -> None:
         """Ends it at once, and closes what is open here."""
         self.process.kill()

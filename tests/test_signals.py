@@ -26,27 +26,29 @@ def serves(program: Program) -> bool:
     return program.tell("show 1\n").startswith("line 1 on ")
 
 
+def moment(program: Program) -> int:
+    """The moment to which a gateway has come, in ms of its clock. A trace isn't told that somebody asked."""
+    return int(program.tell("watch 1\n").rpartition(" ")[2])
+
+
 def test_sigterm_leaves_whole_records(bench: Bench, tmp_path: Path) -> None:
     """SIGTERM ends rgwd in order: its trace replays, and ends with the moment to which its gateway has come; its capture has what was sent.
 
-    Nothing comes after `show 1`, since the gateway has counted its response by then. What comes while a gateway is stopped for half a
-    second is read at the moment before that, so a trace may also end at the moment of `show 1`: then no moment is told after it.
+    A trace ends with a moment only where that is later than its last entry. So `show 1` is the last entry, typed after the gateway has
+    counted its response, and the gateway's clock goes on before the signal. That comes while nothing else is to be heard.
     """
-    launcher()  # (compiled now, if ever)
-    began = time.monotonic()
     trace, capture = tmp_path / "trace", tmp_path / "capture"
     with open(trace, "wb") as out:
         program = bench.launched("--trace", "--capture", str(capture), out=out)
     assert until(lambda: "\nresponses 1 " in program.tell("counts\n"))
     assert serves(program)
-    time.sleep(0.05)
+    shown = moment(program)
+    assert until(lambda: moment(program) > shown) and until(program.is_asleep)
     assert is_ordered(*program.ended_by(signal.SIGTERM))
-    may_be_stopped = time.monotonic() - began > 0.5
     status, out_of_it, _ = ran([*command("rgwd"), "--replay", str(trace)])
     assert status == 0 and out_of_it.endswith(" lines, all as told\n")
-    end = re.search(r"\nshow 1\n\| line 1 on .*\n(at \d+\n)?$", trace.read_text())
-    assert end and (end[1] or may_be_stopped)
-    assert b"RSIP 1 " in capture.read_bytes()
+    end = re.search(r"\nshow 1\n\| line 1 on .*\nat (\d+)\n$", trace.read_text())
+    assert end and int(end[1]) > shown and b"RSIP 1 " in capture.read_bytes()
 
 
 def test_sigint_ends_rgwd(bench: Bench) -> None:
