@@ -119,7 +119,6 @@ def test_acts_at_the_telephone(made: Made) -> None:
 
 def test_a_check_is_marked() -> None:
     """With its sections and all that it needs; what undoes it has a name, or stands there."""
-    del made
     mark = rfc("2.3.10", "3.2", needs=("own",), is_alone=True, undo="> DLCX {1} {line} MGCP 1.0\n< 250 {1}").mark
     assert mark.args == ("2.3.10", "3.2") and mark.kwargs["needs"] == ("own",) and mark.kwargs["is_alone"] and not mark.kwargs["is_last"]
     assert len(undo_steps(mark.kwargs["undo"])) == 2
