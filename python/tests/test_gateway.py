@@ -197,3 +197,10 @@ def test_the_longest_of_each_is_taken(alone: Gateway) -> None:
     longest = head + b"a" * (4000 - len(head + end)) + end
     assert [output.data.split()[1] for output in alone.datagram(AGENT, longest)] == [b"7"]
     assert alone.datagram(AGENT, longest.replace(b"AUEP 7", b"AUEP 18")) == []
+
+
+def test_a_wait_gives_what_each_of_its_ticks_sent() -> None:
+    """An announcement that nobody answers goes out again and again meanwhile."""
+    waited, ticked = Gateway(CONFIG), Gateway(CONFIG)
+    sent = [it for moment in range(1000, 10_001, 1000) for it in ticked.tick(moment)]
+    assert waited.wait(10_000) == sent and len({it.moment for it in sent}) > 2
