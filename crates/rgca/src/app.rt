@@ -1,6 +1,7 @@
 //! The program: reads its configuration, and serves as its words ask.
 ghost use Rattle.std.specs.Prelude.{◌≡◌, None, is_some, IfOk, IfSome};
-ghost use Rattle.rgca_words.specs.Names.{name_of, Says};
+ghost use Rattle.command_words.specs.Files.{name_of};
+ghost use Rattle.rgca_words.specs.Names.{Says};
 
 use agent_config::AgentConfig;
 use live_agent::{WireSettings, serve_agent};

@@ -1,6 +1,7 @@
 //! The program: reads its words and its configuration, opens its sockets, and serves.
 ghost use Rattle.std.specs.Prelude.{◌≡◌, IfOk, IfNone, IfSome, None};
-ghost use Rattle.rgwd_words.specs.Names.{name_of, Says};
+ghost use Rattle.command_words.specs.Files.{name_of};
+ghost use Rattle.rgwd_words.specs.Names.{Says};
 
 use crate::opening::{admission_of, desk_settings, open_site};
 use crate::reception::PageReception;
