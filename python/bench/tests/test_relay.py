@@ -123,6 +123,19 @@ def test_a_network_by_direction() -> None:
     assert first != second, "one seed, and each direction its own sequence"
 
 
+def test_each_direction_of_a_network_draws_for_itself() -> None:
+    """What goes out has the fates that its own seed draws, whatever comes in between, and however that is spoilt."""
+
+    def outward_of(text: str, between: int) -> list[int]:
+        inward, outward = by_direction(text)
+        return [len(outward(b"", 0)) for _ in range(64) if all(len(inward(b"", 0)) < 3 for _ in range(between))]
+
+    alone = outward_of("lose 50%, seed 7", 0)
+    for text in ("lose 50%, seed 7", "in lose 10%, in seed 8, out lose 50%, out seed 7"):
+        assert outward_of(text, 3) == alone
+    assert outward_of("lose 50%, in seed 7, out seed 8", 0) != alone
+
+
 @pytest.mark.parametrize("text, why", [
     ("in", "in: wanted lose, copy, late or seed after it"), ("in drop 1%", "drop 1%: wanted lose, copy, late or seed"),
     ("lose 1%, out lose 2%", "lose 2%: wanted lose 0% to 100%, once"), ("in out lose 1%", "out lose 1%: wanted lose, copy, late or seed"),
@@ -322,6 +335,17 @@ def test_the_program_relays_and_reports(agent: socket.socket, echo: Echo, tmp_pa
     assert [line.split(None, 1)[1] for line in said.splitlines()] == [
         f"in  {place(FRONT)} AUEP 7 aaln/1@gw\\x1b MGCP 1.0", f"out {place(FRONT)} late by 30 ms: 200 7 OK",
     ]
+
+
+def test_the_program_spoils_by_direction(agent: socket.socket, echo: Echo) -> None:
+    words = ["--home", place(HOME), "--agent", place(AGENT), "--network", "in late 30-30, out lose 100%"]
+    program = begun(f"{place(FRONT)}={place(GATEWAY)}", *words)
+    assert program.stderr and program.stderr.readline().startswith("relay ")
+    agent.sendto(mgcp.command("AUEP", 7, "aaln/1@gw"), FRONT)
+    assert received(agent) == [] and echo.heard == [7]
+    program.send_signal(signal.SIGTERM)
+    told = json.loads(program.communicate(timeout=60)[0])
+    assert (told["in"]["late"], told["in"]["lost"], told["out"]["late"], told["out"]["lost"]) == (1, 0, 0, 1)
 
 
 @pytest.mark.parametrize("words, status, said", [
