@@ -1,8 +1,9 @@
 """What is released: packages and what is in them, in a Debian of their own too; the unit for systemd; the image, and pods of it.
 
 They are made of what out/PROVED has. Where it lacks a program they are made in a copy of this tree, in which the programs of the suite
-stand in: PROVED says there that nothing proved them. What can't be seen for want of a program is skipped; packages of Debian that are
-wanted: lintian, mmdebstrap, gcc, pkg-config, iproute2, systemd, buildah, podman, netavark, aardvark-dns, iptables, runc and curl.
+stand in: PROVED says there that nothing proved them. What can't be seen for want of a program is skipped, and one test fails, which says
+what lacks; packages of Debian that are wanted: lintian, mmdebstrap, gcc, pkg-config, iproute2, systemd, buildah, podman, netavark,
+aardvark-dns, iptables, runc and curl.
 """
 import functools
 import hashlib
@@ -12,7 +13,7 @@ import re
 import shutil
 import subprocess
 import time
-from collections.abc import Callable, Iterator
+from collections.abc import Callable, Iterable, Iterator
 from pathlib import Path
 
 import pytest
@@ -22,6 +23,9 @@ pytestmark = pytest.mark.release
 
 PLACES = {"rgw": "bin", "rgwd": "libexec/rgw", "rgca": "libexec/rgw"}
 COMMANDS = ("rgw-check", "rgw-load", "rgw-relay")
+# Programs without which something isn't seen.
+WANTED = ("dpkg-deb", "lintian", "cc", "pkg-config", "mmdebstrap", "ip", "unshare", "nsenter", "systemd-analyze", "buildah", "podman",
+          "runc", "/usr/lib/podman/netavark", "/usr/lib/podman/aardvark-dns", "iptables", "curl")
 # What each package for Debian has below /usr, among others: the library for C, pages of the manual, documents.
 HAS = {
     "rgw": ["lib/librgw.a", "lib/librgw.so.1", "lib/librgw.so", "include/rgw.h", "lib/pkgconfig/rgw.pc",
@@ -59,11 +63,21 @@ RGWD = "/usr/local/sbin/rgwd"
 BARE = {"PATH": "/usr/sbin:/usr/bin:/sbin:/bin", "DEBIAN_FRONTEND": "noninteractive", "LC_ALL": "C"}
 
 
+def lacking(programs: Iterable[str]) -> list[str]:
+    """Those of these programs that aren't there."""
+    return [it for it in programs if not (shutil.which(it) or os.access(it, os.X_OK))]
+
+
 def needs(*programs: str) -> None:
-    """Skips what wants one of these programs, where it isn't there."""
-    for it in programs:
-        if not (shutil.which(it) or os.access(it, os.X_OK)):
-            pytest.skip(f"there is no {it}")
+    """Skips what wants one of these programs, which are of WANTED, where it isn't there."""
+    assert set(programs) <= set(WANTED)
+    for it in lacking(programs):
+        pytest.skip(f"there is no {it}")
+
+
+def test_no_program_lacks() -> None:
+    """All can be seen: where others are skipped for want of a program, this fails."""
+    assert not lacking(WANTED)
 
 
 def ended(*words: object, **how: object) -> str:
