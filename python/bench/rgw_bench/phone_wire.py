@@ -133,6 +133,11 @@ class Telephones:
                 self.take(words, moment)
             except (ValueError, IndexError):
                 self.unread += 1
+        # (a datagram has all lines that were asked for)
+        if self.lines and not self.is_shown:
+            with self.changed:
+                self.is_shown = True
+                self.changed.notify_all()
 
     def take(self, words: list[str], moment: float) -> None:
         """Takes a line. ValueError, IndexError: it is none that rgwd(8) has."""
@@ -198,7 +203,6 @@ class Telephones:
         modes = dict((it.partition(":")[::2]) for it in parts(words[6]))
         with self.changed:
             its = self.lines.setdefault(number, self.made(self, number))
-            self.is_shown = True
             self.changed.notify_all()
         its.show(moment, hook, signals, modes)
 

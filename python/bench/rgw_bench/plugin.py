@@ -260,11 +260,15 @@ def is_last(item: pytest.Item) -> bool:
 
 
 def pytest_collection_modifyitems(config: pytest.Config, items: list[pytest.Item]) -> None:
-    """Leaves the checks that are asked for by their names; those that judge what came during all others go last."""
+    """Leaves the checks that are asked for by their names; those that judge what came during all others go last. Raises pytest.UsageError
+    where a word lacks that checks need: then the status is 4."""
     names = getattr(config.option, "gateway_only", None)
     if names:
         items[:] = [it for it in items if (rule := rule_of(it)) and rule.name in names.split(",")]
     items.sort(key=is_last)
+    # (what lacks is told once, and not by each check)
+    if not config.option.collectonly and any(rule_of(it) for it in items):
+        settings_of(config)
 
 
 def bench_of(config: pytest.Config) -> Bench:

@@ -226,7 +226,7 @@ def test_pytest_plays_checks_by_name_and_section(stub: Stub, tmp_path: Path) -> 
     assert ended.stdout.splitlines()[0] == "answers.check::profile-name"
     # (a job that forgets the gateway isn't green)
     ended = run(*words[:-len(["--gateway", *at(stub)])], "-k", "unknown-endpoint", "-q")
-    assert ended.returncode == 1 and "no --gateway" in ended.stdout
+    assert ended.returncode == 4 and "no --gateway" in ended.stderr and "Traceback" not in ended.stdout + ended.stderr
 
 
 def test_a_check_in_python(stub: Stub, tmp_path: Path) -> None:

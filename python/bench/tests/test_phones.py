@@ -304,6 +304,22 @@ def test_whatever_a_gateway_tells_is_taken(data: bytes) -> None:
     assert len(held.lines) <= 1000
 
 
+def test_lines_are_shown_once_all_of_them_are_known() -> None:
+    """A session doesn't begin with the first line of a datagram that has more."""
+    sent: list[bytes] = []
+    seen: list[bool] = []
+
+    def made(gateway: Telephones, line: int) -> Deaf:
+        seen.append(gateway.is_shown)
+        return Deaf()
+
+    held = Telephones("gw", ("127.0.0.1", 9), lambda text, place: sent.append(text), made)
+    held.hear(b"watching from 1 at 5\n", 1.0)
+    assert not held.is_shown
+    held.hear(b"".join(b"line %d on signals - connections - lost 0\n" % line for line in range(1, 97)), 1.0)
+    assert (len(held.lines), held.is_shown, any(seen)) == (96, True, False)
+
+
 class Deaf:
     """A line that takes changes as a telephone does, and keeps nothing else."""
 
