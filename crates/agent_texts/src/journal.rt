@@ -18,7 +18,7 @@ use exchange_log::{
 };
 use live_outlets::{Outlets, Record, Written};
 use mg_bytes::{Draft, OutOfMemory, lines};
-use piggyback::parts;
+use mgcp_text::parts;
 use std::alloc::Global;
 use std::io::Write;
 use std::net::SocketAddrV4;

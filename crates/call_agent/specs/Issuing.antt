@@ -2,7 +2,7 @@
 use Rattle.std.specs.Prelude.{ℕ, ◌+◌, ◌&&◌, nat_lt, codes, decimal, if◌then◌else◌, Bool, List, [], ◌∷◌, ◌++◌, Option, Some, None}
 use Rattle.mg_bytes.specs.Bytes.{space}
 use Rattle.mgcp_text.specs.Reading.{read_text}
-use Rattle.piggyback.specs.Packing.{is_joinable}
+use Rattle.mgcp_text.specs.Packing.{is_joinable}
 use Rattle.endpoint_names.specs.declared.route.Route.TheVariants.{One}
 use Rattle.outbound.specs.Flight.{sent_first}
 use Rattle.transmission.specs.Texts.{largest_datagram}

@@ -15,7 +15,7 @@ use flights::Flights;
 use mg_bytes::{Draft, OutOfMemory, Text};
 use mgcp_text::{TextFault, TransactionId, read_message};
 use outbound::{Pending, is_command_with};
-use piggyback::is_joinable;
+use mgcp_text::is_joinable;
 use plain_machine::OutDatagram;
 use std::alloc::{AllocError, Global};
 use std::net::SocketAddrV4;

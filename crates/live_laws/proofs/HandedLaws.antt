@@ -5,10 +5,10 @@ use Rattle.std.proofs.lemmas.List.{take-map, drop-map, drop-drop, length-map, le
 use Rattle.std.proofs.lemmas.List.Elements.{All-nil, All-cons, All-head, All-tail, All-map}
 use Rattle.std.proofs.lemmas.Grind.{flat_map-append}
 use Rattle.std.proofs.lemmas.Simd.{map-map}
-use Rattle.piggyback.specs.Parts.{parts_of}
-use Rattle.piggyback.specs.Packing.{dot_line as dot_bytes, with_text, ends_in_line_feed, is_joinable, joined}
-use Rattle.piggyback.proofs.PackingLaws.{Joins, joins-from, parts-with_text, ends-with_text, behind_dots}
-use Rattle.piggyback.proofs.PartingLaws.{parts-apart}
+use Rattle.mgcp_text.specs.Parts.{parts_of}
+use Rattle.mgcp_text.specs.Packing.{dot_line as dot_bytes, with_text, ends_in_line_feed, is_joinable, joined}
+use Rattle.mgcp_text.proofs.PackingLaws.{Joins, joins-from, parts-with_text, ends-with_text, behind_dots}
+use Rattle.mgcp_text.proofs.PartingLaws.{parts-apart}
 use Rattle.transmission.specs.declared.output.OutDatagram.{OutDatagram}
 use Rattle.transmission.specs.Packing.{joins, joined as with_message, packed_after, packed, messages_in}
 use Rattle.transmission.specs.Texts.{largest_datagram}

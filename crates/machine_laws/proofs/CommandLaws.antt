@@ -42,7 +42,7 @@ use Rattle.plain_machine.specs.Falling.{happened_on, happened_under}
 use Rattle.plain_machine.specs.Responding.{responded_as, responded_on, redirected_on, opened_on}
 use Rattle.mg_line.specs.Opening.{opened}
 use Rattle.endpoint_names.specs.declared.entity.Entity.{Entity}
-use Rattle.piggyback.specs.Packing.{is_joinable}
+use Rattle.mgcp_text.specs.Packing.{is_joinable}
 use Rattle.transmission.proofs.PackingLaws.{IsMessage}
 use Rattle.machine_laws.proofs.FlightLaws.{next_below, repeated_same, heard_same}
 use Rattle.machine_laws.proofs.NotificationLemmas.{announcement_goes, notification_goes}

@@ -6,8 +6,8 @@ use Rattle.std.proofs.lemmas.Bool.{and_parts, ltb-true, ltb-false}
 use Rattle.std.proofs.lemmas.Bool.Decides.{Decides-eqb}
 use Rattle.std.specs.Cmp.Derive.{both_true}
 use Rattle.std.specs.declared.net.socket_addr.SocketAddrV4.{SocketAddrV4}
-use Rattle.piggyback.specs.Parts.{parts_of}
-use Rattle.piggyback.proofs.PartingLaws.{parts-parts, short-parts_of}
+use Rattle.mgcp_text.specs.Parts.{parts_of}
+use Rattle.mgcp_text.proofs.PartingLaws.{parts-parts, short-parts_of}
 use Rattle.transmission.specs.Texts.{texts_of, largest_datagram}
 use Rattle.mgcp_text.specs.Reading.{read_text}
 use Rattle.mg_line.specs.declared.phone.Act.{Act}

@@ -33,7 +33,7 @@ use Rattle.mgcp_text.specs.Answer.{AnswerContent, IsAnswer, plain_code, response
 use Rattle.mgcp_text.proofs.AnswerLemmas.{answer_writable}
 use Rattle.mgcp_text.proofs.IdLemmas.{IsId, read_id}
 use Rattle.mgcp_text.proofs.WholeLemmas.{whole_written}
-use Rattle.piggyback.proofs.PackingLaws.{joinable-from}
+use Rattle.mgcp_text.proofs.PackingLaws.{joinable-from}
 use Rattle.history.specs.KeptFirst.{KeptFirst}
 use Rattle.history.specs.Entry.{Entry}
 use Rattle.history.specs.Entry.TheVariants.{First, Confirmation}

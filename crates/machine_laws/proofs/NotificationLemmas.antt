@@ -31,8 +31,8 @@ use Rattle.event_values.proofs.ObservedLaws.{observed_no_blanks, observed_one_li
 use Rattle.endpoint_names.specs.declared.name.Pattern.TheVariants.{One, All}
 use Rattle.endpoint_names.specs.Name.{local_name, name_text}
 use Rattle.endpoint_names.specs.Table.{is_domain_byte, is_domain, longest_domain}
-use Rattle.piggyback.specs.Packing.{is_joinable}
-use Rattle.piggyback.proofs.PackingLaws.{joinable-from}
+use Rattle.mgcp_text.specs.Packing.{is_joinable}
+use Rattle.mgcp_text.proofs.PackingLaws.{joinable-from}
 use Rattle.mg_line.specs.Line.{Notice, most_accumulated}
 use Rattle.plain_machine.specs.declared.setup.Setup.{Setup}
 use Rattle.transmission.specs.Texts.{largest_datagram}

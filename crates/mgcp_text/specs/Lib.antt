@@ -8,3 +8,5 @@ pub mod Confirmation
 pub mod Writing
 pub mod Answer
 pub mod Examples
+pub mod Parts
+pub mod Packing

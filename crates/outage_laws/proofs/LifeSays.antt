@@ -9,7 +9,7 @@ use Rattle.std.proofs.lemmas.Grind.{flat_map-append}
 use Rattle.history.specs.KeptFirst.{KeptFirst}
 use Rattle.history.specs.Kept.{firsts_in}
 use Rattle.outbound.specs.Flight.{InFlight}
-use Rattle.piggyback.specs.Parts.{parts_of}
+use Rattle.mgcp_text.specs.Parts.{parts_of}
 use Rattle.transmission.specs.declared.output.OutDatagram.{OutDatagram}
 use Rattle.transmission.specs.Packing.{messages_in}
 use Rattle.gateway_rules.specs.declared.refusal.Refusal.TheVariants.{TickTooFar, ClockBack}

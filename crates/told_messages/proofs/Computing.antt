@@ -2,7 +2,7 @@
 use Rattle.std.specs.Prelude.{⊤}
 use Rattle.page_board.specs.Keeping.{latest_said}
 use Rattle.message_counts.proofs.Computing.{on_examples as count_examples}
-use Rattle.piggyback.proofs.Computing.{on_examples as part_examples}
+use Rattle.mgcp_text.proofs.PiggybackComputing.{on_examples as part_examples}
 use Rattle.transmission.specs.Texts.{texts_of}
 use Rattle.gateway_core.specs.Outgoing.{texts_within}
 use Rattle.told_messages.specs.Coming.{waited_for, came_text, texts_came, datagram_came, given_up_text}

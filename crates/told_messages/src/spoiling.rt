@@ -4,7 +4,7 @@ ghost use Rattle.std.specs.List.{flat_map};
 ghost use Rattle.exchange_log.specs.declared.stamp.Way.TheVariants.{Came};
 ghost use Rattle.exchange_log.specs.Lines.{message_line, note_line};
 ghost use Rattle.exchange_log.specs.Pausing.{pause_line};
-ghost use Rattle.piggyback.specs.Parts.{parts_of};
+ghost use Rattle.mgcp_text.specs.Parts.{parts_of};
 ghost use Rattle.told_messages.specs.Coming.{untaken_text};
 ghost use Rattle.told_messages.specs.Logging.{LeavesOut};
 ghost use Rattle.told_messages.specs.Recording.{Records};
@@ -13,7 +13,7 @@ use crate::log::Log;
 use exchange_log::{Note, Stamp, Way, put_message, put_note, put_pause};
 use live_outlets::Now;
 use mg_bytes::OutOfMemory;
-use piggyback::parts;
+use mgcp_text::parts;
 use std::alloc::Global;
 use std::net::SocketAddrV4;
 

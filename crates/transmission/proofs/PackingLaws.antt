@@ -6,10 +6,10 @@ use Rattle.std.proofs.lemmas.List.{map-append}
 use Rattle.std.proofs.lemmas.Slice.Eq.{bytes_eq-Decides}
 use Rattle.std.proofs.lemmas.Bool.Decides.{Decides-eqb}
 use Rattle.std.specs.declared.net.socket_addr.SocketAddrV4.{SocketAddrV4}
-use Rattle.piggyback.specs.Parts.{parts_of}
-use Rattle.piggyback.specs.Packing.{ends_in_line_feed, is_joinable}
-use Rattle.piggyback.proofs.PackingLaws.{Joins, joins-from, parts-with_text, ends-with_text}
-use Rattle.piggyback.proofs.PartingLaws.{parts-apart}
+use Rattle.mgcp_text.specs.Parts.{parts_of}
+use Rattle.mgcp_text.specs.Packing.{ends_in_line_feed, is_joinable}
+use Rattle.mgcp_text.proofs.PackingLaws.{Joins, joins-from, parts-with_text, ends-with_text}
+use Rattle.mgcp_text.proofs.PartingLaws.{parts-apart}
 use Rattle.transmission.specs.declared.output.OutDatagram.{OutDatagram}
 use Rattle.transmission.specs.Texts.{largest_datagram}
 use Rattle.transmission.specs.Packing.{same_address, joins, joined, packed_after, packed, messages_in}

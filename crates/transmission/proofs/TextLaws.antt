@@ -8,8 +8,8 @@ use Rattle.mg_bytes.specs.Blanks.{trimmed_end, trimmed}
 use Rattle.mg_bytes.specs.Lines.{cut, is_line_feed, is_dot_line}
 use Rattle.mg_bytes.proofs.PieceLemmas.{cut-nil, concat-cut}
 use Rattle.mg_bytes.proofs.CutLemmas.{IsEnded, AreLines, cut_ended, lines-cut}
-use Rattle.piggyback.specs.Parts.{parts_of}
-use Rattle.piggyback.proofs.SplitLemmas.{split, split_dot, split_other, split_some}
+use Rattle.mgcp_text.specs.Parts.{parts_of}
+use Rattle.mgcp_text.proofs.SplitLemmas.{split, split_dot, split_other, split_some}
 use Rattle.transmission.specs.Texts.{largest_datagram, most_texts, texts_of}
 use Rattle.transmission.specs.Example.{dot_lines}
 

@@ -3,8 +3,8 @@
 use Rattle.std.specs.Prelude.{Bool, ◌&&◌, ◌==◌, if◌then◌else◌, List, [], ◌∷◌, map}
 use Rattle.std.specs.Str.{bytes_eq}
 use Rattle.std.specs.declared.net.socket_addr.SocketAddrV4.{SocketAddrV4}
-use Rattle.piggyback.specs.Parts.{parts_of}
-use Rattle.piggyback.specs.Packing.{has_room, with_text}
+use Rattle.mgcp_text.specs.Parts.{parts_of}
+use Rattle.mgcp_text.specs.Packing.{has_room, with_text}
 use Rattle.transmission.specs.declared.output.OutDatagram.{OutDatagram}
 use Rattle.transmission.specs.Texts.{largest_datagram}
 

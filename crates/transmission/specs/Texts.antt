@@ -1,6 +1,6 @@
 -- The texts of a datagram (RFC 3435, 3.5.4 and 3.5.5).
 use Rattle.std.specs.Prelude.{ℕ, ◌+◌, ◌/◌, nat_lt, if◌then◌else◌, List, [], length}
-use Rattle.piggyback.specs.Parts.{parts_of}
+use Rattle.mgcp_text.specs.Parts.{parts_of}
 
 -- the largest datagram that is taken (RFC 3435, 3.5.4)
 abbrev pub largest_datagram : ℕ

@@ -1,6 +1,6 @@
 //! The datagrams that messages go out in.
 ghost use Rattle.std.specs.Prelude.{◌≡◌, IfOk};
-ghost use Rattle.piggyback.specs.Packing.{has_room, with_text};
+ghost use Rattle.mgcp_text.specs.Packing.{has_room, with_text};
 ghost use Rattle.transmission.specs.Texts.{largest_datagram};
 ghost use Rattle.transmission.specs.Packing.{same_address, joins, joined, packed};
 

@@ -16,8 +16,8 @@ use Rattle.mgcp_text.proofs.AnswerLemmas.{answer_writable}
 use Rattle.mgcp_text.proofs.IdLemmas.{IsId, read_id}
 use Rattle.mgcp_text.proofs.RoundLaws.{read_again}
 use Rattle.mgcp_text.proofs.WholeLemmas.{whole_written}
-use Rattle.piggyback.proofs.PackingLaws.{joinable-from}
-use Rattle.piggyback.specs.Packing.{is_joinable}
+use Rattle.mgcp_text.proofs.PackingLaws.{joinable-from}
+use Rattle.mgcp_text.specs.Packing.{is_joinable}
 use Rattle.history.specs.KeptFirst.{KeptFirst}
 use Rattle.history.specs.Entry.{Entry}
 use Rattle.history.specs.Entry.TheVariants.{Confirmation}

@@ -6,8 +6,8 @@ use Rattle.std.proofs.lemmas.Bool.{eqb-true, eqb-false, ltb-true, ltb-false}
 use Rattle.std.proofs.lemmas.Bool.Decides.{Decides-eqb}
 use Rattle.std.proofs.lemmas.Option.{none-some}
 use Rattle.std.specs.declared.net.socket_addr.SocketAddrV4.{SocketAddrV4}
-use Rattle.piggyback.specs.Parts.{parts_of}
-use Rattle.piggyback.proofs.PartingLaws.{parts-parts, short-parts_of}
+use Rattle.mgcp_text.specs.Parts.{parts_of}
+use Rattle.mgcp_text.proofs.PartingLaws.{parts-parts, short-parts_of}
 use Rattle.mgcp_text.specs.declared.message.Param.{Param}
 use Rattle.mgcp_text.specs.declared.message.Message.TheVariants as messages
 use Rattle.mgcp_text.specs.Reading.{Outcome, message, read_text}

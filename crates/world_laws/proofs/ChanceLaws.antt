@@ -2,7 +2,7 @@
 use Rattle.std.proofs.Common.{◌≡◌, ℕ, ◌<◌, ◌≤◌, Bool, true, false, if◌then◌else◌, List, [], length, refl, sym, ap, subst, arith, ◌+◌, ◌∷◌, ◌++◌, map, Option, Some, None, inl, inr, ◌∙◌}
 use Rattle.std.specs.Prelude.{All, nat_lt, flat_map, ◌⊎◌, slice_get, nat_le, is_none}
 use Rattle.std.proofs.lemmas.Bool.{ltb-true, and_parts, leb-true, leb-false}
-use Rattle.piggyback.specs.Parts.{parts_of}
+use Rattle.mgcp_text.specs.Parts.{parts_of}
 use Rattle.transmission.specs.declared.output.OutDatagram.{OutDatagram}
 use Rattle.transmission.specs.Texts.{texts_of, largest_datagram}
 use Rattle.transmission.specs.Packing.{packed, messages_in, same_address}

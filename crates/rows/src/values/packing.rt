@@ -1,12 +1,12 @@
 //! Calls about what shares a datagram.
 ghost use Rattle.std.specs.Prelude.{◌≡◌};
 ghost use Rattle.std.specs.List.{list_all};
-ghost use Rattle.piggyback.specs.Packing.{is_joinable};
+ghost use Rattle.mgcp_text.specs.Packing.{is_joinable};
 
 use crate::texts::{put_pieces, words_of};
 use crate::values::numbered;
 use mg_bytes::{OutOfMemory, Text};
-use piggyback::{is_joinable, join, parts};
+use mgcp_text::{is_joinable, join, parts};
 use scenario_files::Outcome;
 use std::alloc::Global;
 

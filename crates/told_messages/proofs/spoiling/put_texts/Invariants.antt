@@ -3,7 +3,7 @@ use Rattle.std.specs.Prelude.{None}
 use Rattle.std.specs.List.{flat_map}
 use Rattle.exchange_log.specs.declared.stamp.Way.TheVariants.{Came}
 use Rattle.exchange_log.specs.Lines.{message_line}
-use Rattle.piggyback.specs.Parts.{parts_of}
+use Rattle.mgcp_text.specs.Parts.{parts_of}
 use Rattle.told_messages.proofs.spoiling.put_texts.Given as goal
 
 abbrev pub invariant-loop-text : goal.invariant-loop-text

@@ -1,5 +1,0 @@
-use Rattle.piggyback.proofs.PackingLaws.{packed-push}
-use Rattle.piggyback.proofs.laws.a_datagram_ends_only_where_the_next_text_had_no_room.Goals as goal
-
-pub returns : goal.returns
-returns c = packed-push

@@ -1,8 +1,0 @@
-use Rattle.piggyback.proofs.PartingLaws.{parts-parts, short-parts_of}
-use Rattle.piggyback.proofs.laws.a_part_is_whole.Goals as goal
-
-pub returns-clause-itself : goal.returns-clause-itself
-returns-clause-itself c = parts-parts
-
-pub returns-clause-short : goal.returns-clause-short
-returns-clause-short c = short-parts_of

@@ -1,5 +1,0 @@
-use Rattle.piggyback.proofs.PackingLaws.{within-packed}
-use Rattle.piggyback.proofs.laws.each_datagram_is_within_the_limit.Goals as goal
-
-pub returns : goal.returns
-returns c = within-packed

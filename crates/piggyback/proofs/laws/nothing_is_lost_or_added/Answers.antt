@@ -1,5 +1,0 @@
-use Rattle.piggyback.proofs.PackingLaws.{joined-packed}
-use Rattle.piggyback.proofs.laws.nothing_is_lost_or_added.Goals as goal
-
-pub returns : goal.returns
-returns c = joined-packed

@@ -1,5 +1,0 @@
-use Rattle.piggyback.proofs.PackingLaws.{parts-packed}
-use Rattle.piggyback.proofs.laws.what_was_joined_is_taken_apart_again.Goals as goal
-
-pub returns : goal.returns
-returns c = parts-packed
