@@ -5,13 +5,13 @@ use Rattle.std.specs.declared.net.socket_addr.SocketAddrV4.{SocketAddrV4}
 use Rattle.mgcp_text.specs.declared.message.Param.{Param}
 use Rattle.mgcp_text.specs.declared.message.Message.TheVariants as messages
 use Rattle.mgcp_text.specs.Reading.{Outcome, message, no_header, bad_version, bad_body, read_text}
-use Rattle.history.specs.Entry.{Entry}
-use Rattle.history.specs.Entry.TheVariants.{Confirmation}
-use Rattle.history.specs.Memory.{most_firsts}
-use Rattle.history.specs.Kept.{first_entry}
-use Rattle.history.specs.Looking.{Looked, new, repeat, confirmed, full, look_of}
-use Rattle.history.specs.Recalling.{Recalls}
-use Rattle.transactions.proofs.RecallLaws.{recalls_entry, recalls_look, recalls_later}
+use Rattle.transmission.specs.declared.entry.Entry.{Entry}
+use Rattle.transmission.specs.declared.entry.Entry.TheVariants.{Confirmation}
+use Rattle.transmission.specs.Memory.{most_firsts}
+use Rattle.transmission.specs.Kept.{first_entry}
+use Rattle.transmission.specs.Looking.{Looked, new, repeat, confirmed, full, look_of}
+use Rattle.transmission.specs.Recalling.{Recalls}
+use Rattle.transmission.proofs.RecallLaws.{recalls_entry, recalls_look, recalls_later}
 use Rattle.outbound.specs.declared.reply.Reply.{Reply}
 use Rattle.outbound.specs.declared.reply.Reply.TheVariants.{Answered, Provisional, Stranger}
 use Rattle.outbound.specs.Flight.{InFlight, reply_of, heard}

@@ -5,9 +5,9 @@ use Rattle.std.specs.declared.net.socket_addr.SocketAddrV4.{SocketAddrV4}
 use Rattle.mgcp_text.specs.Reading.{Outcome, read_text, message, no_header, bad_version, bad_body}
 use Rattle.mgcp_text.specs.declared.message.Message.{Message}
 use Rattle.mgcp_text.specs.declared.message.Message.TheVariants as messages
-use Rattle.history.specs.Kept.{HistoryState}
-use Rattle.history.specs.Memory.{most_firsts}
-use Rattle.history.specs.Looking.{Looked, new, repeat, confirmed, full, look_of}
+use Rattle.transmission.specs.Kept.{HistoryState}
+use Rattle.transmission.specs.Memory.{most_firsts}
+use Rattle.transmission.specs.Looking.{Looked, new, repeat, confirmed, full, look_of}
 use Rattle.outbound.specs.declared.reply.Reply.{Reply}
 use Rattle.outbound.specs.declared.reply.Reply.TheVariants.{Answered, Provisional, Stranger}
 use Rattle.outbound.specs.Flight.{InFlight, reply_of, heard}

@@ -7,7 +7,7 @@ use Rattle.mg_bytes.specs.Bytes.{space}
 use Rattle.endpoint_names.specs.declared.route.Route.TheVariants.{One}
 use Rattle.outbound.specs.Flight.{InFlight, sent_first}
 use Rattle.flights.specs.Flights.{Commands, begun, settled}
-use Rattle.transactions.proofs.RecallLaws.{recalls_itself, recalls_purged}
+use Rattle.transmission.proofs.RecallLaws.{recalls_itself, recalls_purged}
 use Rattle.gateway_rules.specs.declared.refusal.Refusal.{Refusal}
 use Rattle.gateway_rules.specs.declared.refusal.Refusal.TheVariants.{TickTooFar, ClockBack}
 use Rattle.plain_machine.specs.Event.{GatewayEvent, datagram, phone, tick}

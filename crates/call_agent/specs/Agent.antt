@@ -4,7 +4,7 @@ use Rattle.std.specs.Prelude.{ℕ, ◌-◌, ◌==◌, if◌then◌else◌, List,
 use Rattle.std.specs.List.{slice_index_or}
 use Rattle.call_agent.specs.declared.setup.AgentSetup.{AgentSetup}
 use Rattle.event_values.specs.declared.observed.Observed.{Observed}
-use Rattle.history.specs.Entry.{Entry}
+use Rattle.transmission.specs.declared.entry.Entry.{Entry}
 use Rattle.outbound.specs.Flight.{InFlight}
 use Rattle.transmission.specs.declared.output.OutDatagram.{OutDatagram}
 

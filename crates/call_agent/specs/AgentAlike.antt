@@ -1,7 +1,7 @@
 -- What an agent keeps, beside the plain agent: the same but for transactions that can't matter any more.
 use Rattle.std.specs.Prelude.{◌≡◌, List}
-use Rattle.history.specs.Entry.{Entry}
-use Rattle.history.specs.Recalling.{Recalls}
+use Rattle.transmission.specs.declared.entry.Entry.{Entry}
+use Rattle.transmission.specs.Recalling.{Recalls}
 use Rattle.call_agent.specs.Agent.{AgentMachine, AgentEffect}
 
 -- the same with this history

@@ -10,11 +10,11 @@ use Rattle.mgcp_text.specs.Writing.{written}
 use Rattle.mgcp_text.specs.Answer.{plain_code, response_of}
 use Rattle.endpoint_names.specs.Name.{name_of}
 use Rattle.event_values.specs.declared.observed.Observed.{Observed}
-use Rattle.history.specs.IdSpan.{IdSpan}
-use Rattle.history.specs.Entry.TheVariants.{Confirmation}
-use Rattle.history.specs.Memory.{most_firsts}
-use Rattle.history.specs.Kept.{first_entry}
-use Rattle.history.specs.Looking.{Looked, look_of}
+use Rattle.transmission.specs.declared.span.IdSpan.{IdSpan}
+use Rattle.transmission.specs.declared.entry.Entry.TheVariants.{Confirmation}
+use Rattle.transmission.specs.Memory.{most_firsts}
+use Rattle.transmission.specs.Kept.{first_entry}
+use Rattle.transmission.specs.Looking.{Looked, look_of}
 use Rattle.transmission.specs.Confirming.{spans_of}
 use Rattle.plain_machine.specs.Answering.{line_meant}
 use Rattle.call_agent.specs.Notified.{observed_with}

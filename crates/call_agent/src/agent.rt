@@ -17,7 +17,7 @@ use crate::working::step_state;
 use endpoint_names::Route;
 use event_values::Observed;
 use flights::{Flights, Growing};
-use history::History;
+use transmission::History;
 use mg_bytes::{OutOfMemory, Text};
 use outbound::{Answer, answer_with};
 use plain_machine::{Event, Outputs, Refusal};

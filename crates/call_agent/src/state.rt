@@ -3,7 +3,7 @@
 use crate::setup::AgentSetup;
 use crate::told::TakenEvents;
 use flights::{Flights, Growing};
-use history::History;
+use transmission::History;
 use outbound::Answered;
 use std::alloc::Global;
 

@@ -14,7 +14,7 @@ use crate::state::{Context, State};
 use crate::told::TakenEvents;
 use endpoint_names::{Pattern, read_name};
 use event_values::{Observed, read_observed};
-use history::IdSpan;
+use transmission::IdSpan;
 use mg_bytes::{CodeFault, OutOfMemory, ReturnCode, Sequence};
 use mgcp_text::{AnswerContent, Message, Param, Verb, param_at, read_k};
 use plain_machine::OutDatagram;

@@ -1,7 +1,7 @@
 -- Two gateways that stand for one list stand for the same lists.
 use Rattle.std.proofs.Common.{◌≡◌, ℕ, true, List, sym, subst, ◌∙◌}
-use Rattle.history.specs.Recalling.{Recalls}
-use Rattle.transactions.proofs.RecallLaws.{recalls_back, recalls_through}
+use Rattle.transmission.specs.Recalling.{Recalls}
+use Rattle.transmission.proofs.RecallLaws.{recalls_back, recalls_through}
 use Rattle.plain_machine.specs.declared.setup.Setup.{Setup}
 use Rattle.plain_machine.specs.Event.{GatewayEvent}
 use Rattle.plain_machine.specs.Machine.{Machine, opening}

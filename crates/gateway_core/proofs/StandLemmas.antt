@@ -22,9 +22,9 @@ use Rattle.plain_machine.proofs.EffectLaws.{effect_lines, effect_now}
 use Rattle.plain_machine.proofs.ListLaws.{machine_on, outputs_on, taken_on}
 use Rattle.gateway_texts.specs.declared.state.State.{State}
 use Rattle.gateway_core.specs.Sound.{IsSound}
-use Rattle.history.specs.Memory.{most_firsts}
-use Rattle.history.specs.Kept.{young_firsts}
-use Rattle.transactions.proofs.RecallLaws.{recalls_itself}
+use Rattle.transmission.specs.Memory.{most_firsts}
+use Rattle.transmission.specs.Kept.{young_firsts}
+use Rattle.transmission.proofs.RecallLaws.{recalls_itself}
 use Rattle.plain_machine.specs.Message.{Sent}
 use Rattle.gateway_core.proofs.AlikeLemmas.{effect_alike, refusal_alike, takes_alike, alike_purged, refusal_purged, outcomes_alike, account_alike}
 use Rattle.gateway_texts.specs.declared.outcome.TextOutcome.{TextOutcome}

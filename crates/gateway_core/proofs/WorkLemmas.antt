@@ -2,7 +2,7 @@
 use Rattle.std.proofs.Common.{◌≡◌, ℕ, ◌+◌, Bool, true, false, not, List, [], ◌∷◌, ◌++◌, length, map, Option, Some, None, refl, sym, ap, ◌∙◌, append-nil, arith}
 use Rattle.std.specs.Prelude.{is_some, ◌==◌}
 use Rattle.std.proofs.lemmas.List.FromFn.{length-map-range_with_len}
-use Rattle.history.specs.Kept.{HistoryState, settled_at as history_at, from_young}
+use Rattle.transmission.specs.Kept.{HistoryState, settled_at as history_at, from_young}
 use Rattle.mg_line.specs.declared.phone.Act.{Act}
 use Rattle.mg_line.specs.Acting.{is_heeded}
 use Rattle.mg_line.proofs.HeedLemmas.{unheeded}

@@ -1,7 +1,7 @@
 -- How many transactions a machine remembers.
 use Rattle.std.specs.Prelude.{ℕ, min, length}
-use Rattle.history.specs.Memory.{most_firsts}
-use Rattle.history.specs.Kept.{young_firsts}
+use Rattle.transmission.specs.Memory.{most_firsts}
+use Rattle.transmission.specs.Kept.{young_firsts}
 use Rattle.plain_machine.specs.Machine.{Machine}
 
 -- those that were executed less than `memory_time` before its clock, up to the most that there may be

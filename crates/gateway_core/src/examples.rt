@@ -4,7 +4,7 @@
 ghost use Rattle.std.specs.Prelude.{◌≡◌, ◌++◌, codes, [], ◌∷◌, length, replicate, true, false, None, Some};
 ghost use Rattle.mgcp_text.specs.declared.message.Verb.TheVariants.{Crcx, Mdcx, Rqnt, Ntfy, Other};
 ghost use Rattle.mg_line.specs.declared.phone.Act.TheVariants.{OffHook};
-ghost use Rattle.history.specs.Looking.{full};
+ghost use Rattle.transmission.specs.Looking.{full};
 ghost use Rattle.command_forms.specs.declared.refused.FaultyPart.TheVariants as parts;
 ghost use Rattle.command_forms.specs.Refusing.{letter_k, letter_x};
 ghost use Rattle.transmission.specs.Example.{dot_lines};

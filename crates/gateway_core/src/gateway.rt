@@ -1,6 +1,6 @@
 //! The gateway.
 ghost use Rattle.std.specs.Prelude.{◌≡◌, is_ok, ◌∷◌, [], List, map, option_map, ◌<◌, ◌≤◌, ◌^◌, Some, IfOk, IfErr, OnOk, OnErr};
-ghost use Rattle.history.specs.Memory.{most_firsts};
+ghost use Rattle.transmission.specs.Memory.{most_firsts};
 ghost use Rattle.plain_machine.specs.Setup.{setup_from, setup_of};
 ghost use Rattle.small_rules.specs.Numbering.{firsts};
 ghost use Rattle.plain_machine.specs.Machine.{serves};
@@ -16,7 +16,7 @@ use arrayvec::ArrayVec;
 use connections::Connection;
 use endpoints::{Context, judged};
 use gateway_texts::{Outcomes, State, TextOutcome, opening_state};
-use history::MOST_FIRSTS;
+use transmission::MOST_FIRSTS;
 use mg_line::Hook;
 use plain_machine::{Config, ConfigFault, Event, GivenUpCommand, Outputs, Refusal, Setup};
 use signals::ActiveSignal;

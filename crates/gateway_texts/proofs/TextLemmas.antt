@@ -3,9 +3,9 @@ use Rattle.std.proofs.Common.{◌≡◌, ◌<◌, ◌≤◌, ◌+◌, ℕ, suc, 
 use Rattle.std.proofs.lemmas.Bool.Decides.{nat_tests}
 use Rattle.std.specs.Prelude.{if◌then◌else◌, Bool, Result, Ok, Err, nat_lt}
 use Rattle.std.specs.declared.alloc.AllocError.{AllocError}
-use Rattle.history.specs.Kept.{HistoryState}
-use Rattle.history.specs.Memory.{most_firsts}
-use Rattle.history.specs.Looking.{Looked, new, repeat, confirmed, full, look_of}
+use Rattle.transmission.specs.Kept.{HistoryState}
+use Rattle.transmission.specs.Memory.{most_firsts}
+use Rattle.transmission.specs.Looking.{Looked, new, repeat, confirmed, full, look_of}
 use Rattle.mgcp_text.specs.Writing.{written}
 use Rattle.mgcp_text.specs.Message.{params_in}
 use Rattle.mgcp_text.specs.Confirmation.{k_of}
@@ -28,7 +28,7 @@ use Rattle.plain_machine.specs.Effect.{Effect}
 use Rattle.plain_machine.specs.Commanding.{done_by}
 use Rattle.std.proofs.lemmas.List.{map-append}
 use Rattle.std.specs.declared.net.socket_addr.SocketAddrV4.{SocketAddrV4}
-use Rattle.history.specs.IdSpan.{IdSpan}
+use Rattle.transmission.specs.declared.span.IdSpan.{IdSpan}
 use Rattle.mgcp_text.specs.Answer.{AnswerContent, response_of}
 use Rattle.mgcp_text.specs.Reading.{Outcome, message, no_header, bad_version, bad_body, read_text}
 use Rattle.plain_machine.specs.declared.setup.Setup.{Setup}

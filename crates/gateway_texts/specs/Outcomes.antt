@@ -10,8 +10,8 @@ use Rattle.command_forms.specs.Explaining.{fault_by}
 use Rattle.command_forms.specs.Order.{judged_while}
 use Rattle.mgcp_text.specs.declared.message.Message.TheVariants as messages
 use Rattle.mgcp_text.specs.Reading.{Outcome, message, no_header, bad_version, bad_body, read_text}
-use Rattle.history.specs.Memory.{most_firsts}
-use Rattle.history.specs.Looking.{Looked, new, repeat, confirmed, full, look_of}
+use Rattle.transmission.specs.Memory.{most_firsts}
+use Rattle.transmission.specs.Looking.{Looked, new, repeat, confirmed, full, look_of}
 use Rattle.transmission.specs.Acknowledging.{asks_for_acknowledgement}
 use Rattle.transmission.specs.Hearing.{response_as}
 use Rattle.transmission.specs.Texts.{texts_of}

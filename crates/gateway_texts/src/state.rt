@@ -5,7 +5,7 @@ ghost use Rattle.plain_machine.specs.Machine.{opening};
 ghost use Rattle.gateway_texts.specs.State.{machine_in};
 
 use endpoints::{Store, opening_list, opening_own};
-use history::History;
+use transmission::History;
 use mg_bytes::OutOfMemory;
 use plain_machine::Setup;
 use std::alloc::{AllocError, Global};

@@ -1,13 +1,13 @@
 //! What a text was that came in a datagram, before anything is left to the gateway.
 ghost use Rattle.std.specs.Prelude.{◌≡◌, None};
-ghost use Rattle.history.specs.Memory.{most_firsts};
-ghost use Rattle.history.specs.Looking.{look_of};
+ghost use Rattle.transmission.specs.Memory.{most_firsts};
+ghost use Rattle.transmission.specs.Looking.{look_of};
 ghost use Rattle.transmission.specs.Hearing.{outcome_in};
 ghost use Rattle.gateway_texts.specs.Outcomes.{reply_by};
 ghost use Rattle.gateway_texts.specs.Hearing.{passed_over};
 
 use crate::outcome::{Reply, TextOutcome};
-use history::{History, Look};
+use transmission::{History, Look};
 use mg_bytes::ReturnCode;
 use mgcp_text::{Message, TextFault, TransactionId};
 use plain_machine::front_code;

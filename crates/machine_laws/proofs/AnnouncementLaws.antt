@@ -30,8 +30,8 @@ use Rattle.machine_laws.specs.Passing.{seen, PassesAlone, line_due, line_happens
 use Rattle.machine_laws.proofs.PassLemmas.{passes_once, line_passes, own_passes}
 use Rattle.std.proofs.lemmas.Option.{none-some}
 use Rattle.endpoint_names.specs.declared.entity.Entity.{Entity}
-use Rattle.history.specs.Memory.{most_firsts}
-use Rattle.history.specs.Looking.{Looked, new, repeat, confirmed, full, look_of}
+use Rattle.transmission.specs.Memory.{most_firsts}
+use Rattle.transmission.specs.Looking.{Looked, new, repeat, confirmed, full, look_of}
 use Rattle.mgcp_text.specs.declared.confirmation.KValue.{KValue}
 use Rattle.mgcp_text.specs.Answer.{plain_code}
 use Rattle.mgcp_text.specs.Confirmation.{k_of}

@@ -6,10 +6,10 @@ use Rattle.mgcp_text.specs.Confirmation.{k_of}
 use Rattle.mgcp_text.specs.declared.message.Message.TheVariants as messages
 use Rattle.mgcp_text.specs.Reading.{Outcome, message, no_header, bad_version, bad_body, read_text}
 use Rattle.endpoint_names.specs.Name.{name_of}
-use Rattle.history.specs.IdSpan.{IdSpan}
-use Rattle.history.specs.Span.{is_named}
-use Rattle.history.specs.Memory.{most_firsts}
-use Rattle.history.specs.Looking.{full, look_of}
+use Rattle.transmission.specs.declared.span.IdSpan.{IdSpan}
+use Rattle.transmission.specs.Span.{is_named}
+use Rattle.transmission.specs.Memory.{most_firsts}
+use Rattle.transmission.specs.Looking.{full, look_of}
 use Rattle.transmission.specs.Confirming.{spans_of}
 use Rattle.transmission.specs.Texts.{texts_of}
 use Rattle.plain_machine.specs.declared.setup.Setup.{Setup}

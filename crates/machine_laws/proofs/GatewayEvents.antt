@@ -3,8 +3,8 @@ use Rattle.std.proofs.Common.{◌≡◌, ℕ, ◌+◌, ◌<◌, ◌≤◌, true,
 use Rattle.mgcp_text.specs.declared.message.Param.{Param}
 use Rattle.mgcp_text.specs.declared.message.Message.TheVariants as messages
 use Rattle.mgcp_text.specs.Reading.{Outcome, message, no_header, bad_version, bad_body, read_text, id_in}
-use Rattle.history.specs.KeptFirst.{KeptFirst}
-use Rattle.history.specs.Memory.{memory_time, is_young, most_firsts}
+use Rattle.transmission.specs.declared.entry.KeptFirst.{KeptFirst}
+use Rattle.transmission.specs.Memory.{memory_time, is_young, most_firsts}
 use Rattle.machine_laws.proofs.EachLemmas.{Each, one_before, one_of_each, one_to, one_weaker, each_both, each_weaker, one_behind, is_none-None}
 use Rattle.outbound.specs.Issued.{is_command_as}
 use Rattle.plain_machine.specs.Message.{Begun, of_none, again, acknowledgement, Sent, text_of}
@@ -13,10 +13,10 @@ use Rattle.std.specs.Prelude.{nat_lt, option_map, IfSome, nat_le, ◌^◌, AllPa
 use Rattle.std.specs.Option.{option_or}
 use Rattle.std.proofs.lemmas.Bool.{and_parts, eqb-true, ltb-true, ltb-false}
 use Rattle.std.proofs.lemmas.Option.{none-some}
-use Rattle.history.specs.Entry.{Entry}
-use Rattle.history.specs.Entry.TheVariants.{First, Confirmation}
-use Rattle.history.specs.Kept.{firsts_in, young_firsts}
-use Rattle.history.specs.Looking.{Found, Looked, confirmed, full, latest, look_of, new, recalled_from, repeat, repeated, told_by}
+use Rattle.transmission.specs.declared.entry.Entry.{Entry}
+use Rattle.transmission.specs.declared.entry.Entry.TheVariants.{First, Confirmation}
+use Rattle.transmission.specs.Kept.{firsts_in, young_firsts}
+use Rattle.transmission.specs.Looking.{Found, Looked, confirmed, full, latest, look_of, new, recalled_from, repeat, repeated, told_by}
 use Rattle.std.specs.declared.net.socket_addr.SocketAddrV4.{SocketAddrV4}
 use Rattle.mgcp_text.specs.Answer.{IsAnswer, plain_code, response_of}
 use Rattle.mgcp_text.specs.Confirmation.{k_of}

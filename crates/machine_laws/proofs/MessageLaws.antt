@@ -34,13 +34,13 @@ use Rattle.mgcp_text.proofs.AnswerLemmas.{answer_writable}
 use Rattle.mgcp_text.proofs.IdLemmas.{IsId, read_id}
 use Rattle.mgcp_text.proofs.WholeLemmas.{whole_written}
 use Rattle.mgcp_text.proofs.PackingLaws.{joinable-from}
-use Rattle.history.specs.KeptFirst.{KeptFirst}
-use Rattle.history.specs.Entry.{Entry}
-use Rattle.history.specs.Entry.TheVariants.{First, Confirmation}
-use Rattle.history.specs.Memory.{most_firsts}
-use Rattle.history.specs.Kept.{firsts_in}
-use Rattle.history.specs.Looking.{Looked, new, repeat, confirmed, full, look_of}
-use Rattle.history.proofs.LookLaws.{repeat_kept}
+use Rattle.transmission.specs.declared.entry.KeptFirst.{KeptFirst}
+use Rattle.transmission.specs.declared.entry.Entry.{Entry}
+use Rattle.transmission.specs.declared.entry.Entry.TheVariants.{First, Confirmation}
+use Rattle.transmission.specs.Memory.{most_firsts}
+use Rattle.transmission.specs.Kept.{firsts_in}
+use Rattle.transmission.specs.Looking.{Looked, new, repeat, confirmed, full, look_of}
+use Rattle.transmission.proofs.LookLaws.{repeat_kept}
 use Rattle.command_forms.specs.declared.forms.AuditTarget.{AuditTarget}
 use Rattle.command_forms.specs.declared.forms.AuditTarget.TheVariants as audits
 use Rattle.command_forms.specs.declared.forms.Target.{Target}

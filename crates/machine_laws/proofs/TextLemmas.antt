@@ -8,12 +8,12 @@ use Rattle.mgcp_text.specs.Confirmation.{k_of}
 use Rattle.mgcp_text.specs.declared.message.Message.TheVariants as messages
 use Rattle.mgcp_text.specs.Reading.{Outcome, message, no_header, bad_version, bad_body}
 use Rattle.mgcp_text.specs.Writing.{written}
-use Rattle.history.specs.IdSpan.{IdSpan}
-use Rattle.history.specs.Entry.{Entry}
-use Rattle.history.specs.Entry.TheVariants.{First, Confirmation}
-use Rattle.history.specs.Span.{is_named}
-use Rattle.history.specs.Memory.{most_firsts}
-use Rattle.history.specs.Looking.{Looked, new, repeat, confirmed, full, look_of}
+use Rattle.transmission.specs.declared.span.IdSpan.{IdSpan}
+use Rattle.transmission.specs.declared.entry.Entry.{Entry}
+use Rattle.transmission.specs.declared.entry.Entry.TheVariants.{First, Confirmation}
+use Rattle.transmission.specs.Span.{is_named}
+use Rattle.transmission.specs.Memory.{most_firsts}
+use Rattle.transmission.specs.Looking.{Looked, new, repeat, confirmed, full, look_of}
 use Rattle.transmission.specs.Confirming.{spans_of}
 use Rattle.command_forms.specs.Command.{Command}
 use Rattle.plain_machine.specs.declared.setup.Setup.{Setup}

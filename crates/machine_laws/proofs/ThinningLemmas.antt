@@ -4,13 +4,13 @@ use Rattle.std.specs.Prelude.{nat_lt, option_map}
 use Rattle.std.specs.Option.{option_or}
 use Rattle.std.specs.List.{list_any}
 use Rattle.std.proofs.lemmas.Bool.{ltb-true, lt-ltb, eqb-true, both_ways}
-use Rattle.history.specs.KeptFirst.{KeptFirst}
-use Rattle.history.specs.Entry.{Entry}
-use Rattle.history.specs.Entry.TheVariants.{First, Confirmation}
-use Rattle.history.specs.Span.{is_named}
-use Rattle.history.specs.Memory.{is_young}
-use Rattle.history.specs.Kept.{is_young_first, young_firsts}
-use Rattle.history.specs.Looking.{repeated, Found, latest, confirms, Recalled, recalled_from, recalled, full, told_by, look_of}
+use Rattle.transmission.specs.declared.entry.KeptFirst.{KeptFirst}
+use Rattle.transmission.specs.declared.entry.Entry.{Entry}
+use Rattle.transmission.specs.declared.entry.Entry.TheVariants.{First, Confirmation}
+use Rattle.transmission.specs.Span.{is_named}
+use Rattle.transmission.specs.Memory.{is_young}
+use Rattle.transmission.specs.Kept.{is_young_first, young_firsts}
+use Rattle.transmission.specs.Looking.{repeated, Found, latest, confirms, Recalled, recalled_from, recalled, full, told_by, look_of}
 
 -- it says nothing of an id that is kept
 abbrev pub IsForeign : (ℕ → Bool) → Entry → Type 0

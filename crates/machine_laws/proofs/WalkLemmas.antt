@@ -4,7 +4,7 @@ use Rattle.std.specs.Prelude.{flat_map, fold, IfSome, not}
 use Rattle.std.proofs.lemmas.Grind.{flat_map-append}
 use Rattle.std.proofs.lemmas.List.{map-append}
 use Rattle.std.specs.declared.net.socket_addr.SocketAddrV4.{SocketAddrV4}
-use Rattle.history.specs.Arrival.{Arrival}
+use Rattle.transmission.specs.Arrival.{Arrival}
 use Rattle.mgcp_text.specs.declared.message.Message.TheVariants as messages
 use Rattle.mgcp_text.specs.Reading.{Outcome, message, no_header, bad_version, bad_body, read_text}
 use Rattle.plain_machine.specs.declared.setup.Setup.{Setup}
@@ -17,10 +17,10 @@ use Rattle.plain_machine.specs.Transactions.{command_arrival, arriving, commands
 use Rattle.plain_machine.specs.Happening.{effect}
 use Rattle.plain_machine.proofs.EffectLaws.{handled_now, effect_now}
 use Rattle.std.proofs.lemmas.Bool.{and_parts}
-use Rattle.history.specs.Memory.{most_firsts}
-use Rattle.history.specs.Firsts.{Kind, a_first, a_repeat, lost, kind_of, firsts_with, firsts_of}
-use Rattle.history.specs.Answers.{is_confirmed}
-use Rattle.history.specs.Looking.{repeat, confirmed, full, look_of, told_as}
+use Rattle.transmission.specs.Memory.{most_firsts}
+use Rattle.transmission.specs.Firsts.{Kind, a_first, a_repeat, lost, kind_of, firsts_with, firsts_of}
+use Rattle.transmission.specs.Answers.{is_confirmed}
+use Rattle.transmission.specs.Looking.{repeat, confirmed, full, look_of, told_as}
 use Rattle.machine_laws.proofs.TransactionLaws.{Keeps, looked, arrived_on, event_on}
 use Rattle.machine_laws.proofs.EachLemmas.{Each, each_front, each_back}
 use Rattle.machine_laws.specs.Apart.{is_lost, none_lost}

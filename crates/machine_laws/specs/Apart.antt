@@ -6,10 +6,10 @@ use Rattle.endpoint_names.specs.declared.name.Pattern.{Pattern}
 use Rattle.endpoint_names.specs.declared.name.Pattern.TheVariants.{One, All, Any}
 use Rattle.endpoint_names.specs.declared.name.NameFault.{NameFault}
 use Rattle.endpoint_names.specs.Name.{name_of}
-use Rattle.history.specs.Arrival.{Arrival}
-use Rattle.history.specs.Firsts.{Kind, a_first, a_repeat, lost, kind_of, firsts_with}
-use Rattle.history.specs.Memory.{most_firsts}
-use Rattle.history.specs.Span.{is_named}
+use Rattle.transmission.specs.Arrival.{Arrival}
+use Rattle.transmission.specs.Firsts.{Kind, a_first, a_repeat, lost, kind_of, firsts_with}
+use Rattle.transmission.specs.Memory.{most_firsts}
+use Rattle.transmission.specs.Span.{is_named}
 use Rattle.mgcp_text.specs.declared.message.Message.TheVariants as messages
 use Rattle.mgcp_text.specs.Reading.{Outcome, message, no_header, bad_version, bad_body}
 use Rattle.plain_machine.specs.declared.setup.Setup.{Setup}

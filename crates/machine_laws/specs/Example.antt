@@ -1,8 +1,8 @@
 -- What the worked examples of the laws speak of.
 use Rattle.std.specs.Prelude.{ℕ, zero, suc, List, [], ◌∷◌, ◌++◌, codes, replicate, Option, Some, None}
-use Rattle.history.specs.Arrival.{Arrival}
-use Rattle.history.specs.Example.{comes}
-use Rattle.history.specs.Kept.{entries_of}
+use Rattle.transmission.specs.Arrival.{Arrival}
+use Rattle.transmission.specs.HistoryExample.{comes}
+use Rattle.transmission.specs.Kept.{entries_of}
 use Rattle.mgcp_text.specs.Answer.{plain_code}
 use Rattle.mgcp_text.specs.declared.message.Param.{Param}
 use Rattle.mgcp_text.specs.declared.message.Verb.{Verb}

@@ -1,7 +1,7 @@
 -- What comes to the gateway of the worked examples, which has two lines.
 use Rattle.std.specs.Prelude.{ℕ, List, [], ◌∷◌, ◌++◌, codes, decimal, Option, option_map}
 use Rattle.connections.specs.Life.{numbers_in}
-use Rattle.history.specs.IdSpan.{IdSpan}
+use Rattle.transmission.specs.declared.span.IdSpan.{IdSpan}
 use Rattle.signals.specs.declared.active.ActiveSignal.{ActiveSignal}
 use Rattle.mg_line.specs.declared.phone.Act.TheVariants.{OffHook, Key}
 use Rattle.mg_line.specs.declared.phone.Key.TheVariants.{Five, Six, Seven, Eight}

@@ -5,8 +5,8 @@ use Rattle.mgcp_text.specs.declared.message.Message.TheVariants as messages
 use Rattle.mgcp_text.specs.Reading.{message, read_text}
 use Rattle.mgcp_text.specs.Writing.{written}
 use Rattle.outbound.specs.Sends.{sending_time}
-use Rattle.history.specs.KeptFirst.{KeptFirst}
-use Rattle.history.specs.Memory.{memory_time}
+use Rattle.transmission.specs.declared.entry.KeptFirst.{KeptFirst}
+use Rattle.transmission.specs.Memory.{memory_time}
 use Rattle.plain_machine.specs.Message.{Begun, Said, answer, again, command, resent, acknowledgement, Sent, of_none}
 use Rattle.plain_machine.specs.Posting.{numbers, first_number, line_of_id}
 use Rattle.std.specs.declared.net.socket_addr.SocketAddrV4.{SocketAddrV4}

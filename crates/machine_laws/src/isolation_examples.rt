@@ -3,7 +3,7 @@
 
 ghost use Rattle.std.specs.Prelude.{◌≡◌, ◌++◌, codes, [], ◌∷◌, replicate, true, false, Some, None};
 ghost use Rattle.std.specs.List.{list_all};
-ghost use Rattle.history.specs.Example.{comes, to};
+ghost use Rattle.transmission.specs.HistoryExample.{comes, to};
 ghost use Rattle.mg_line.specs.declared.phone.Act.TheVariants as acts;
 ghost use Rattle.mg_packages.specs.declared.signal.Signal.TheVariants as tones;
 ghost use Rattle.mgcp_text.specs.declared.message.Message.TheVariants as messages;

@@ -1,11 +1,11 @@
 //! Laws of the plain machine, for every setup and every list of events.
 ghost use Rattle.std.specs.declared.net.socket_addr.SocketAddrV4.{SocketAddrV4};
 ghost use Rattle.std.specs.Prelude.{ℕ, if◌then◌else◌, ◌≡◌, ◌∷◌, ◌-◌, [], ◌≤◌, List, length, flat_map, All, AllPairs, Some, None, false};
-ghost use Rattle.history.specs.Memory.{memory_time, most_firsts};
-ghost use Rattle.history.specs.Arrival.{Arrival};
-ghost use Rattle.history.specs.Firsts.{Copied, a_first, a_repeat, lost, kind_of, firsts_of};
-ghost use Rattle.history.specs.Answers.{is_confirmed};
-ghost use Rattle.history.specs.Kept.{entries_of};
+ghost use Rattle.transmission.specs.Memory.{memory_time, most_firsts};
+ghost use Rattle.transmission.specs.Arrival.{Arrival};
+ghost use Rattle.transmission.specs.Firsts.{Copied, a_first, a_repeat, lost, kind_of, firsts_of};
+ghost use Rattle.transmission.specs.Answers.{is_confirmed};
+ghost use Rattle.transmission.specs.Kept.{entries_of};
 ghost use Rattle.plain_machine.specs.declared.setup.Setup.{Setup};
 ghost use Rattle.transmission.specs.declared.output.OutDatagram.{OutDatagram};
 ghost use Rattle.plain_machine.specs.Effect.{silently, afterwards};

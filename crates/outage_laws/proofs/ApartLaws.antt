@@ -6,7 +6,7 @@ use Rattle.std.proofs.lemmas.List.{length-append}
 use Rattle.mgcp_text.specs.declared.message.Param.{Param}
 use Rattle.mgcp_text.specs.declared.message.Message.TheVariants as messages
 use Rattle.mgcp_text.specs.Reading.{message, read_text}
-use Rattle.history.specs.Memory.{memory_time}
+use Rattle.transmission.specs.Memory.{memory_time}
 use Rattle.transmission.specs.Packing.{same_address}
 use Rattle.transmission.specs.Texts.{texts_of}
 use Rattle.outbound.specs.Flight.{InFlight}

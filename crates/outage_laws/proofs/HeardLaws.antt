@@ -4,10 +4,10 @@ use Rattle.std.proofs.Common.{◌≡◌, ◌≢◌, ℕ, ◌-◌, ◌<◌, Bool,
 use Rattle.std.specs.Prelude.{AllPairs, flat_map, fold, slice_get}
 use Rattle.std.specs.List.{slice_index_or}
 use Rattle.std.proofs.lemmas.List.{map-append, length-map, get_or-map}
-use Rattle.history.specs.Firsts.{Kind, a_first, a_repeat, lost, kind_of, firsts_of}
-use Rattle.history.specs.Kept.{firsts_in}
-use Rattle.history.specs.Memory.{memory_time, most_firsts}
-use Rattle.history.proofs.BareLaws.{firsts_bare}
+use Rattle.transmission.specs.Firsts.{Kind, a_first, a_repeat, lost, kind_of, firsts_of}
+use Rattle.transmission.specs.Kept.{firsts_in}
+use Rattle.transmission.specs.Memory.{memory_time, most_firsts}
+use Rattle.transmission.proofs.BareLaws.{firsts_bare}
 use Rattle.plain_machine.specs.declared.setup.Setup.{Setup}
 use Rattle.plain_machine.specs.Setup.{IsSetUp}
 use Rattle.plain_machine.specs.Event.{datagram, tick}

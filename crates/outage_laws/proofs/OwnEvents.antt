@@ -5,12 +5,12 @@ use Rattle.std.specs.Prelude.{◌⊎◌, IfSome, is_none}
 use Rattle.std.proofs.lemmas.Bool.{and_parts}
 use Rattle.std.specs.declared.net.socket_addr.SocketAddrV4.{SocketAddrV4}
 use Rattle.command_forms.specs.Command.{Command}
-use Rattle.history.specs.Entry.{Entry}
-use Rattle.history.specs.Entry.TheVariants.{Confirmation, First}
-use Rattle.history.specs.KeptFirst.{KeptFirst}
-use Rattle.history.specs.Kept.{firsts_in}
-use Rattle.history.specs.Looking.{Looked, confirmed, full, look_of, new, repeat}
-use Rattle.history.specs.Memory.{most_firsts}
+use Rattle.transmission.specs.declared.entry.Entry.{Entry}
+use Rattle.transmission.specs.declared.entry.Entry.TheVariants.{Confirmation, First}
+use Rattle.transmission.specs.declared.entry.KeptFirst.{KeptFirst}
+use Rattle.transmission.specs.Kept.{firsts_in}
+use Rattle.transmission.specs.Looking.{Looked, confirmed, full, look_of, new, repeat}
+use Rattle.transmission.specs.Memory.{most_firsts}
 use Rattle.mgcp_text.specs.declared.message.Message.TheVariants as messages
 use Rattle.mgcp_text.specs.declared.message.Param.{Param}
 use Rattle.mgcp_text.specs.Answer.{IsAnswer, plain_code, response_of}

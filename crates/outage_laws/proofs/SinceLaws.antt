@@ -1,8 +1,8 @@
 -- Over a network that is fair from a moment on a command of the gateway's own is taken and answered by its next send.
 use Rattle.std.proofs.Common.{◌≡◌, ℕ, ◌+◌, ◌*◌, ◌<◌, ◌≤◌, true, List, [], ◌∷◌, ◌++◌, length, Some, inl, inr, sym, ◌∙◌, subst, arith, append_assoc}
 use Rattle.std.specs.Prelude.{◌⊎◌, All, Any, slice_get}
-use Rattle.history.specs.KeptFirst.{KeptFirst}
-use Rattle.history.specs.Kept.{firsts_in}
+use Rattle.transmission.specs.declared.entry.KeptFirst.{KeptFirst}
+use Rattle.transmission.specs.Kept.{firsts_in}
 use Rattle.plain_machine.specs.declared.setup.Setup.{Setup}
 use Rattle.plain_machine.specs.Setup.{IsSetUp}
 use Rattle.plain_machine.specs.Message.{Begun}

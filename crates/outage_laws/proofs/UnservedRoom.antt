@@ -5,10 +5,10 @@ use Rattle.std.proofs.lemmas.Bool.{leb-true, leb-false, eqb-false, eqb-true, ltb
 use Rattle.machine_laws.proofs.EachLemmas.{Each, each_from_all, each_weaker, one_of_each, one_to}
 use Rattle.world_laws.specs.Chances.{chances, last_chance}
 use Rattle.outage_laws.specs.AfterOutage.{longest_pause, AgentHasRoomFrom}
-use Rattle.history.specs.Entry.{Entry}
-use Rattle.history.specs.Entry.TheVariants.{Confirmation, First}
-use Rattle.history.specs.Kept.{firsts_in, young_firsts}
-use Rattle.history.specs.Memory.{is_young, memory_time}
+use Rattle.transmission.specs.declared.entry.Entry.{Entry}
+use Rattle.transmission.specs.declared.entry.Entry.TheVariants.{Confirmation, First}
+use Rattle.transmission.specs.Kept.{firsts_in, young_firsts}
+use Rattle.transmission.specs.Memory.{is_young, memory_time}
 use Rattle.plain_machine.specs.declared.setup.Setup.{Setup}
 use Rattle.plain_machine.specs.Arriving.{arrivals_of}
 use Rattle.plain_machine.specs.Machine.{serves}

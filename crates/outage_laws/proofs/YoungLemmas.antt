@@ -2,9 +2,9 @@
 use Rattle.std.proofs.Common.{◌≡◌, ℕ, suc, ◌+◌, ◌-◌, ◌<◌, ◌≤◌, Bool, true, false, if◌then◌else◌, List, [], ◌∷◌, length, inl, inr, refl, subst, ap, sym, ◌∙◌, arith}
 use Rattle.std.specs.Prelude.{◌⊎◌, All, Any, nat_le, nat_lt}
 use Rattle.std.proofs.lemmas.Bool.{leb-false, leb-true, ltb-true, ltb-false}
-use Rattle.history.specs.Arrival.{Arrival}
-use Rattle.history.specs.Firsts.{young_of}
-use Rattle.history.specs.Memory.{is_young, memory_time, most_firsts}
+use Rattle.transmission.specs.Arrival.{Arrival}
+use Rattle.transmission.specs.Firsts.{young_of}
+use Rattle.transmission.specs.Memory.{is_young, memory_time, most_firsts}
 use Rattle.machine_laws.specs.Saying.{OneOf}
 use Rattle.machine_laws.proofs.EachLemmas.{Each, each_from_all, one_from_any}
 use Rattle.world_laws.specs.Copies.{HasRoom}

@@ -1,7 +1,7 @@
 -- A network that was down and came back, and by when what is in flight is taken and answered (RFC 3435, 3.5.3 and 4.3).
 use Rattle.std.specs.Prelude.{◌≡◌, ℕ, ◌+◌, ◌-◌, ◌*◌, ◌≤◌, nat_lt, if◌then◌else◌, List, [], ◌∷◌, ◌++◌, Any, Some, filter, nat_le, slice_get, true}
-use Rattle.history.specs.Arrival.{Arrival}
-use Rattle.history.specs.Memory.{memory_time}
+use Rattle.transmission.specs.Arrival.{Arrival}
+use Rattle.transmission.specs.Memory.{memory_time}
 use Rattle.restart.specs.declared.restart.Restart.TheVariants.{Serving}
 use Rattle.plain_machine.specs.declared.endpoint.Endpoint.{Endpoint}
 use Rattle.plain_machine.specs.declared.setup.Setup.{Setup}

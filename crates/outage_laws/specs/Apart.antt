@@ -1,8 +1,8 @@
 -- What the laws of lives speak of: what a life executed and began, which of it the agent took, and when lives' ids lie apart (RFC
 -- 3435, 3.2.1.2 and 3.5.1).
 use Rattle.std.specs.Prelude.{◌≡◌, ℕ, zero, suc, ◌+◌, ◌-◌, ◌<◌, ◌≤◌, nat_lt, Bool, true, ◌&&◌, List, [], ◌∷◌, ◌++◌, map, fold, All, AllPairs}
-use Rattle.history.specs.Memory.{most_firsts}
-use Rattle.history.specs.Firsts.{Kind, a_first, a_repeat, lost, kind_of, IsCopy}
+use Rattle.transmission.specs.Memory.{most_firsts}
+use Rattle.transmission.specs.Firsts.{Kind, a_first, a_repeat, lost, kind_of, IsCopy}
 use Rattle.plain_machine.specs.Event.{GatewayEvent, datagram, phone, tick}
 use Rattle.plain_machine.specs.Arriving.{arrivals_of}
 use Rattle.plain_machine.specs.Lists.{sent_of}

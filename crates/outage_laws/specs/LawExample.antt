@@ -1,7 +1,7 @@
 -- What the worked examples of what laws ask for speak of: commands as they began, firsts, and lives that follow the time of day.
 use Rattle.std.specs.Prelude.{ℕ, List, [], ◌∷◌, ◌++◌}
-use Rattle.history.specs.Arrival.{Arrival}
-use Rattle.history.specs.Example.{comes}
+use Rattle.transmission.specs.Arrival.{Arrival}
+use Rattle.transmission.specs.HistoryExample.{comes}
 use Rattle.outbound.specs.Flight.{InFlight, sent_first}
 use Rattle.mg_line.specs.declared.phone.Act.TheVariants.{OffHook}
 use Rattle.plain_machine.specs.Event.{GatewayEvent, phone}

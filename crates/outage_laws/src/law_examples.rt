@@ -3,10 +3,10 @@
 #![tactic(auto, unfolding(crate::proofs::Computing::on_examples))]
 
 ghost use Rattle.std.specs.Prelude.{◌≡◌, ◌≢◌, ◌≤◌, ◌<◌, ◌+◌, ◌*◌, ◌++◌, ◌∷◌, [], ℕ, All, AllPairs, Any, length, slice_get, true, Some};
-ghost use Rattle.history.specs.Arrival.{Arrival};
-ghost use Rattle.history.specs.Example.{comes};
-ghost use Rattle.history.specs.Firsts.{young_of};
-ghost use Rattle.history.specs.Memory.{memory_time};
+ghost use Rattle.transmission.specs.Arrival.{Arrival};
+ghost use Rattle.transmission.specs.HistoryExample.{comes};
+ghost use Rattle.transmission.specs.Firsts.{young_of};
+ghost use Rattle.transmission.specs.Memory.{memory_time};
 ghost use Rattle.outbound.specs.Sends.{most_repeats};
 ghost use Rattle.plain_machine.specs.Event.{tick};
 ghost use Rattle.plain_machine.specs.Example.{lifted_again, two_lines};

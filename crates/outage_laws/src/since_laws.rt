@@ -1,8 +1,8 @@
 //! Laws of a network that was down and came back.
 ghost use Rattle.std.specs.Prelude.{◌≡◌, ◌≤◌, ◌<◌, ◌+◌, ◌*◌, ℕ, List, All, Any, [], length, true};
-ghost use Rattle.history.specs.Arrival.{Arrival};
-ghost use Rattle.history.specs.Firsts.{young_of};
-ghost use Rattle.history.specs.Memory.{memory_time};
+ghost use Rattle.transmission.specs.Arrival.{Arrival};
+ghost use Rattle.transmission.specs.Firsts.{young_of};
+ghost use Rattle.transmission.specs.Memory.{memory_time};
 ghost use Rattle.plain_machine.specs.declared.setup.Setup.{Setup};
 ghost use Rattle.plain_machine.specs.Machine.{serves};
 ghost use Rattle.plain_machine.specs.Message.{Begun};

@@ -2,7 +2,7 @@
 use Rattle.std.specs.Prelude.{⊤}
 use Rattle.mgcp_text.proofs.Computing.{on_examples as text_examples}
 use Rattle.endpoint_names.proofs.Computing.{on_examples as name_examples}
-use Rattle.history.proofs.Computing.{on_examples as history_examples}
+use Rattle.transmission.proofs.HistoryComputing.{on_examples as history_examples}
 use Rattle.mgcp_text.proofs.PiggybackComputing.{on_examples as part_examples}
 use Rattle.command_forms.proofs.Computing.{on_examples as form_examples}
 use Rattle.mg_line.proofs.Computing.{on_examples as line_examples}

@@ -17,8 +17,8 @@ use Rattle.plain_machine.specs.Event.{GatewayEvent, datagram, phone, tick}
 use Rattle.plain_machine.specs.Machine.{Endpoints, Machine, serves, endpoint_at, with_turn, turned_at, on_line, on_own, on_either, on_lines}
 use Rattle.transmission.specs.Texts.{texts_of}
 use Rattle.plain_machine.specs.Arriving.{clock_after}
-use Rattle.history.specs.Memory.{most_firsts}
-use Rattle.history.specs.Looking.{Looked, new, repeat, confirmed, full, look_of}
+use Rattle.transmission.specs.Memory.{most_firsts}
+use Rattle.transmission.specs.Looking.{Looked, new, repeat, confirmed, full, look_of}
 use Rattle.plain_machine.specs.Acting.{acted_on}
 use Rattle.plain_machine.specs.Falling.{due_by, happened_on, happened_under, happened, go_on, passed, room, pass}
 use Rattle.plain_machine.specs.Posting.{line_of_id}

@@ -9,11 +9,11 @@ use Rattle.mgcp_text.specs.Answer.{plain_code, response_of}
 use Rattle.mgcp_text.specs.Writing.{written}
 use Rattle.mgcp_text.specs.Confirmation.{k_of}
 use Rattle.mgcp_text.specs.declared.confirmation.KValue.{KValue}
-use Rattle.history.specs.IdSpan.{IdSpan}
-use Rattle.history.specs.Entry.{Entry}
-use Rattle.history.specs.Entry.TheVariants.{First, Confirmation}
-use Rattle.history.specs.Memory.{most_firsts}
-use Rattle.history.specs.Looking.{Looked, look_of}
+use Rattle.transmission.specs.declared.span.IdSpan.{IdSpan}
+use Rattle.transmission.specs.declared.entry.Entry.{Entry}
+use Rattle.transmission.specs.declared.entry.Entry.TheVariants.{First, Confirmation}
+use Rattle.transmission.specs.Memory.{most_firsts}
+use Rattle.transmission.specs.Looking.{Looked, look_of}
 use Rattle.transmission.specs.Confirming.{spans_of}
 use Rattle.transmission.specs.Hearing.{command_as, response_as}
 use Rattle.transmission.specs.Transacting.{transacted_as}

@@ -10,7 +10,7 @@ use Rattle.restart.specs.Restarting.{begun, is_serving}
 use Rattle.plain_machine.specs.declared.setup.Setup.{Setup}
 use Rattle.plain_machine.specs.declared.post.Post.{Post}
 use Rattle.plain_machine.specs.declared.endpoint.Endpoint.{Endpoint}
-use Rattle.history.specs.Entry.{Entry}
+use Rattle.transmission.specs.declared.entry.Entry.{Entry}
 use Rattle.plain_machine.specs.Effect.{Effect, silently, effect_map, afterwards}
 use Rattle.plain_machine.specs.Setup.{firsts}
 use Rattle.plain_machine.specs.Posting.{wait_of}

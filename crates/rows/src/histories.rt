@@ -10,7 +10,7 @@
 //!   so far.
 use crate::keeping::Held;
 use crate::texts::{are_same, is_word};
-use history::{History, IdSpan, Look};
+use transmission::{History, IdSpan, Look};
 use mg_bytes::{OutOfMemory, Sequence, Text};
 use scenario_files::{Outcome, Row, Scenario, again, range_in};
 use std::alloc::Global;

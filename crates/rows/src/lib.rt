@@ -26,7 +26,7 @@ use crate::messages::MessageScenario;
 use crate::requests::RequestScenario;
 use crate::restarts::RestartScenario;
 use crate::values::Values;
-use history::History;
+use transmission::History;
 use mg_line::Line;
 use quarantine::Buffer;
 use scenario_files::{Kinds, Report, told};

@@ -5,7 +5,7 @@ use Rattle.command_forms.specs.Explaining.{explanation_of}
 use Rattle.exchange_log.specs.declared.note.Note.TheVariants as notes
 use Rattle.exchange_log.specs.declared.stamp.Stamp.{Stamp}
 use Rattle.exchange_log.specs.Lines.{note_line, refused_line}
-use Rattle.history.specs.Memory.{most_firsts}
+use Rattle.transmission.specs.Memory.{most_firsts}
 use Rattle.gateway_texts.specs.declared.outcome.Reply.{Reply}
 use Rattle.gateway_texts.specs.declared.outcome.Reply.TheVariants.{First, Again, Silence, NoRoom}
 use Rattle.gateway_texts.specs.declared.outcome.TextOutcome.{TextOutcome}

@@ -9,7 +9,7 @@ use crate::log::Log;
 use command_forms::{FaultyPart, Refused, explain};
 use exchange_log::{Note, Stamp, put_note, put_refused};
 use gateway_core::{Reply, TextOutcome};
-use history::MOST_FIRSTS;
+use transmission::MOST_FIRSTS;
 use mg_bytes::OutOfMemory;
 use mgcp_text::TransactionId;
 use std::alloc::Global;

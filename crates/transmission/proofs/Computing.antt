@@ -1,7 +1,7 @@
 -- The definitions opened, so that worked examples compute.
 use Rattle.std.specs.Prelude.{⊤}
 use Rattle.mgcp_text.proofs.Computing.{on_examples as text_examples}
-use Rattle.history.proofs.Computing.{on_examples as history_examples}
+use Rattle.transmission.proofs.HistoryComputing.{on_examples as history_examples}
 use Rattle.transmission.specs.Texts.{texts_of}
 use Rattle.transmission.specs.Packing.{packed_after}
 

@@ -1,3 +1,17 @@
 pub mod PackingLaws
 pub mod TextLaws
 pub mod Computing
+pub mod LookLaws
+pub mod KindLaws
+pub mod AnswerLaws
+pub mod EntryLaws
+pub mod HistoryComputing
+pub mod BareLaws
+pub mod SearchLaws
+pub mod RecallLaws
+pub mod PurgeLaws
+pub mod SpotLaws
+pub mod SpotRecalls
+pub mod CountLaws
+pub mod MarkLaws
+pub mod IndexLaws

@@ -3,7 +3,7 @@ use Rattle.std.specs.Prelude.{List, [], map}
 use Rattle.mgcp_text.specs.declared.confirmation.IdRange.{IdRange}
 use Rattle.mgcp_text.specs.declared.confirmation.KValue.{KValue}
 use Rattle.mgcp_text.specs.declared.confirmation.KValue.TheVariants.{Absent, Unreadable, Items}
-use Rattle.history.specs.IdSpan.{IdSpan}
+use Rattle.transmission.specs.declared.span.IdSpan.{IdSpan}
 
 -- the spans of ids that a readable K names (RFC 3435, 3.2.2.1)
 abbrev pub span_of : IdRange → IdSpan

@@ -10,9 +10,9 @@ use Rattle.mgcp_text.specs.declared.message.TextFault.{TextFault}
 use Rattle.mgcp_text.specs.Answer.{plain_code, response_of}
 use Rattle.mgcp_text.specs.Reading.{Outcome, outcome_of, message, no_header, bad_version, bad_body}
 use Rattle.mgcp_text.specs.Writing.{written}
-use Rattle.history.specs.Kept.{HistoryState}
-use Rattle.history.specs.Memory.{most_firsts}
-use Rattle.history.specs.Looking.{look_of}
+use Rattle.transmission.specs.Kept.{HistoryState}
+use Rattle.transmission.specs.Memory.{most_firsts}
+use Rattle.transmission.specs.Looking.{look_of}
 use Rattle.transmission.specs.declared.output.OutDatagram.{OutDatagram}
 use Rattle.transmission.specs.Acknowledging.{acknowledgements}
 use Rattle.transmission.specs.Transacting.{message_to, transacted_as, with_first}

@@ -5,3 +5,13 @@ pub mod Transacting
 pub mod Acknowledging
 pub mod Hearing
 pub mod Example
+pub mod HistoryExample
+pub mod Span
+pub mod Memory
+pub mod Arrival
+pub mod Firsts
+pub mod Answers
+pub mod Kept
+pub mod Looking
+pub mod Recalling
+pub mod Spots

@@ -1,10 +1,10 @@
 -- How a command that arrives is answered, by what is told of its id (RFC 3435, 3.5.1).
 use Rattle.std.specs.Prelude.{ℕ, Bool, true, false, List, [], ◌∷◌}
 use Rattle.std.specs.declared.net.socket_addr.SocketAddrV4.{SocketAddrV4}
-use Rattle.history.specs.IdSpan.{IdSpan}
-use Rattle.history.specs.Entry.TheVariants.{Confirmation}
-use Rattle.history.specs.Kept.{HistoryState, first_entry, kept_with}
-use Rattle.history.specs.Looking.{Looked, new, repeat, confirmed, full}
+use Rattle.transmission.specs.declared.span.IdSpan.{IdSpan}
+use Rattle.transmission.specs.declared.entry.Entry.TheVariants.{Confirmation}
+use Rattle.transmission.specs.Kept.{HistoryState, first_entry, kept_with}
+use Rattle.transmission.specs.Looking.{Looked, new, repeat, confirmed, full}
 use Rattle.transmission.specs.declared.output.OutDatagram.{OutDatagram}
 
 -- a message in a datagram of its own

@@ -2,7 +2,7 @@
 ghost use Rattle.std.specs.Prelude.{◌≡◌, IfOk};
 ghost use Rattle.transmission.specs.Confirming.{span_of, spans_of};
 
-use history::IdSpan;
+use crate::span::IdSpan;
 use mg_bytes::{OutOfMemory, Sequence};
 use mgcp_text::{IdRange, KValue};
 use std::alloc::Global;

@@ -3,9 +3,9 @@
 
 ghost use Rattle.std.specs.Prelude.{◌≡◌, codes, true, false, [], ◌∷◌, length, Some, None};
 ghost use Rattle.std.specs.declared.net.socket_addr.SocketAddrV4.{SocketAddrV4};
-ghost use Rattle.history.specs.Kept.{settled_at, first_entry, kept_with};
-ghost use Rattle.transactions.specs.declared.entry.Entry.TheVariants.{Confirmation};
-ghost use Rattle.history.specs.Looking.{full};
+ghost use Rattle.transmission.specs.Kept.{settled_at, first_entry, kept_with};
+ghost use Rattle.transmission.specs.declared.entry.Entry.TheVariants.{Confirmation};
+ghost use Rattle.transmission.specs.Looking.{full};
 ghost use Rattle.mgcp_text.specs.Reading.{message, no_header, bad_version, bad_body};
 ghost use Rattle.mgcp_text.specs.declared.message.Verb.TheVariants as verbs;
 ghost use Rattle.mgcp_text.specs.declared.message.Message.TheVariants as messages;

@@ -10,7 +10,7 @@ use crate::LARGEST_DATAGRAM;
 use crate::acknowledging::acknowledge;
 use crate::output::OutDatagram;
 use crate::transacting::{Origin, admit, answer};
-use history::History;
+use crate::history::History;
 use mg_bytes::{OutOfMemory, ReturnCode, Sequence};
 use mgcp_text::{AnswerContent, Message, Parts, TextFault, parts};
 use small_rules::is_too_long;

@@ -1,7 +1,7 @@
 //! How a command that arrives is answered (RFC 3435, 3.5.1): each is executed once, and its repeats get the stored answer.
 ghost use Rattle.std.specs.Prelude.{◌≡◌, ◌++◌, ◌∷◌, [], IfOk, OnOk, OnErr};
-ghost use Rattle.history.specs.Memory.{most_firsts};
-ghost use Rattle.history.specs.Looking.{looked_in, look_of};
+ghost use Rattle.transmission.specs.Memory.{most_firsts};
+ghost use Rattle.transmission.specs.Looking.{looked_in, look_of};
 ghost use Rattle.mgcp_text.specs.Answer.{response_of};
 ghost use Rattle.mgcp_text.specs.Writing.{written};
 ghost use Rattle.small_rules.specs.Rules.{is_executed};
@@ -9,7 +9,9 @@ ghost use Rattle.transmission.specs.Transacting.{message_to, is_new, answered_ag
 
 use crate::output::OutDatagram;
 use crate::sending::send;
-use history::{History, IdSpan, Look};
+use crate::history::History;
+use crate::look::Look;
+use crate::span::IdSpan;
 use mg_bytes::{OutOfMemory, Sequence, Text};
 use mgcp_text::{AnswerContent, TransactionId};
 use small_rules::{Standing, is_executed};

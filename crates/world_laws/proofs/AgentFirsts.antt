@@ -8,16 +8,16 @@ use Rattle.std.specs.declared.net.socket_addr.SocketAddrV4.{SocketAddrV4}
 use Rattle.mgcp_text.specs.declared.message.Param.{Param}
 use Rattle.mgcp_text.specs.declared.message.Message.TheVariants as messages
 use Rattle.mgcp_text.specs.Reading.{Outcome, message, no_header, bad_version, bad_body, read_text}
-use Rattle.history.specs.Entry.{Entry}
-use Rattle.history.specs.Arrival.{Arrival, unanswered}
-use Rattle.history.specs.Memory.{most_firsts}
-use Rattle.history.specs.Firsts.{Kind, a_first, a_repeat, lost, kind_of, added, firsts_of}
-use Rattle.history.specs.Answers.{is_confirmed}
-use Rattle.history.specs.Kept.{entries_of, entries_of_first, firsts_in}
-use Rattle.history.specs.Looking.{Looked, new, repeat, confirmed, full, look_of, told_as}
-use Rattle.history.specs.Recalling.{Remembers}
-use Rattle.transactions.proofs.RecallLaws.{recalls_itself}
-use Rattle.history.proofs.EntryLaws.{remembers_tells}
+use Rattle.transmission.specs.declared.entry.Entry.{Entry}
+use Rattle.transmission.specs.Arrival.{Arrival, unanswered}
+use Rattle.transmission.specs.Memory.{most_firsts}
+use Rattle.transmission.specs.Firsts.{Kind, a_first, a_repeat, lost, kind_of, added, firsts_of}
+use Rattle.transmission.specs.Answers.{is_confirmed}
+use Rattle.transmission.specs.Kept.{entries_of, entries_of_first, firsts_in}
+use Rattle.transmission.specs.Looking.{Looked, new, repeat, confirmed, full, look_of, told_as}
+use Rattle.transmission.specs.Recalling.{Remembers}
+use Rattle.transmission.proofs.RecallLaws.{recalls_itself}
+use Rattle.transmission.proofs.EntryLaws.{remembers_tells}
 use Rattle.outbound.specs.declared.reply.Reply.{Reply}
 use Rattle.outbound.specs.declared.reply.Reply.TheVariants.{Answered, Provisional, Stranger}
 use Rattle.outbound.specs.Flight.{InFlight, reply_of, heard}
@@ -36,7 +36,7 @@ use Rattle.world_laws.specs.Reached.{Reached, added_by, as_arrival, executed_wit
 use Rattle.call_agent.specs.Responding.{replied, responded, responded_to}
 use Rattle.call_agent.specs.Flying.{has_id}
 use Rattle.world_laws.proofs.ReachedLaws.{executed_is}
-use Rattle.history.proofs.BareLaws.{bare_kind, kind_bare, firsts_bare}
+use Rattle.transmission.proofs.BareLaws.{bare_kind, kind_bare, firsts_bare}
 use Rattle.world_laws.proofs.LinkLaws.{arrives_with}
 use Rattle.plain_machine.specs.declared.setup.Setup.{Setup}
 use Rattle.plain_machine.specs.Machine.{opening}

@@ -18,13 +18,13 @@ use Rattle.mgcp_text.proofs.RoundLaws.{read_again}
 use Rattle.mgcp_text.proofs.WholeLemmas.{whole_written}
 use Rattle.mgcp_text.proofs.PackingLaws.{joinable-from}
 use Rattle.mgcp_text.specs.Packing.{is_joinable}
-use Rattle.history.specs.KeptFirst.{KeptFirst}
-use Rattle.history.specs.Entry.{Entry}
-use Rattle.history.specs.Entry.TheVariants.{Confirmation}
-use Rattle.history.specs.Kept.{first_entry, firsts_in}
+use Rattle.transmission.specs.declared.entry.KeptFirst.{KeptFirst}
+use Rattle.transmission.specs.declared.entry.Entry.{Entry}
+use Rattle.transmission.specs.declared.entry.Entry.TheVariants.{Confirmation}
+use Rattle.transmission.specs.Kept.{first_entry, firsts_in}
 use Rattle.machine_laws.proofs.GatewayEvents.{repeat_gives, tells_on, firsts_append}
-use Rattle.history.specs.Memory.{most_firsts}
-use Rattle.history.specs.Looking.{Looked, new, repeat, confirmed, full, look_of}
+use Rattle.transmission.specs.Memory.{most_firsts}
+use Rattle.transmission.specs.Looking.{Looked, new, repeat, confirmed, full, look_of}
 use Rattle.endpoint_names.specs.declared.route.Route.TheVariants.{One}
 use Rattle.outbound.specs.declared.repeat.Repeat.{Repeat}
 use Rattle.outbound.specs.declared.repeat.Repeat.TheVariants.{Sent as SentAgain, GivenUp}

@@ -12,8 +12,8 @@ use Rattle.mgcp_text.specs.Confirmation.{k_of}
 use Rattle.mgcp_text.specs.Reading.{Outcome, message, no_header, bad_version, bad_body, id_in, read_text}
 use Rattle.mgcp_text.specs.Writing.{written}
 use Rattle.mgcp_text.proofs.IdLemmas.{IsId, read_id}
-use Rattle.history.specs.Arrival.{Arrival}
-use Rattle.history.specs.Firsts.{Kind, a_first, a_repeat, lost, kind_of, added, firsts_with, firsts_of}
+use Rattle.transmission.specs.Arrival.{Arrival}
+use Rattle.transmission.specs.Firsts.{Kind, a_first, a_repeat, lost, kind_of, added, firsts_with, firsts_of}
 use Rattle.transmission.specs.Texts.{texts_of}
 use Rattle.command_forms.specs.Codes.{name_codes, param_codes, has_code}
 use Rattle.command_forms.specs.Command.{Command}

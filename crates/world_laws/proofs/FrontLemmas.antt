@@ -3,9 +3,9 @@ use Rattle.std.proofs.Common.{◌≡◌, ℕ, ◌+◌, ◌≤◌, Bool, true, fa
 use Rattle.std.specs.Prelude.{nat_le, nat_lt, not}
 use Rattle.std.proofs.lemmas.Bool.{and_parts, leb-true, ltb-true}
 use Rattle.std.proofs.lemmas.Bool.Decides.{Decides-ltb, nat_tests}
-use Rattle.history.specs.Firsts.{young_of}
-use Rattle.history.specs.Kept.{young_firsts}
-use Rattle.history.specs.Memory.{most_firsts}
+use Rattle.transmission.specs.Firsts.{young_of}
+use Rattle.transmission.specs.Kept.{young_firsts}
+use Rattle.transmission.specs.Memory.{most_firsts}
 use Rattle.event_requests.specs.declared.request.Request.{Request}
 use Rattle.mg_line.specs.State.{State}
 use Rattle.mg_line.specs.State.TheVariants.{Normal, Notification, Lockstep}

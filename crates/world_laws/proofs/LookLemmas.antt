@@ -5,12 +5,12 @@ use Rattle.std.specs.Prelude.{option_map, unwrap_or, ◌⊎◌, flat_map, slice_
 use Rattle.std.specs.Option.{option_or}
 use Rattle.std.proofs.lemmas.Bool.{and_parts, eqb-true}
 use Rattle.std.proofs.lemmas.Option.{none-some}
-use Rattle.history.specs.KeptFirst.{KeptFirst}
-use Rattle.history.specs.Entry.{Entry}
-use Rattle.history.specs.Entry.TheVariants.{First, Confirmation}
-use Rattle.history.specs.Memory.{is_young}
-use Rattle.history.specs.Kept.{firsts_in, is_young_first, young_firsts}
-use Rattle.history.specs.Looking.{Found, confirms, latest, repeated}
+use Rattle.transmission.specs.declared.entry.KeptFirst.{KeptFirst}
+use Rattle.transmission.specs.declared.entry.Entry.{Entry}
+use Rattle.transmission.specs.declared.entry.Entry.TheVariants.{First, Confirmation}
+use Rattle.transmission.specs.Memory.{is_young}
+use Rattle.transmission.specs.Kept.{firsts_in, is_young_first, young_firsts}
+use Rattle.transmission.specs.Looking.{Found, confirms, latest, repeated}
 use Rattle.machine_laws.specs.Saying.{OneOf}
 use Rattle.machine_laws.proofs.EachLemmas.{any_from_one, one_before, one_from_any, Each, each_weaker}
 use Rattle.machine_laws.proofs.GatewayEvents.{IsAnsweredBy}

@@ -13,12 +13,12 @@ use Rattle.mgcp_text.specs.declared.message.Param.{Param}
 use Rattle.mgcp_text.specs.declared.message.Message.TheVariants as messages
 use Rattle.mgcp_text.specs.Confirmation.{k_of}
 use Rattle.mgcp_text.specs.Reading.{Outcome, message, no_header, bad_version, bad_body, read_text}
-use Rattle.history.specs.Entry.{Entry}
-use Rattle.history.specs.Entry.TheVariants.{Confirmation}
-use Rattle.history.specs.Memory.{most_firsts}
-use Rattle.history.specs.Kept.{first_entry, firsts_in, young_firsts}
-use Rattle.history.specs.Looking.{Found, Looked, confirmed, confirms, full, latest, look_of, new, recalled_from, repeat, told_by}
-use Rattle.transactions.proofs.CountLaws.{firsts_in-append}
+use Rattle.transmission.specs.declared.entry.Entry.{Entry}
+use Rattle.transmission.specs.declared.entry.Entry.TheVariants.{Confirmation}
+use Rattle.transmission.specs.Memory.{most_firsts}
+use Rattle.transmission.specs.Kept.{first_entry, firsts_in, young_firsts}
+use Rattle.transmission.specs.Looking.{Found, Looked, confirmed, confirms, full, latest, look_of, new, recalled_from, repeat, told_by}
+use Rattle.transmission.proofs.CountLaws.{firsts_in-append}
 use Rattle.outbound.specs.declared.reply.Reply.{Reply}
 use Rattle.outbound.specs.declared.reply.Reply.TheVariants.{Answered, Provisional, Stranger}
 use Rattle.outbound.specs.Flight.{InFlight, reply_of, heard}

@@ -9,8 +9,8 @@ use Rattle.std.specs.Prelude.{fold, filter, nat_le, nat_lt, ◌⊎◌, AllPairs,
 use Rattle.std.proofs.lemmas.Bool.{and_from, and_parts, le-leb, leb-true, lt-ltb, ltb-true, ltb-false, eq-eqb, eqb-true}
 use Rattle.std.proofs.lemmas.List.{length-append}
 use Rattle.std.proofs.lemmas.List.Elements.{filter-append}
-use Rattle.history.specs.Memory.{is_young, memory_time, most_firsts}
-use Rattle.history.specs.Firsts.{Copied, Kind, a_first, a_repeat, lost, kind_by, kind_of, copied_by, young_of}
+use Rattle.transmission.specs.Memory.{is_young, memory_time, most_firsts}
+use Rattle.transmission.specs.Firsts.{Copied, Kind, a_first, a_repeat, lost, kind_by, kind_of, copied_by, young_of}
 use Rattle.machine_laws.proofs.EachLemmas.{Each}
 use Rattle.world_laws.specs.Reached.{Reached, added_by, as_arrival, executed_with}
 use Rattle.std.specs.List.{list_any, slice_index_or}

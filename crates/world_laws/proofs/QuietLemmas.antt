@@ -10,13 +10,13 @@ use Rattle.mgcp_text.specs.Answer.{plain_code, response_of}
 use Rattle.mgcp_text.specs.Reading.{Outcome, message, no_header, bad_version, bad_body, id_in, read_text}
 use Rattle.mgcp_text.specs.Writing.{written}
 use Rattle.mgcp_text.proofs.IdLemmas.{IsId, read_id}
-use Rattle.history.specs.KeptFirst.{KeptFirst}
-use Rattle.history.specs.Entry.TheVariants.{Confirmation}
-use Rattle.history.specs.Memory.{most_firsts}
-use Rattle.history.specs.Kept.{first_entry, firsts_in}
-use Rattle.history.specs.Looking.{Looked, new, repeat, confirmed, full, look_of}
-use Rattle.transactions.proofs.CountLaws.{firsts_in-append}
-use Rattle.history.proofs.LookLaws.{repeat_kept}
+use Rattle.transmission.specs.declared.entry.KeptFirst.{KeptFirst}
+use Rattle.transmission.specs.declared.entry.Entry.TheVariants.{Confirmation}
+use Rattle.transmission.specs.Memory.{most_firsts}
+use Rattle.transmission.specs.Kept.{first_entry, firsts_in}
+use Rattle.transmission.specs.Looking.{Looked, new, repeat, confirmed, full, look_of}
+use Rattle.transmission.proofs.CountLaws.{firsts_in-append}
+use Rattle.transmission.proofs.LookLaws.{repeat_kept}
 use Rattle.outbound.specs.declared.reply.Reply.{Reply}
 use Rattle.outbound.specs.declared.reply.Reply.TheVariants.{Answered, Provisional, Stranger}
 use Rattle.outbound.specs.Flight.{InFlight, reply_of, heard, repeat_of, repeated, reply_by}

@@ -3,10 +3,10 @@ use Rattle.std.proofs.Common.{◌≡◌, ℕ, ◌-◌, ◌<◌, ◌≤◌, List,
 use Rattle.std.specs.Prelude.{fold, AllPairs}
 use Rattle.std.specs.List.{slice_index_or}
 use Rattle.std.proofs.lemmas.List.{map-append, length-map, get_or-map}
-use Rattle.history.specs.Arrival.{Arrival}
-use Rattle.history.specs.Memory.{memory_time, most_firsts}
-use Rattle.history.specs.Firsts.{Kind, a_first, a_repeat, lost, kind_of, added, firsts_with, firsts_of}
-use Rattle.history.proofs.KindLaws.{firsts_apart}
+use Rattle.transmission.specs.Arrival.{Arrival}
+use Rattle.transmission.specs.Memory.{memory_time, most_firsts}
+use Rattle.transmission.specs.Firsts.{Kind, a_first, a_repeat, lost, kind_of, added, firsts_with, firsts_of}
+use Rattle.transmission.proofs.KindLaws.{firsts_apart}
 use Rattle.machine_laws.proofs.EachLemmas.{Each, each_push}
 use Rattle.world_laws.specs.Reached.{Reached, added_by, as_arrival, executed_with}
 

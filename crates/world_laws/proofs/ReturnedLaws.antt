@@ -1,8 +1,8 @@
 -- A network that hands each packet over in time brings a response to each command of the gateway's own in twice the time.
 use Rattle.std.proofs.Common.{◌≡◌, ℕ, ◌+◌, ◌*◌, ◌≤◌, Bool, true, false, if◌then◌else◌, List, [], ◌∷◌, ◌++◌, Option, Some, None, sym, ap, ◌∙◌, subst, arith, append_assoc}
 use Rattle.std.specs.Prelude.{slice_get}
-use Rattle.history.specs.KeptFirst.{KeptFirst}
-use Rattle.history.specs.Kept.{firsts_in}
+use Rattle.transmission.specs.declared.entry.KeptFirst.{KeptFirst}
+use Rattle.transmission.specs.Kept.{firsts_in}
 use Rattle.mgcp_text.specs.Reading.{read_text}
 use Rattle.transmission.specs.Packing.{same_address}
 use Rattle.transmission.specs.Texts.{texts_of}

@@ -2,8 +2,8 @@
 use Rattle.std.proofs.Common.{◌≡◌, ◌≢◌, ℕ, ◌<◌, ◌^◌, true, List, [], ◌∷◌, Option, Some, None, refl, sym, subst, ap, ◌∙◌, append-nil, arith}
 use Rattle.std.specs.Prelude.{is_none}
 use Rattle.std.proofs.lemmas.Bool.{and_parts}
-use Rattle.history.specs.Recalling.{Recalls}
-use Rattle.transactions.proofs.RecallLaws.{recalls_back, recalls_through}
+use Rattle.transmission.specs.Recalling.{Recalls}
+use Rattle.transmission.proofs.RecallLaws.{recalls_back, recalls_through}
 use Rattle.plain_machine.specs.declared.setup.Setup.{Setup}
 use Rattle.gateway_rules.specs.declared.refusal.Refusal.{Refusal}
 use Rattle.plain_machine.specs.Event.{datagram, phone, tick}

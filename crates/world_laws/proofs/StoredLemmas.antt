@@ -8,13 +8,13 @@ use Rattle.std.specs.declared.net.socket_addr.SocketAddrV4.{SocketAddrV4}
 use Rattle.mgcp_text.specs.declared.message.Message.TheVariants as messages
 use Rattle.mgcp_text.specs.Confirmation.{k_of}
 use Rattle.mgcp_text.specs.Reading.{Outcome, message, no_header, bad_version, bad_body, read_text}
-use Rattle.history.specs.Memory.{most_firsts, is_young}
-use Rattle.history.specs.Arrival.{Arrival}
-use Rattle.history.specs.Span.{IsNamed}
-use Rattle.history.specs.Firsts.{Kind, Copied, IsLatestCopy, a_first, a_repeat, lost, kind_of, young_of, added, firsts_of}
-use Rattle.history.specs.Answers.{is_confirmed}
-use Rattle.history.proofs.KindLaws.{kind_repeat, kind_lost, firsts_grow}
-use Rattle.history.proofs.AnswerLaws.{confirmed_is}
+use Rattle.transmission.specs.Memory.{most_firsts, is_young}
+use Rattle.transmission.specs.Arrival.{Arrival}
+use Rattle.transmission.specs.Span.{IsNamed}
+use Rattle.transmission.specs.Firsts.{Kind, Copied, IsLatestCopy, a_first, a_repeat, lost, kind_of, young_of, added, firsts_of}
+use Rattle.transmission.specs.Answers.{is_confirmed}
+use Rattle.transmission.proofs.KindLaws.{kind_repeat, kind_lost, firsts_grow}
+use Rattle.transmission.proofs.AnswerLaws.{confirmed_is}
 use Rattle.transmission.specs.Transacting.{message_to}
 use Rattle.plain_machine.specs.declared.setup.Setup.{Setup}
 use Rattle.plain_machine.specs.Effect.{Effect}

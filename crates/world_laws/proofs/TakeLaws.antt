@@ -19,10 +19,10 @@ use Rattle.world_laws.proofs.ChanceLaws.{sent_eight_times, goes_in, HasMessage, 
 use Rattle.world_laws.proofs.ServedLaws.{served_by}
 use Rattle.std.specs.declared.net.socket_addr.SocketAddrV4.{SocketAddrV4}
 use Rattle.mgcp_text.specs.Reading.{read_text}
-use Rattle.history.specs.KeptFirst.{KeptFirst}
-use Rattle.history.specs.Entry.{Entry}
-use Rattle.history.specs.Memory.{most_firsts}
-use Rattle.history.specs.Kept.{firsts_in, young_firsts}
+use Rattle.transmission.specs.declared.entry.KeptFirst.{KeptFirst}
+use Rattle.transmission.specs.declared.entry.Entry.{Entry}
+use Rattle.transmission.specs.Memory.{most_firsts}
+use Rattle.transmission.specs.Kept.{firsts_in, young_firsts}
 use Rattle.transmission.specs.declared.output.OutDatagram.{OutDatagram}
 use Rattle.transmission.specs.Packing.{packed, same_address}
 use Rattle.transmission.specs.Texts.{texts_of}

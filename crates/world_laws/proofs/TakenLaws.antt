@@ -22,8 +22,8 @@ use Rattle.world_laws.specs.Taking.{IsOwn}
 use Rattle.world_laws.proofs.PostedFinal.{steps_more}
 use Rattle.std.proofs.lemmas.List.Sums.{fold-append}
 use Rattle.std.proofs.lemmas.Grind.{flat_map-append}
-use Rattle.history.specs.Memory.{most_firsts}
-use Rattle.history.specs.Firsts.{Kind, a_first, a_repeat, lost, kind_of, firsts_of}
+use Rattle.transmission.specs.Memory.{most_firsts}
+use Rattle.transmission.specs.Firsts.{Kind, a_first, a_repeat, lost, kind_of, firsts_of}
 use Rattle.plain_machine.specs.Arriving.{TextArrival, arrivals_at, arrivals_of, arrivals_from}
 use Rattle.plain_machine.proofs.ListLaws.{arrivals_on}
 use Rattle.world_laws.proofs.LinkLaws.{heard_more, HasAnswer, world_linked, answered_lately, answered_was_taken, IsLate, clock_from, Linked, step_links, opening_linked, agent_arrivals, arrives_with}
@@ -32,8 +32,8 @@ use Rattle.std.proofs.lemmas.List.Elements.{All-weaker}
 use Rattle.mgcp_text.specs.declared.message.Message.TheVariants as messages
 use Rattle.mgcp_text.specs.declared.message.Param.{Param}
 use Rattle.mgcp_text.specs.Reading.{message}
-use Rattle.history.specs.KeptFirst.{KeptFirst}
-use Rattle.history.specs.Kept.{firsts_in}
+use Rattle.transmission.specs.declared.entry.KeptFirst.{KeptFirst}
+use Rattle.transmission.specs.Kept.{firsts_in}
 use Rattle.plain_machine.specs.Setup.{IsSetUp}
 use Rattle.machine_laws.proofs.GatewayEvents.{IsAnsweredBy}
 use Rattle.call_agent.specs.Taking.{with_taken}
@@ -42,7 +42,7 @@ use Rattle.call_agent.proofs.EventLemmas.{after_on}
 use Rattle.world_laws.proofs.AgentLaws.{alone}
 use Rattle.world_laws.proofs.ReachedLaws.{executed_is}
 use Rattle.world_laws.proofs.WorldLaws.{step_sound}
-use Rattle.history.proofs.BareLaws.{firsts_bare}
+use Rattle.transmission.proofs.BareLaws.{firsts_bare}
 use Rattle.world_laws.proofs.AgentFirsts.{keys_from, kept_are_executed, KeepsSo, keeps_on}
 
 -- A step makes one event of the gateway's at most: so each beginning of these was once all of them.

@@ -8,12 +8,12 @@ use Rattle.mgcp_text.specs.Confirmation.{first_value, k_of}
 use Rattle.mgcp_text.specs.Message.{param_at}
 use Rattle.mgcp_text.specs.Reading.{Outcome, message, no_header, bad_version, bad_body, read_text}
 use Rattle.mgcp_text.proofs.RoundLaws.{read_again}
-use Rattle.history.specs.Entry.{Entry}
-use Rattle.history.specs.Entry.TheVariants.{First, Confirmation}
-use Rattle.history.specs.Memory.{most_firsts}
-use Rattle.history.specs.Kept.{first_entry}
-use Rattle.history.specs.Looking.{Looked, new, repeat, confirmed, full, confirms, look_of}
-use Rattle.history.specs.Span.{is_named}
+use Rattle.transmission.specs.declared.entry.Entry.{Entry}
+use Rattle.transmission.specs.declared.entry.Entry.TheVariants.{First, Confirmation}
+use Rattle.transmission.specs.Memory.{most_firsts}
+use Rattle.transmission.specs.Kept.{first_entry}
+use Rattle.transmission.specs.Looking.{Looked, new, repeat, confirmed, full, confirms, look_of}
+use Rattle.transmission.specs.Span.{is_named}
 use Rattle.outbound.specs.declared.reply.Reply.{Reply}
 use Rattle.outbound.specs.declared.reply.Reply.TheVariants.{Answered, Provisional, Stranger}
 use Rattle.outbound.specs.Flight.{InFlight, reply_of, heard}

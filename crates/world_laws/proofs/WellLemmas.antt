@@ -16,8 +16,8 @@ use Rattle.mgcp_text.specs.Writing.{is_writable}
 use Rattle.endpoint_names.specs.declared.entity.Entity.{Entity}
 use Rattle.endpoint_names.specs.declared.name.Pattern.TheVariants.{One}
 use Rattle.endpoint_names.specs.Name.{name_text}
-use Rattle.history.specs.Looking.{Looked, new, repeat, confirmed, full, look_of}
-use Rattle.history.specs.Memory.{most_firsts}
+use Rattle.transmission.specs.Looking.{Looked, new, repeat, confirmed, full, look_of}
+use Rattle.transmission.specs.Memory.{most_firsts}
 use Rattle.transmission.specs.Texts.{texts_of}
 use Rattle.transmission.specs.Acknowledging.{asks_for_acknowledgement}
 use Rattle.command_forms.specs.Command.{Command}

@@ -43,10 +43,10 @@ use Rattle.agent_core.specs.World.{World, WorldStep, agent_in, agent_of, agent_r
 use Rattle.world_laws.specs.Reached.{Reached, executed_in, issued_in, reached, reached_as}
 use Rattle.call_agent.proofs.EventLemmas.{agent_clock, after_on, forward}
 use Rattle.world_laws.proofs.AgentLaws.{Goes, Speaks, WasIssued, Fine, Holds, AgentGoesOn, event_on, opening_holds, issued_more, alone, never, tick_taken}
-use Rattle.history.specs.KeptFirst.{KeptFirst}
-use Rattle.history.specs.Kept.{firsts_in}
+use Rattle.transmission.specs.declared.entry.KeptFirst.{KeptFirst}
+use Rattle.transmission.specs.Kept.{firsts_in}
 use Rattle.world_laws.proofs.ReachedLaws.{executed_each, executed_apart}
-use Rattle.history.specs.Memory.{memory_time}
+use Rattle.transmission.specs.Memory.{memory_time}
 
 -- The packets of the agent
 

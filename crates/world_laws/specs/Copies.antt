@@ -3,10 +3,10 @@ use Rattle.std.specs.Prelude.{◌≡◌, ℕ, ◌+◌, ◌<◌, ◌≤◌, Bool,
 use Rattle.mgcp_text.specs.declared.message.Param.{Param}
 use Rattle.mgcp_text.specs.declared.message.Message.TheVariants as messages
 use Rattle.mgcp_text.specs.Reading.{message, read_text}
-use Rattle.history.specs.Memory.{most_firsts}
-use Rattle.history.specs.Arrival.{Arrival}
-use Rattle.history.specs.Firsts.{young_of, firsts_of}
-use Rattle.history.specs.Answers.{IsConfirmed}
+use Rattle.transmission.specs.Memory.{most_firsts}
+use Rattle.transmission.specs.Arrival.{Arrival}
+use Rattle.transmission.specs.Firsts.{young_of, firsts_of}
+use Rattle.transmission.specs.Answers.{IsConfirmed}
 use Rattle.transmission.specs.Texts.{texts_of}
 use Rattle.transmission.specs.Packing.{same_address}
 use Rattle.plain_machine.specs.declared.setup.Setup.{Setup}

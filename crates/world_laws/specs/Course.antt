@@ -9,8 +9,8 @@ use Rattle.mgcp_text.specs.declared.message.Param.{Param}
 use Rattle.mgcp_text.specs.declared.message.Verb.{Verb}
 use Rattle.mgcp_text.specs.declared.message.Verb.TheVariants.{Epcf, Rqnt, Ntfy, Crcx, Mdcx, Dlcx, Auep, Aucx, Rsip, Other}
 use Rattle.event_values.specs.declared.observed.Observed.{Observed}
-use Rattle.history.specs.Looking.{look_of}
-use Rattle.history.specs.Memory.{most_firsts}
+use Rattle.transmission.specs.Looking.{look_of}
+use Rattle.transmission.specs.Memory.{most_firsts}
 use Rattle.transmission.specs.Texts.{texts_of}
 use Rattle.transmission.specs.Transacting.{is_new}
 use Rattle.command_forms.specs.declared.forms.Asks.{Asks}

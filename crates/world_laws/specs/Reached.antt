@@ -1,9 +1,9 @@
 -- The firsts among all that arrived, each with what it was read as, and the commands that an end began (RFC 3435, 3.5.1).
 use Rattle.std.specs.Prelude.{ℕ, ◌==◌, if◌then◌else◌, List, [], ◌∷◌, ◌++◌, map, flat_map, fold, Option, Some, None}
-use Rattle.history.specs.KeptFirst.{KeptFirst}
-use Rattle.history.specs.Arrival.{Arrival}
-use Rattle.history.specs.Memory.{most_firsts}
-use Rattle.history.specs.Firsts.{Kind, a_first, a_repeat, lost, kind_of}
+use Rattle.transmission.specs.declared.entry.KeptFirst.{KeptFirst}
+use Rattle.transmission.specs.Arrival.{Arrival}
+use Rattle.transmission.specs.Memory.{most_firsts}
+use Rattle.transmission.specs.Firsts.{Kind, a_first, a_repeat, lost, kind_of}
 use Rattle.mgcp_text.specs.Reading.{Outcome}
 use Rattle.plain_machine.specs.declared.setup.Setup.{Setup}
 use Rattle.plain_machine.specs.Event.{GatewayEvent}

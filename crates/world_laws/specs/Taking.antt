@@ -1,12 +1,12 @@
 -- What has to be for a command of the gateway's own to be taken, a notification or an announcement, and what that means (RFC 3435,
 -- 2.3.4, 2.3.12 and 3.5).
 use Rattle.std.specs.Prelude.{◌≡◌, ℕ, ◌<◌, ◌≤◌, true, List, ◌∷◌, ◌++◌, length, Any}
-use Rattle.history.specs.KeptFirst.{KeptFirst}
-use Rattle.history.specs.Entry.{Entry}
-use Rattle.history.specs.Entry.TheVariants.{First}
-use Rattle.history.specs.Memory.{most_firsts}
-use Rattle.history.specs.Kept.{firsts_in, young_firsts}
-use Rattle.history.specs.Looking.{confirms}
+use Rattle.transmission.specs.declared.entry.KeptFirst.{KeptFirst}
+use Rattle.transmission.specs.declared.entry.Entry.{Entry}
+use Rattle.transmission.specs.declared.entry.Entry.TheVariants.{First}
+use Rattle.transmission.specs.Memory.{most_firsts}
+use Rattle.transmission.specs.Kept.{firsts_in, young_firsts}
+use Rattle.transmission.specs.Looking.{confirms}
 use Rattle.plain_machine.specs.declared.setup.Setup.{Setup}
 use Rattle.plain_machine.specs.Message.{Begun}
 use Rattle.agent_core.specs.declared.packet.End.TheVariants.{AgentEnd as agent_end}

@@ -8,7 +8,7 @@ ghost use Rattle.mgcp_text.specs.declared.message.Message.TheVariants as message
 ghost use Rattle.mgcp_text.specs.declared.message.Param.{Param};
 ghost use Rattle.mgcp_text.specs.Reading.{message, read_text};
 ghost use Rattle.mg_packages.specs.declared.signal.Signal.TheVariants.{DialTone};
-ghost use Rattle.history.specs.Example.{comes, comes_with, to};
+ghost use Rattle.transmission.specs.HistoryExample.{comes, comes_with, to};
 ghost use Rattle.timers.specs.declared.kind.LineDue.TheVariants.{SignalEnd};
 ghost use Rattle.outbound.specs.declared.reply.Reply.TheVariants.{Answered};
 ghost use Rattle.outbound.specs.Flight.{InFlight, reply_of};

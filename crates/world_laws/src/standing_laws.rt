@@ -1,8 +1,8 @@
 //! What it is that an agent and a world stand for a list, part by part; and that after a call that is refused they stand for
 //! the lists that they stood for, and for no other.
 ghost use Rattle.std.specs.Prelude.{◌≡◌, ◌≢◌, ◌↔◌, ◌<◌, ◌≤◌, ◌^◌, ◌++◌, ◌∷◌, [], ℕ, List, true};
-ghost use Rattle.history.specs.Memory.{most_firsts};
-ghost use Rattle.history.specs.Looking.{look_of};
+ghost use Rattle.transmission.specs.Memory.{most_firsts};
+ghost use Rattle.transmission.specs.Looking.{look_of};
 ghost use Rattle.transmission.specs.declared.output.OutDatagram.{OutDatagram};
 ghost use Rattle.transmission.specs.Packing.{packed};
 ghost use Rattle.call_agent.specs.declared.setup.AgentSetup.{AgentSetup};

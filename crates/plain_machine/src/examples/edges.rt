@@ -11,7 +11,7 @@ ghost use Rattle.command_forms.specs.declared.forms.ConnectionDeed.TheVariants a
 ghost use Rattle.command_forms.specs.declared.forms.Target.TheVariants.{One, All, Any};
 ghost use Rattle.command_forms.specs.declared.forms.Audit.{Audit};
 ghost use Rattle.command_forms.specs.declared.forms.AuditTarget.TheVariants as audits;
-ghost use Rattle.history.specs.Looking.{full};
+ghost use Rattle.transmission.specs.Looking.{full};
 ghost use Rattle.mg_line.specs.declared.phone.Act.TheVariants as acts;
 ghost use Rattle.plain_machine.specs.Effect.{silently, effect_map, behind, afterwards};
 ghost use Rattle.plain_machine.specs.Event.{phone};

@@ -4,7 +4,7 @@
 ghost use Rattle.std.specs.Prelude.{◌≡◌, ◌++◌, codes, [], ◌∷◌, replicate};
 ghost use Rattle.mg_packages.specs.declared.event.LineEvent.TheVariants as events;
 ghost use Rattle.event_values.specs.declared.observed.Observed.TheVariants.{Happened};
-ghost use Rattle.history.specs.Looking.{full};
+ghost use Rattle.transmission.specs.Looking.{full};
 ghost use Rattle.plain_machine.specs.Event.{tick};
 ghost use Rattle.plain_machine.specs.Example.{other_agent};
 ghost use Rattle.transmission.specs.Transacting.{message_to};

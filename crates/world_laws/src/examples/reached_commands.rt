@@ -10,7 +10,7 @@ ghost use Rattle.mgcp_text.specs.Reading.{message, bad_version, bad_body};
 ghost use Rattle.event_values.specs.declared.observed.Observed.TheVariants.{Happened};
 ghost use Rattle.plain_machine.specs.Event.{datagram, tick};
 ghost use Rattle.plain_machine.specs.Arriving.{arrivals_of};
-ghost use Rattle.history.specs.Firsts.{lost};
+ghost use Rattle.transmission.specs.Firsts.{lost};
 ghost use Rattle.plain_machine.specs.Example.{two_lines, agent, audit, from_agent, other_agent};
 ghost use Rattle.machine_laws.specs.Saying.{count_of};
 ghost use Rattle.agent_core.specs.World.{agent_of, gateway_address, issuing, dialling, ticking, delivering};

@@ -1,12 +1,12 @@
 use Rattle.std.proofs.Common.{◌≡◌, ◌≤◌, ℕ, zero, suc, ◌+◌, List, [], ◌∷◌, length, refl, sym, ap, subst, ◌∙◌, arith}
 use Rattle.std.proofs.lemmas.List.{length-append}
 use Rattle.std.proofs.lemmas.List.Elements.{filter-append}
-use Rattle.history.specs.Arrival.{Arrival}
-use Rattle.history.specs.Example.{comes}
-use Rattle.history.specs.Firsts.{IsCopy, a_first, firsts_of, firsts_with, kind_of, lost, young_of}
-use Rattle.history.specs.Kept.{entries_of}
-use Rattle.history.specs.Memory.{is_young, most_firsts}
-use Rattle.history.proofs.KindLaws.{firsts_on, firsts_with_first, kind_first, kind_lost}
+use Rattle.transmission.specs.Arrival.{Arrival}
+use Rattle.transmission.specs.HistoryExample.{comes}
+use Rattle.transmission.specs.Firsts.{IsCopy, a_first, firsts_of, firsts_with, kind_of, lost, young_of}
+use Rattle.transmission.specs.Kept.{entries_of}
+use Rattle.transmission.specs.Memory.{is_young, most_firsts}
+use Rattle.transmission.proofs.KindLaws.{firsts_on, firsts_with_first, kind_first, kind_lost}
 use Rattle.plain_machine.specs.Transactions.{command_arrival}
 use Rattle.machine_laws.specs.Example.{arriving, keeping, transacting}
 use Rattle.machine_laws.proofs.EachLemmas.{Each, all_from_each, each_push}

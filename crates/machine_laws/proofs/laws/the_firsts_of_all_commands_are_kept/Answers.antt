@@ -1,5 +1,5 @@
-use Rattle.history.specs.Memory.{most_firsts}
-use Rattle.history.proofs.KindLaws.{firsts_apart}
+use Rattle.transmission.specs.Memory.{most_firsts}
+use Rattle.transmission.proofs.KindLaws.{firsts_apart}
 use Rattle.plain_machine.specs.Transactions.{commands_of}
 use Rattle.machine_laws.proofs.TransactionLaws.{history_is}
 use Rattle.machine_laws.proofs.laws.the_firsts_of_all_commands_are_kept.Goals as goal

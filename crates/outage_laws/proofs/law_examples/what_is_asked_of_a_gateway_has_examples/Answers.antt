@@ -1,7 +1,7 @@
 use Rattle.std.proofs.Common.{◌≡◌, ◌≤◌, inl, refl, arith}
-use Rattle.history.specs.Arrival.{Arrival}
-use Rattle.history.specs.Example.{comes}
-use Rattle.history.specs.Firsts.{young_of}
+use Rattle.transmission.specs.Arrival.{Arrival}
+use Rattle.transmission.specs.HistoryExample.{comes}
+use Rattle.transmission.specs.Firsts.{young_of}
 use Rattle.plain_machine.specs.Example.{two_lines}
 use Rattle.plain_machine.specs.Lists.{sent_of}
 use Rattle.plain_machine.specs.Message.{Begun}

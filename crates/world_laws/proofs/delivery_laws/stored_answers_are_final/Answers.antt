@@ -1,10 +1,10 @@
 use Rattle.std.proofs.Common.{ℕ}
-use Rattle.history.specs.KeptFirst.{KeptFirst}
-use Rattle.history.specs.Memory.{most_firsts}
-use Rattle.history.specs.Firsts.{firsts_of}
+use Rattle.transmission.specs.declared.entry.KeptFirst.{KeptFirst}
+use Rattle.transmission.specs.Memory.{most_firsts}
+use Rattle.transmission.specs.Firsts.{firsts_of}
 use Rattle.plain_machine.specs.Transactions.{commands_of}
 use Rattle.machine_laws.proofs.EachLemmas.{all_from_each, each_weaker}
-use Rattle.history.specs.Kept.{firsts_in}
+use Rattle.transmission.specs.Kept.{firsts_in}
 use Rattle.call_agent.specs.Agent.{agent_opening}
 use Rattle.call_agent.specs.Hearing.{agent_after}
 use Rattle.world_laws.specs.Copies.{IsPlainAnswer}

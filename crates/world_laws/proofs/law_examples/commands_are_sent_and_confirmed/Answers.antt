@@ -1,10 +1,10 @@
 use Rattle.std.proofs.Common.{◌≡◌, ℕ, Bool, true, false, ◌||◌, ◌&&◌, ◌==◌, List, [], ◌∷◌, ◌++◌, ◌∙◌, drop, refl, sym, ap, arith}
 use Rattle.std.proofs.lemmas.Bool.{and_from, or_left, or_right}
 use Rattle.std.proofs.lemmas.Bool.Decides.{Decides-eqb}
-use Rattle.history.specs.Arrival.{Arrival}
-use Rattle.history.specs.Answers.{IsConfirmed, is_confirmed}
-use Rattle.history.specs.Example.{comes, comes_with, to}
-use Rattle.history.proofs.AnswerLaws.{confirmed_is, is_confirmed_from}
+use Rattle.transmission.specs.Arrival.{Arrival}
+use Rattle.transmission.specs.Answers.{IsConfirmed, is_confirmed}
+use Rattle.transmission.specs.HistoryExample.{comes, comes_with, to}
+use Rattle.transmission.proofs.AnswerLaws.{confirmed_is, is_confirmed_from}
 use Rattle.plain_machine.specs.Example.{two_lines}
 use Rattle.agent_core.specs.declared.packet.End.TheVariants.{AgentEnd}
 use Rattle.world_laws.specs.Example.{world}

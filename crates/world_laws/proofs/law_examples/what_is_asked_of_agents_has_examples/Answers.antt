@@ -3,7 +3,7 @@ use Rattle.std.specs.Prelude.{find, unwrap_or}
 use Rattle.mgcp_text.specs.declared.message.Message.TheVariants as messages
 use Rattle.mgcp_text.specs.declared.message.Param.{Param}
 use Rattle.mgcp_text.specs.Reading.{Outcome, bad_body, bad_version, id_in, message, no_header, read_text}
-use Rattle.transactions.proofs.RecallLaws.{recalls_itself}
+use Rattle.transmission.proofs.RecallLaws.{recalls_itself}
 use Rattle.outbound.specs.declared.reply.Reply.TheVariants.{Answered, Provisional}
 use Rattle.outbound.specs.Flight.{InFlight, reply_of}
 use Rattle.transmission.specs.Packing.{packed}

@@ -1,5 +1,5 @@
 use Rattle.std.proofs.Common.{sym, ap}
-use Rattle.transactions.proofs.RecallLaws.{recalls_look}
+use Rattle.transmission.proofs.RecallLaws.{recalls_look}
 use Rattle.call_agent.specs.Agent.{AgentMachine}
 use Rattle.call_agent.specs.Hearing.{plain_agent}
 use Rattle.world_laws.proofs.standing_laws.what_an_agent_stands_for.Goals as goal

@@ -1,5 +1,0 @@
-use Rattle.transactions.proofs.RecallLaws.{young_purged}
-use Rattle.history.proofs.laws.a_purge_drops_nothing_young.Goals as goal
-
-pub returns : goal.returns
-returns c = λ purged now entries le. young_purged entries purged now le

@@ -1,5 +1,0 @@
-use Rattle.transactions.proofs.PurgeLaws.{purge_leaves_young}
-use Rattle.history.proofs.laws.a_purge_leaves_young_firsts.Goals as goal
-
-pub returns : goal.returns
-returns c = purge_leaves_young

@@ -1,5 +1,0 @@
-use Rattle.history.proofs.AnswerLaws.{stays_silenced}
-use Rattle.history.proofs.laws.what_is_confirmed_stays_confirmed.Goals as goal
-
-pub returns : goal.returns
-returns c = stays_silenced

@@ -1,6 +1,0 @@
-use Rattle.std.proofs.Common.{◌≡◌, drop, None}
-use Rattle.transactions.specs.Looking.{latest}
-use Rattle.transactions.proofs.recall.latest.Given as goal
-
-abbrev pub invariant-loop-place : goal.invariant-loop-place
-invariant-loop-place l = latest (drop l.place l.entries) l.id l.now ≡ None

@@ -1,9 +1,0 @@
-pub mod Span
-pub mod Memory
-pub mod Arrival
-pub mod Firsts
-pub mod Answers
-pub mod Kept
-pub mod Looking
-pub mod Recalling
-pub mod Spots
