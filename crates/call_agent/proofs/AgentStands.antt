@@ -12,9 +12,9 @@ use Rattle.transmission.specs.Kept.{first_entry}
 use Rattle.transmission.specs.Looking.{Looked, new, repeat, confirmed, full, look_of}
 use Rattle.transmission.specs.Recalling.{Recalls}
 use Rattle.transmission.proofs.RecallLaws.{recalls_entry, recalls_look, recalls_later}
-use Rattle.outbound.specs.declared.reply.Reply.{Reply}
-use Rattle.outbound.specs.declared.reply.Reply.TheVariants.{Answered, Provisional, Stranger}
-use Rattle.outbound.specs.Flight.{InFlight, reply_of, heard}
+use Rattle.retransmission.specs.declared.reply.Reply.{Reply}
+use Rattle.retransmission.specs.declared.reply.Reply.TheVariants.{Answered, Provisional, Stranger}
+use Rattle.retransmission.specs.Flight.{InFlight, reply_of, heard}
 use Rattle.plain_machine.specs.Event.{datagram, phone, tick}
 use Rattle.transmission.specs.Texts.{texts_of}
 use Rattle.call_agent.specs.AgentAlike.{AgentAlike, AgentGoesAlike, with_history}

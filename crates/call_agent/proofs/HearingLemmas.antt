@@ -8,9 +8,9 @@ use Rattle.mgcp_text.specs.declared.message.Message.TheVariants as messages
 use Rattle.transmission.specs.Kept.{HistoryState}
 use Rattle.transmission.specs.Memory.{most_firsts}
 use Rattle.transmission.specs.Looking.{Looked, new, repeat, confirmed, full, look_of}
-use Rattle.outbound.specs.declared.reply.Reply.{Reply}
-use Rattle.outbound.specs.declared.reply.Reply.TheVariants.{Answered, Provisional, Stranger}
-use Rattle.outbound.specs.Flight.{InFlight, reply_of, heard}
+use Rattle.retransmission.specs.declared.reply.Reply.{Reply}
+use Rattle.retransmission.specs.declared.reply.Reply.TheVariants.{Answered, Provisional, Stranger}
+use Rattle.retransmission.specs.Flight.{InFlight, reply_of, heard}
 use Rattle.transmission.specs.declared.output.OutDatagram.{OutDatagram}
 use Rattle.transmission.specs.Acknowledging.{acknowledgements}
 use Rattle.transmission.specs.Transacting.{message_to, transacted_as}

@@ -5,7 +5,7 @@ use Rattle.std.specs.Result.{result_err}
 use Rattle.std.proofs.lemmas.Bool.{leb-false}
 use Rattle.mg_bytes.specs.Bytes.{space}
 use Rattle.endpoint_names.specs.declared.route.Route.TheVariants.{One}
-use Rattle.outbound.specs.Flight.{InFlight, sent_first}
+use Rattle.retransmission.specs.Flight.{InFlight, sent_first}
 use Rattle.flights.specs.Flights.{Commands, begun, settled}
 use Rattle.transmission.proofs.RecallLaws.{recalls_itself, recalls_purged}
 use Rattle.gateway_rules.specs.declared.refusal.Refusal.{Refusal}
@@ -17,7 +17,7 @@ use Rattle.transmission.specs.Packing.{packed, packed_after}
 use Rattle.transmission.specs.Texts.{texts_of}
 use Rattle.transmission.specs.Transacting.{message_to}
 use Rattle.call_agent.specs.declared.setup.AgentSetup.{AgentSetup}
-use Rattle.outbound.specs.declared.issued.Answered.{Answered}
+use Rattle.retransmission.specs.declared.issued.Answered.{Answered}
 use Rattle.call_agent.specs.declared.state.State.{State}
 use Rattle.call_agent.specs.Agent.{AgentMachine, AgentEffect, FinalAnswer, agent_opening, answer_for, observed_on}
 use Rattle.call_agent.specs.Flying.{first_flight, if_due}
@@ -26,7 +26,7 @@ use Rattle.call_agent.specs.declared.issuing.IssueFault.{IssueFault}
 use Rattle.call_agent.specs.Issuing.{IssueRefusal, no_more_ids, bad_command, command_text, is_good, greatest_id, issued, issue_refusal, refusal_under}
 use Rattle.call_agent.specs.Hearing.{AgentEvent, issues, hears, agent_after, agent_effect, agent_refusal, event_refused, issue_refused, hearing_refusal, agent_takes_none, AgentEnds, plain_agent}
 use Rattle.call_agent.specs.AgentAlike.{AgentAlike}
-use Rattle.outbound.specs.Issued.{answered_with}
+use Rattle.retransmission.specs.Issued.{answered_with}
 use Rattle.call_agent.specs.State.{final_of, answer_in, kept_in, purged_in, AllOr, GoesOnAs}
 use Rattle.call_agent.specs.AgentStands.{AgentState, agent_takes, AgentStands, AgentTook, AgentStays, GoodEnds, IssueEnds, IsAgentSound}
 use Rattle.call_agent.proofs.EventLemmas.{after_on}

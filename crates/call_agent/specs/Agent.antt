@@ -5,7 +5,7 @@ use Rattle.std.specs.List.{slice_index_or}
 use Rattle.call_agent.specs.declared.setup.AgentSetup.{AgentSetup}
 use Rattle.event_values.specs.declared.observed.Observed.{Observed}
 use Rattle.transmission.specs.declared.entry.Entry.{Entry}
-use Rattle.outbound.specs.Flight.{InFlight}
+use Rattle.retransmission.specs.Flight.{InFlight}
 use Rattle.transmission.specs.declared.output.OutDatagram.{OutDatagram}
 
 -- the answer to a command: the first final response that came while the command was in flight, its whole text

@@ -1,8 +1,8 @@
 -- What falls due of an agent's commands in flight: each is sent again, or given up (RFC 3435, 3.5.3 and 4.3).
 use Rattle.std.specs.Prelude.{ℕ, ◌*◌, zero, suc, List, [], ◌∷◌, ◌++◌, length, Option, Some, None}
-use Rattle.outbound.specs.declared.repeat.Repeat.{Repeat}
-use Rattle.outbound.specs.declared.repeat.Repeat.TheVariants.{Sent, GivenUp}
-use Rattle.outbound.specs.Flight.{InFlight, sent_to, repeat_of, repeated}
+use Rattle.retransmission.specs.declared.repeat.Repeat.{Repeat}
+use Rattle.retransmission.specs.declared.repeat.Repeat.TheVariants.{Sent, GivenUp}
+use Rattle.retransmission.specs.Flight.{InFlight, sent_to, repeat_of, repeated}
 use Rattle.transmission.specs.declared.output.OutDatagram.{OutDatagram}
 use Rattle.transmission.specs.Transacting.{message_to}
 pub use Rattle.flights.specs.Choosing.{has_id, sooner, if_due}

@@ -4,9 +4,9 @@ use Rattle.mg_bytes.specs.Bytes.{space}
 use Rattle.mgcp_text.specs.Reading.{read_text}
 use Rattle.mgcp_text.specs.Packing.{is_joinable}
 use Rattle.endpoint_names.specs.declared.route.Route.TheVariants.{One}
-use Rattle.outbound.specs.Flight.{sent_first}
+use Rattle.retransmission.specs.Flight.{sent_first}
 use Rattle.transmission.specs.Texts.{largest_datagram}
-use Rattle.outbound.specs.Issued.{is_command_as}
+use Rattle.retransmission.specs.Issued.{is_command_as}
 use Rattle.transmission.specs.Transacting.{message_to}
 use Rattle.call_agent.specs.declared.issuing.IssueFault.{IssueFault}
 use Rattle.call_agent.specs.declared.issuing.IssueFault.TheVariants as faults

@@ -5,12 +5,12 @@ use Rattle.std.specs.declared.alloc.AllocError.{AllocError}
 use Rattle.event_values.specs.declared.observed.Observed.{Observed}
 use Rattle.transmission.specs.declared.entry.Entry.{Entry}
 use Rattle.transmission.specs.Kept.{from_young}
-use Rattle.outbound.specs.Flight.{InFlight}
+use Rattle.retransmission.specs.Flight.{InFlight}
 use Rattle.transmission.specs.declared.output.OutDatagram.{OutDatagram}
 use Rattle.transmission.specs.Packing.{packed}
 use Rattle.gateway_rules.specs.declared.refusal.Refusal.{Refusal}
-use Rattle.outbound.specs.declared.issued.Answer.{Answer}
-use Rattle.outbound.specs.declared.issued.Answered.{Answered}
+use Rattle.retransmission.specs.declared.issued.Answer.{Answer}
+use Rattle.retransmission.specs.declared.issued.Answered.{Answered}
 use Rattle.call_agent.specs.declared.state.State.{State}
 use Rattle.flights.specs.Flights.{Commands}
 use Rattle.call_agent.specs.Flying.{Flown}

@@ -19,7 +19,7 @@ use event_values::Observed;
 use flights::{Flights, Growing};
 use transmission::History;
 use mg_bytes::{OutOfMemory, Text};
-use outbound::{Answer, answer_with};
+use retransmission::{Answer, answer_with};
 use plain_machine::{Event, Outputs, Refusal};
 use std::alloc::Global;
 use std::marker::Model;

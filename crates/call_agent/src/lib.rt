@@ -17,4 +17,4 @@ mod working;
 pub use crate::agent::Agent;
 pub use crate::issuing::{IssueFault, Issued};
 pub use crate::setup::AgentSetup;
-pub use outbound::Answer;
+pub use retransmission::Answer;

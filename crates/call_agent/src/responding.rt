@@ -1,7 +1,7 @@
 //! What a response does to a command of the agent's in flight (RFC 3435, 3.5 and 3.5.6).
 ghost use Rattle.std.specs.Prelude.{◌≡◌, ◌<◌, ◌^◌, find, OnOk};
-ghost use Rattle.outbound.specs.declared.reply.Reply.TheVariants as replies;
-ghost use Rattle.outbound.specs.Flight.{InFlight};
+ghost use Rattle.retransmission.specs.declared.reply.Reply.TheVariants as replies;
+ghost use Rattle.retransmission.specs.Flight.{InFlight};
 ghost use Rattle.flights.specs.Choosing.{has_id};
 ghost use Rattle.call_agent.specs.Responding.{replied, responded_to};
 ghost use Rattle.call_agent.specs.State.{kept_in, found_in};
@@ -9,7 +9,7 @@ ghost use Rattle.call_agent.specs.State.{kept_in, found_in};
 use crate::state::{Context, State};
 use mg_bytes::{OutOfMemory, Text};
 use mgcp_text::TransactionId;
-use outbound::{Answer, Answered, Reply};
+use retransmission::{Answer, Answered, Reply};
 
 // A final response lands the command with this id: it is its answer.
 fn land(

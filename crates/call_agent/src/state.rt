@@ -4,7 +4,7 @@ use crate::setup::AgentSetup;
 use crate::told::TakenEvents;
 use flights::{Flights, Growing};
 use transmission::History;
-use outbound::Answered;
+use retransmission::Answered;
 use std::alloc::Global;
 
 /// What changes in an agent: the clock, the commands in flight with the id of the next, the answers, what was told of each

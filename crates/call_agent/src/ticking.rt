@@ -1,7 +1,7 @@
 //! What falls due of the commands in flight (RFC 3435, 3.5.3 and 4.3).
 ghost use Rattle.std.specs.Prelude.{◌<◌, ◌^◌, is_none};
 ghost use Rattle.std.specs.Result.{result_err};
-ghost use Rattle.outbound.specs.Flight.{repeat_of};
+ghost use Rattle.retransmission.specs.Flight.{repeat_of};
 ghost use Rattle.plain_machine.specs.Refusing.{ends};
 ghost use Rattle.gateway_rules.specs.Refusing.{tick_refusal};
 ghost use Rattle.flights.specs.Choosing.{first_flight, if_due};
@@ -12,7 +12,7 @@ use crate::state::{Context, State};
 use flights::Flights;
 use gateway_rules::tick_refusal;
 use mg_bytes::{OutOfMemory, Text};
-use outbound::{Pending, Repeat};
+use retransmission::{Pending, Repeat};
 use plain_machine::{OutDatagram, Refusal};
 use std::alloc::Global;
 use transmission::send;

@@ -1,9 +1,9 @@
 -- A command in flight goes out again.
 use Rattle.std.proofs.Common.{◌≡◌, ℕ, ◌+◌, List, [], ◌∷◌, ◌++◌, Some, refl, sym, ap, ◌∙◌}
 use Rattle.std.specs.declared.net.socket_addr.SocketAddrV4.{SocketAddrV4}
-use Rattle.outbound.specs.declared.repeat.Repeat.{Repeat}
-use Rattle.outbound.specs.declared.repeat.Repeat.TheVariants.{Sent as SentAgain, GivenUp}
-use Rattle.outbound.specs.Flight.{InFlight, sent_to, repeat_of, again_as, repeated}
+use Rattle.retransmission.specs.declared.repeat.Repeat.{Repeat}
+use Rattle.retransmission.specs.declared.repeat.Repeat.TheVariants.{Sent as SentAgain, GivenUp}
+use Rattle.retransmission.specs.Flight.{InFlight, sent_to, repeat_of, again_as, repeated}
 use Rattle.plain_machine.specs.declared.label.OutMessage.{OutMessage}
 use Rattle.plain_machine.specs.declared.label.Label.{Label}
 use Rattle.plain_machine.specs.declared.label.Whose.TheVariants.{OwnOf}

@@ -5,7 +5,7 @@ ghost use Rattle.plain_machine.specs.GivingUp.{given_up_if, given_up_under, give
 
 use crate::store::Store;
 use mg_bytes::OutOfMemory;
-use outbound::{Pending, Repeat};
+use retransmission::{Pending, Repeat};
 use plain_machine::{GivenUpCommand, Post, PostOwner, own_verb, owner_of};
 use timers::{DueItem, DueKind};
 

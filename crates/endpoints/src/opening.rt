@@ -15,7 +15,7 @@ use plain_machine::{
     CommandNumber, Config, ConfigFault, ConfigKey, Endpoint, HIGHEST_MEDIA_BASE, LONGEST_WAIT,
     LOWEST_MEDIA_BASE, NamedRoute, Post, SHORTEST_WAIT, Setup,
 };
-use restart::Restart;
+use retransmission::Restart;
 use std::alloc::Global;
 use std::net::Ipv4Addr;
 

@@ -18,7 +18,7 @@ use endpoint_names::{Entity, read_entity};
 use mg_bytes::OutOfMemory;
 use mgcp_text::{Message, TransactionId, param_at};
 use plain_machine::{OutMessage, PostOwner, Response, line_of_id, owner_of};
-use restart::Heard;
+use retransmission::Heard;
 
 // What a response does to this line.
 #[tactic(auto, unfolding(plain_machine::specs::Machine::on_line))]

@@ -7,7 +7,7 @@ use Rattle.std.proofs.lemmas.Bool.Decides.{nat_tests}
 use Rattle.std.proofs.lemmas.Bool.{ltb-true, ltb-false}
 use Rattle.std.proofs.lemmas.List.{set-set, set-get_or, drop_all}
 use Rattle.std.proofs.Math.Seq.{drop-cons}
-use Rattle.outbound.specs.Flight.{InFlight}
+use Rattle.retransmission.specs.Flight.{InFlight}
 use Rattle.flights.specs.declared.flights.Saved.{Saved}
 use Rattle.flights.specs.Choosing.{has_id, sooner, first_flight, with_flight, without_flight}
 use Rattle.flights.specs.Flights.{Commands, flight_in, flights_in, holds_id, exchanged, sooner_of, sooner_at, put_back, restored, settled, undone}

@@ -1,6 +1,6 @@
 -- Which of the commands in flight it is: by its id, or since it falls due first.
 use Rattle.std.specs.Prelude.{ℕ, ◌==◌, nat_le, if◌then◌else◌, Bool, List, [], ◌∷◌, Option, Some, None}
-use Rattle.outbound.specs.Flight.{InFlight}
+use Rattle.retransmission.specs.Flight.{InFlight}
 
 abbrev pub has_id : ℕ → InFlight → Bool
 has_id id flight = flight.id == id

@@ -1,6 +1,6 @@
 -- The commands in flight as they are kept: what landed leaves its place empty until the event is over.
 use Rattle.std.specs.Prelude.{ℕ, ◌+◌, ◌==◌, if◌then◌else◌, List, [], ◌∷◌, ◌++◌, flat_map, Option, Some, None, Bool, false, nat_le, slice_set}
-use Rattle.outbound.specs.Flight.{InFlight}
+use Rattle.retransmission.specs.Flight.{InFlight}
 use Rattle.flights.specs.declared.flights.Saved.{Saved}
 use Rattle.flights.specs.Choosing.{has_id}
 

@@ -5,7 +5,7 @@ ghost use Rattle.flights.specs.Choosing.{has_id, first_flight, if_due, with_flig
 
 use mg_bytes::OutOfMemory;
 use mgcp_text::TransactionId;
-use outbound::Pending;
+use retransmission::Pending;
 use std::alloc::{AllocError, Global};
 use std::marker::Model;
 use std::mem;

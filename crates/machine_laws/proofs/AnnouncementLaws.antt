@@ -9,8 +9,8 @@ use Rattle.transmission.specs.Acknowledging.{asks_for_acknowledgement}
 use Rattle.command_forms.specs.declared.forms.Target.TheVariants.{All, One, All as AllLines, Any}
 use Rattle.command_forms.specs.Meaning.{is_for, meant}
 use Rattle.mg_line.specs.declared.phone.Act.{Act}
-use Rattle.restart.specs.declared.heard.Heard.{Heard}
-use Rattle.restart.specs.declared.heard.Heard.TheVariants.{Nothing, PutOff, Redirected, Answered}
+use Rattle.retransmission.specs.declared.heard.Heard.{Heard}
+use Rattle.retransmission.specs.declared.heard.Heard.TheVariants.{Nothing, PutOff, Redirected, Answered}
 use Rattle.plain_machine.specs.declared.post.Post.{Post}
 use Rattle.plain_machine.specs.declared.response.Response.{Response}
 use Rattle.plain_machine.specs.declared.setup.Setup.{Setup}
@@ -45,14 +45,14 @@ use Rattle.command_forms.specs.Command.{Command}
 use Rattle.command_forms.specs.declared.verbs.Meant.{Meant}
 use Rattle.command_forms.specs.Order.{form_of, form_while}
 use Rattle.command_forms.proofs.RestartLemmas.{while_named, while_deed, while_audit, while_none}
-use Rattle.outbound.specs.declared.repeat.Repeat.{Repeat}
-use Rattle.outbound.specs.declared.repeat.Repeat.TheVariants.{GivenUp}
-use Rattle.outbound.specs.declared.reply.Reply.{Reply}
-use Rattle.outbound.specs.declared.reply.Reply.TheVariants as replies
-use Rattle.outbound.specs.Flight.{InFlight, repeat_of, reply_of}
-use Rattle.restart.specs.declared.restart.Restart.{Restart}
-use Rattle.restart.specs.declared.restart.Restart.TheVariants.{Waiting, Announced, Serving}
-use Rattle.restart.specs.Restarting.{announced_at, is_serving, answer_by, answer_of, heard_of}
+use Rattle.retransmission.specs.declared.repeat.Repeat.{Repeat}
+use Rattle.retransmission.specs.declared.repeat.Repeat.TheVariants.{GivenUp}
+use Rattle.retransmission.specs.declared.reply.Reply.{Reply}
+use Rattle.retransmission.specs.declared.reply.Reply.TheVariants as replies
+use Rattle.retransmission.specs.Flight.{InFlight, repeat_of, reply_of}
+use Rattle.retransmission.specs.declared.restart.Restart.{Restart}
+use Rattle.retransmission.specs.declared.restart.Restart.TheVariants.{Waiting, Announced, Serving}
+use Rattle.retransmission.specs.Restarting.{announced_at, is_serving, answer_by, answer_of, heard_of}
 use Rattle.mg_line.specs.Answering.{answered}
 use Rattle.timers.specs.declared.kind.DueKind.TheVariants.{Announce}
 use Rattle.timers.specs.declared.due_item.DueItem.{DueItem}

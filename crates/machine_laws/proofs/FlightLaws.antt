@@ -21,17 +21,17 @@ use Rattle.mg_bytes.specs.declared.letter.Letter.TheVariants.{Timer}
 use Rattle.event_values.specs.declared.observed.Observed.{Observed}
 use Rattle.event_values.specs.declared.observed.Observed.TheVariants.{Happened, Ended}
 use Rattle.signals.specs.Stopping.{without}
-use Rattle.outbound.specs.declared.repeat.Repeat.{Repeat}
-use Rattle.outbound.specs.declared.repeat.Repeat.TheVariants.{Sent as SentAgain, GivenUp}
-use Rattle.outbound.specs.declared.reply.Reply.{Reply}
-use Rattle.outbound.specs.declared.reply.Reply.TheVariants as replies
-use Rattle.outbound.specs.declared.reply.Reply.TheVariants.{Provisional, Stranger}
-use Rattle.outbound.specs.Flight.{InFlight, sent_to, sent_first, repeat_of, repeated, again_as, reply_by, reply_of, heard, heard_as}
-use Rattle.restart.specs.declared.restart.Restart.{Restart}
-use Rattle.restart.specs.declared.restart.Restart.TheVariants.{Waiting, Announced, Serving}
-use Rattle.restart.specs.declared.heard.Heard.{Heard}
-use Rattle.restart.specs.declared.heard.Heard.TheVariants.{Nothing, PutOff, Redirected, Answered}
-use Rattle.restart.specs.Restarting.{is_serving, answer_of, heard_of}
+use Rattle.retransmission.specs.declared.repeat.Repeat.{Repeat}
+use Rattle.retransmission.specs.declared.repeat.Repeat.TheVariants.{Sent as SentAgain, GivenUp}
+use Rattle.retransmission.specs.declared.reply.Reply.{Reply}
+use Rattle.retransmission.specs.declared.reply.Reply.TheVariants as replies
+use Rattle.retransmission.specs.declared.reply.Reply.TheVariants.{Provisional, Stranger}
+use Rattle.retransmission.specs.Flight.{InFlight, sent_to, sent_first, repeat_of, repeated, again_as, reply_by, reply_of, heard, heard_as}
+use Rattle.retransmission.specs.declared.restart.Restart.{Restart}
+use Rattle.retransmission.specs.declared.restart.Restart.TheVariants.{Waiting, Announced, Serving}
+use Rattle.retransmission.specs.declared.heard.Heard.{Heard}
+use Rattle.retransmission.specs.declared.heard.Heard.TheVariants.{Nothing, PutOff, Redirected, Answered}
+use Rattle.retransmission.specs.Restarting.{is_serving, answer_of, heard_of}
 use Rattle.timers.specs.declared.kind.LineDue.{LineDue}
 use Rattle.timers.specs.declared.kind.LineDue.TheVariants.{DigitTimer, SignalEnd}
 use Rattle.mg_line.specs.declared.phone.Act.{Act}

@@ -1,6 +1,6 @@
 -- A command in flight is one that was issued.
 use Rattle.std.proofs.Common.{◌≡◌}
-use Rattle.outbound.specs.Flight.{InFlight}
+use Rattle.retransmission.specs.Flight.{InFlight}
 use Rattle.plain_machine.specs.Message.{Begun}
 
 -- it is this command that was issued

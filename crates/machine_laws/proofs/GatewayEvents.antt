@@ -6,7 +6,7 @@ use Rattle.mgcp_text.specs.Reading.{Outcome, message, no_header, bad_version, ba
 use Rattle.transmission.specs.declared.entry.KeptFirst.{KeptFirst}
 use Rattle.transmission.specs.Memory.{memory_time, is_young, most_firsts}
 use Rattle.machine_laws.proofs.EachLemmas.{Each, one_before, one_of_each, one_to, one_weaker, each_both, each_weaker, one_behind, is_none-None}
-use Rattle.outbound.specs.Issued.{is_command_as}
+use Rattle.retransmission.specs.Issued.{is_command_as}
 use Rattle.plain_machine.specs.Message.{Begun, of_none, again, acknowledgement, Sent, text_of}
 use Rattle.machine_laws.specs.Saying.{Carries, Gives, IsAnswerTo, OneOf, Tells, begun_in, HasNumbersLeft}
 use Rattle.std.specs.Prelude.{nat_lt, option_map, IfSome, nat_le, ◌^◌, AllPairs, is_none}
@@ -24,7 +24,7 @@ use Rattle.mgcp_text.proofs.AnswerLemmas.{answer_writable}
 use Rattle.mgcp_text.proofs.IdLemmas.{IsId, read_id}
 use Rattle.mgcp_text.proofs.RoundLaws.{read_again}
 use Rattle.command_forms.specs.Command.{Command}
-use Rattle.outbound.specs.Flight.{InFlight}
+use Rattle.retransmission.specs.Flight.{InFlight}
 use Rattle.plain_machine.specs.declared.setup.Setup.{Setup}
 use Rattle.gateway_rules.specs.declared.refusal.Refusal.TheVariants.{ClockBack, TickTooFar}
 use Rattle.plain_machine.specs.Effect.{Effect, silently}

@@ -22,8 +22,8 @@ use Rattle.command_forms.specs.Command.{Command}
 use Rattle.command_forms.specs.Order.{form_of, form_while}
 use Rattle.command_forms.proofs.RestartLemmas.{while_taken, while_none}
 use Rattle.mg_line.specs.declared.phone.Act.{Act}
-use Rattle.restart.specs.declared.heard.Heard.{Heard}
-use Rattle.restart.specs.declared.heard.Heard.TheVariants.{Nothing, PutOff, Redirected, Answered}
+use Rattle.retransmission.specs.declared.heard.Heard.{Heard}
+use Rattle.retransmission.specs.declared.heard.Heard.TheVariants.{Nothing, PutOff, Redirected, Answered}
 use Rattle.timers.specs.declared.due_item.DueItem.{DueItem}
 use Rattle.plain_machine.specs.declared.post.Post.{Post}
 use Rattle.plain_machine.specs.declared.response.Response.{Response}

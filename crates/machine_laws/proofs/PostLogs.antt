@@ -20,17 +20,17 @@ use Rattle.mgcp_text.specs.Reading.{message, read_text}
 use Rattle.mgcp_text.specs.Writing.{written, is_writable}
 use Rattle.mgcp_text.proofs.RoundLaws.{read_again}
 use Rattle.endpoint_names.specs.Name.{name_text}
-use Rattle.outbound.specs.declared.repeat.Repeat.{Repeat}
-use Rattle.outbound.specs.declared.repeat.Repeat.TheVariants.{Sent as SentAgain, GivenUp}
-use Rattle.outbound.specs.declared.reply.Reply.{Reply}
-use Rattle.outbound.specs.declared.reply.Reply.TheVariants.{Answered as AnsweredReply, Provisional, Stranger}
-use Rattle.outbound.specs.Sends.{sending_time}
-use Rattle.outbound.specs.Flight.{InFlight, sent_to, sent_first, repeat_of, repeated, reply_of, heard_as, heard}
-use Rattle.outbound.proofs.LifeLaws.{repeat_same, sent_later, sent_soon}
-use Rattle.restart.specs.declared.restart.Restart.{Restart}
-use Rattle.restart.specs.declared.restart.Restart.TheVariants.{Waiting, Announced, Serving}
-use Rattle.restart.specs.declared.heard.Heard.{Heard}
-use Rattle.restart.specs.declared.heard.Heard.TheVariants.{Nothing, PutOff, Redirected, Answered}
+use Rattle.retransmission.specs.declared.repeat.Repeat.{Repeat}
+use Rattle.retransmission.specs.declared.repeat.Repeat.TheVariants.{Sent as SentAgain, GivenUp}
+use Rattle.retransmission.specs.declared.reply.Reply.{Reply}
+use Rattle.retransmission.specs.declared.reply.Reply.TheVariants.{Answered as AnsweredReply, Provisional, Stranger}
+use Rattle.retransmission.specs.Sends.{sending_time}
+use Rattle.retransmission.specs.Flight.{InFlight, sent_to, sent_first, repeat_of, repeated, reply_of, heard_as, heard}
+use Rattle.retransmission.proofs.LifeLaws.{repeat_same, sent_later, sent_soon}
+use Rattle.retransmission.specs.declared.restart.Restart.{Restart}
+use Rattle.retransmission.specs.declared.restart.Restart.TheVariants.{Waiting, Announced, Serving}
+use Rattle.retransmission.specs.declared.heard.Heard.{Heard}
+use Rattle.retransmission.specs.declared.heard.Heard.TheVariants.{Nothing, PutOff, Redirected, Answered}
 use Rattle.plain_machine.specs.declared.post.Post.{Post}
 use Rattle.plain_machine.specs.declared.response.Response.{Response}
 use Rattle.plain_machine.specs.Effect.{Effect, silently}
@@ -41,7 +41,7 @@ use Rattle.machine_laws.proofs.NotificationLemmas.{announcement_writable}
 use Rattle.machine_laws.proofs.EachLemmas.{Each, EachAfter, all_from_each, each_after_push, each_both, each_push, each_weaker, one_before, one_behind, one_weaker}
 use Rattle.machine_laws.proofs.LogTurns.{EffectKeeps, silent_keeps}
 use Rattle.machine_laws.proofs.FlightLemmas.{IsSame}
-use Rattle.outbound.specs.Issued.{is_command_as}
+use Rattle.retransmission.specs.Issued.{is_command_as}
 use Rattle.machine_laws.specs.Saying.{Carries, OneOf, count_of}
 use Rattle.small_rules.specs.Numbering.{first_at}
 use Rattle.machine_laws.specs.Starting.{BeganUnder, longest_life, safe_time, shortest_life}

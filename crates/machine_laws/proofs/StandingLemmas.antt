@@ -21,8 +21,8 @@ use Rattle.mg_line.specs.Falling.{fired}
 use Rattle.mg_line.specs.Acting.{phoned}
 use Rattle.mg_line.specs.Answering.{answered}
 use Rattle.mg_line.specs.Opening.{opened}
-use Rattle.restart.specs.declared.heard.Heard.{Heard}
-use Rattle.restart.specs.declared.heard.Heard.TheVariants.{Nothing, PutOff, Redirected, Answered}
+use Rattle.retransmission.specs.declared.heard.Heard.{Heard}
+use Rattle.retransmission.specs.declared.heard.Heard.TheVariants.{Nothing, PutOff, Redirected, Answered}
 use Rattle.endpoint_names.specs.declared.entity.Entity.{Entity}
 use Rattle.timers.specs.declared.kind.DueKind.{DueKind}
 use Rattle.timers.specs.declared.kind.DueKind.TheVariants.{OfLine, Resend, Announce}

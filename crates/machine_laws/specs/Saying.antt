@@ -4,7 +4,7 @@ use Rattle.mgcp_text.specs.declared.message.Param.{Param}
 use Rattle.mgcp_text.specs.declared.message.Message.TheVariants as messages
 use Rattle.mgcp_text.specs.Reading.{message, read_text}
 use Rattle.mgcp_text.specs.Writing.{written}
-use Rattle.outbound.specs.Sends.{sending_time}
+use Rattle.retransmission.specs.Sends.{sending_time}
 use Rattle.transmission.specs.declared.entry.KeptFirst.{KeptFirst}
 use Rattle.transmission.specs.Memory.{memory_time}
 use Rattle.plain_machine.specs.Message.{Begun, Said, answer, again, command, resent, acknowledgement, Sent, of_none}

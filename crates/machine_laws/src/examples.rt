@@ -13,12 +13,12 @@ ghost use Rattle.transmission.specs.Firsts.{a_first, a_repeat, lost, kind_of, fi
 ghost use Rattle.transmission.specs.Kept.{entries_of};
 ghost use Rattle.transmission.specs.Memory.{most_firsts};
 ghost use Rattle.small_rules.specs.Numbering.{numbers};
-ghost use Rattle.outbound.specs.Flight.{repeat_of, reply_of};
-ghost use Rattle.outbound.specs.declared.repeat.Repeat.TheVariants.{GivenUp};
-ghost use Rattle.outbound.specs.declared.reply.Reply.TheVariants as replies;
-ghost use Rattle.restart.specs.declared.heard.Heard.TheVariants.{Answered};
-ghost use Rattle.restart.specs.declared.restart.Restart.TheVariants.{Waiting, Announced};
-ghost use Rattle.restart.specs.Restarting.{is_serving};
+ghost use Rattle.retransmission.specs.Flight.{repeat_of, reply_of};
+ghost use Rattle.retransmission.specs.declared.repeat.Repeat.TheVariants.{GivenUp};
+ghost use Rattle.retransmission.specs.declared.reply.Reply.TheVariants as replies;
+ghost use Rattle.retransmission.specs.declared.heard.Heard.TheVariants.{Answered};
+ghost use Rattle.retransmission.specs.declared.restart.Restart.TheVariants.{Waiting, Announced};
+ghost use Rattle.retransmission.specs.Restarting.{is_serving};
 ghost use Rattle.connections.specs.declared.codec.Encoding.TheVariants.{A};
 ghost use Rattle.connections.specs.declared.deletion.Deletion.TheVariants as deletions;
 ghost use Rattle.connections.specs.Numbers.{names_number};

@@ -19,11 +19,11 @@ use Rattle.transmission.specs.Transacting.{message_to}
 use Rattle.plain_machine.specs.Event.{datagram, tick}
 use Rattle.plain_machine.specs.Arriving.{TextArrival, arrival}
 use Rattle.plain_machine.specs.Transactions.{asked_as}
-use Rattle.outbound.specs.declared.repeat.Repeat.{Repeat}
-use Rattle.outbound.specs.declared.repeat.Repeat.TheVariants.{GivenUp, Sent as SentAgain}
-use Rattle.outbound.specs.Flight.{InFlight, repeat_of, repeated}
-use Rattle.outbound.proofs.LifeLaws.{repeat_same}
-use Rattle.outbound.specs.Issued.{is_command_as}
+use Rattle.retransmission.specs.declared.repeat.Repeat.{Repeat}
+use Rattle.retransmission.specs.declared.repeat.Repeat.TheVariants.{GivenUp, Sent as SentAgain}
+use Rattle.retransmission.specs.Flight.{InFlight, repeat_of, repeated}
+use Rattle.retransmission.proofs.LifeLaws.{repeat_same}
+use Rattle.retransmission.specs.Issued.{is_command_as}
 use Rattle.plain_machine.specs.Message.{Begun}
 use Rattle.machine_laws.specs.Saying.{OneOf}
 use Rattle.machine_laws.proofs.FlightLemmas.{IsSame}

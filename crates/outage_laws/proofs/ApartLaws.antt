@@ -9,7 +9,7 @@ use Rattle.mgcp_text.specs.Reading.{message, read_text}
 use Rattle.transmission.specs.Memory.{memory_time}
 use Rattle.transmission.specs.Packing.{same_address}
 use Rattle.transmission.specs.Texts.{texts_of}
-use Rattle.outbound.specs.Flight.{InFlight}
+use Rattle.retransmission.specs.Flight.{InFlight}
 use Rattle.plain_machine.specs.declared.endpoint.Endpoint.{Endpoint}
 use Rattle.plain_machine.specs.declared.setup.Setup.{Setup}
 use Rattle.plain_machine.specs.Setup.{IsSetUp}

@@ -1,7 +1,7 @@
 -- Of eight copies of a command of the gateway's own one that the network carries is enough.
 use Rattle.std.proofs.Common.{◌≡◌, ◌≢◌, ℕ, suc, ◌+◌, ◌≤◌, true, List, [], ◌∷◌, ◌++◌, length, Option, Some, inl, inr, refl, sym, ap, ◌∙◌, arith, append_assoc}
 use Rattle.std.specs.Prelude.{◌⊎◌, All, Any, slice_get, unwrap_or}
-use Rattle.outbound.specs.Sends.{most_repeats}
+use Rattle.retransmission.specs.Sends.{most_repeats}
 use Rattle.plain_machine.specs.declared.setup.Setup.{Setup}
 use Rattle.plain_machine.specs.Setup.{IsSetUp}
 use Rattle.plain_machine.specs.Message.{Begun}

@@ -1,6 +1,6 @@
 -- Over a network that is fair from the first moment on a gateway serves by then too.
 use Rattle.std.proofs.Common.{◌≡◌, ℕ, zero, suc, ◌+◌, ◌*◌, ◌<◌, ◌≤◌, Bool, true, false, List, inl, inr, refl, sym, subst, arith}
-use Rattle.outbound.specs.Sends.{most_repeats}
+use Rattle.retransmission.specs.Sends.{most_repeats}
 use Rattle.plain_machine.specs.declared.setup.Setup.{Setup}
 use Rattle.plain_machine.specs.Lists.{sent_of}
 use Rattle.plain_machine.specs.Machine.{serves}

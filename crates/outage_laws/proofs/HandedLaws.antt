@@ -25,7 +25,7 @@ use Rattle.plain_machine.specs.Happening.{effect}
 use Rattle.plain_machine.specs.Lists.{machine_after}
 use Rattle.plain_machine.proofs.ListLaws.{arrivals_on, machine_on}
 use Rattle.plain_machine.proofs.EffectLaws.{effect_now}
-use Rattle.outbound.specs.Issued.{is_command_as}
+use Rattle.retransmission.specs.Issued.{is_command_as}
 use Rattle.plain_machine.specs.Message.{Begun}
 use Rattle.machine_laws.specs.Saying.{Gives, Carries, IsAnswerTo, OneOf, Tells}
 use Rattle.machine_laws.proofs.EachLemmas.{Each, all_from_each, any_from_one, each_at, each_both, each_mapped, each_push, each_unmapped, each_weaker, is_none-None, one_before, one_behind, one_of_each, one_to, one_weaker}

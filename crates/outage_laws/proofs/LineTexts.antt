@@ -29,13 +29,13 @@ use Rattle.mg_line.specs.Acting.{phoned}
 use Rattle.mg_line.specs.Answering.{answered}
 use Rattle.mg_line.specs.Falling.{fired}
 use Rattle.mg_line.specs.Opening.{opened}
-use Rattle.outbound.specs.declared.repeat.Repeat.{Repeat}
-use Rattle.outbound.specs.declared.repeat.Repeat.TheVariants.{Sent as SentAgain, GivenUp}
-use Rattle.outbound.specs.Flight.{InFlight, heard, repeat_of}
-use Rattle.restart.specs.declared.restart.Restart.{Restart}
-use Rattle.restart.specs.declared.restart.Restart.TheVariants.{Waiting, Announced, Serving}
-use Rattle.restart.specs.declared.heard.Heard.{Heard}
-use Rattle.restart.specs.declared.heard.Heard.TheVariants.{Nothing, PutOff, Redirected, Answered}
+use Rattle.retransmission.specs.declared.repeat.Repeat.{Repeat}
+use Rattle.retransmission.specs.declared.repeat.Repeat.TheVariants.{Sent as SentAgain, GivenUp}
+use Rattle.retransmission.specs.Flight.{InFlight, heard, repeat_of}
+use Rattle.retransmission.specs.declared.restart.Restart.{Restart}
+use Rattle.retransmission.specs.declared.restart.Restart.TheVariants.{Waiting, Announced, Serving}
+use Rattle.retransmission.specs.declared.heard.Heard.{Heard}
+use Rattle.retransmission.specs.declared.heard.Heard.TheVariants.{Nothing, PutOff, Redirected, Answered}
 use Rattle.timers.specs.declared.kind.DueKind.{DueKind}
 use Rattle.timers.specs.declared.kind.DueKind.TheVariants.{OfLine, Resend, Announce}
 use Rattle.plain_machine.specs.declared.post.Post.{Post}
@@ -62,7 +62,7 @@ use Rattle.machine_laws.proofs.CommandLaws.{Sound, OwnSound, sound_turns, sound_
 use Rattle.machine_laws.proofs.NoticeLemmas.{IsDone, IsTold, opening_is_fine, phoned_done, answered_done, opened_done, fired_done}
 use Rattle.machine_laws.proofs.TurnLemmas.{Good, Turns, OwnTurns, Holds, on_made, acted_goes, command_goes, responded_goes, pass_goes, handled_on_all, events_on_all, response_read}
 use Rattle.mgcp_text.proofs.RoundLaws.{read_again}
-use Rattle.outbound.specs.Issued.{is_command_as}
+use Rattle.retransmission.specs.Issued.{is_command_as}
 use Rattle.machine_laws.proofs.EachLemmas.{all_from_each, each_from_all, each_weaker}
 use Rattle.machine_laws.proofs.FlightLaws.{heard_same, repeated_same}
 use Rattle.machine_laws.proofs.PostLogs.{same_command}

@@ -18,17 +18,17 @@ use Rattle.mg_line.specs.Opening.{opened}
 use Rattle.mg_line.specs.Falling.{fired}
 use Rattle.mg_line.specs.Laws.{AwaitsIfNotified}
 use Rattle.mg_line.proofs.OnceLemmas.{notifies_once}
-use Rattle.outbound.specs.declared.repeat.Repeat.{Repeat}
-use Rattle.outbound.specs.declared.repeat.Repeat.TheVariants.{Sent as SentAgain, GivenUp}
-use Rattle.outbound.specs.declared.reply.Reply.TheVariants.{Stranger}
-use Rattle.outbound.specs.Sends.{most_repeats}
-use Rattle.outbound.specs.Flight.{InFlight, repeat_of, repeated, reply_by, sent_first}
-use Rattle.outbound.proofs.LifeLaws.{repeat_same}
-use Rattle.restart.specs.declared.restart.Restart.{Restart}
-use Rattle.restart.specs.declared.restart.Restart.TheVariants.{Waiting, Announced, Serving}
-use Rattle.restart.specs.declared.heard.Heard.{Heard}
-use Rattle.restart.specs.declared.heard.Heard.TheVariants.{Nothing}
-use Rattle.restart.specs.Restarting.{announced_at, heard_of}
+use Rattle.retransmission.specs.declared.repeat.Repeat.{Repeat}
+use Rattle.retransmission.specs.declared.repeat.Repeat.TheVariants.{Sent as SentAgain, GivenUp}
+use Rattle.retransmission.specs.declared.reply.Reply.TheVariants.{Stranger}
+use Rattle.retransmission.specs.Sends.{most_repeats}
+use Rattle.retransmission.specs.Flight.{InFlight, repeat_of, repeated, reply_by, sent_first}
+use Rattle.retransmission.proofs.LifeLaws.{repeat_same}
+use Rattle.retransmission.specs.declared.restart.Restart.{Restart}
+use Rattle.retransmission.specs.declared.restart.Restart.TheVariants.{Waiting, Announced, Serving}
+use Rattle.retransmission.specs.declared.heard.Heard.{Heard}
+use Rattle.retransmission.specs.declared.heard.Heard.TheVariants.{Nothing}
+use Rattle.retransmission.specs.Restarting.{announced_at, heard_of}
 use Rattle.timers.specs.declared.due_item.DueItem.{DueItem}
 use Rattle.timers.specs.declared.kind.DueKind.TheVariants.{Resend, Announce}
 use Rattle.command_forms.specs.declared.forms.Deed.{Deed}

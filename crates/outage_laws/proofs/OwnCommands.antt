@@ -27,14 +27,14 @@ use Rattle.mgcp_text.specs.declared.message.Verb.{Verb}
 use Rattle.mgcp_text.specs.declared.message.Verb.TheVariants.{Ntfy, Rsip}
 use Rattle.mgcp_text.specs.Writing.{is_writable, written}
 use Rattle.mgcp_text.proofs.RoundLaws.{read_again}
-use Rattle.outbound.specs.declared.repeat.Repeat.{Repeat}
-use Rattle.outbound.specs.declared.repeat.Repeat.TheVariants.{GivenUp, Sent as SentAgain}
-use Rattle.outbound.specs.Flight.{InFlight, heard, repeat_of, repeated, sent_first, sent_to}
-use Rattle.outbound.proofs.LifeLaws.{IsSameMessage, repeat_same, reply_same}
-use Rattle.restart.specs.declared.heard.Heard.{Heard}
-use Rattle.restart.specs.declared.heard.Heard.TheVariants.{Answered, Nothing, PutOff, Redirected}
-use Rattle.restart.specs.declared.restart.Restart.{Restart}
-use Rattle.restart.specs.declared.restart.Restart.TheVariants.{Announced, Serving, Waiting}
+use Rattle.retransmission.specs.declared.repeat.Repeat.{Repeat}
+use Rattle.retransmission.specs.declared.repeat.Repeat.TheVariants.{GivenUp, Sent as SentAgain}
+use Rattle.retransmission.specs.Flight.{InFlight, heard, repeat_of, repeated, sent_first, sent_to}
+use Rattle.retransmission.proofs.LifeLaws.{IsSameMessage, repeat_same, reply_same}
+use Rattle.retransmission.specs.declared.heard.Heard.{Heard}
+use Rattle.retransmission.specs.declared.heard.Heard.TheVariants.{Answered, Nothing, PutOff, Redirected}
+use Rattle.retransmission.specs.declared.restart.Restart.{Restart}
+use Rattle.retransmission.specs.declared.restart.Restart.TheVariants.{Announced, Serving, Waiting}
 use Rattle.timers.specs.declared.kind.DueKind.{DueKind}
 use Rattle.timers.specs.declared.kind.DueKind.TheVariants.{Announce, OfLine, Resend}
 use Rattle.plain_machine.specs.declared.endpoint.Endpoint.{Endpoint}
@@ -50,7 +50,7 @@ use Rattle.plain_machine.specs.Posting.{first_number, given_up, id_on, line_of_i
 use Rattle.plain_machine.specs.Requesting.{asked_if, deed_on, with_connections, with_entity}
 use Rattle.plain_machine.specs.Responding.{opened_on, redirected_on, responded_as, responded_on}
 use Rattle.plain_machine.specs.Setup.{IsSetUp, most_lines}
-use Rattle.outbound.specs.Issued.{is_command_as}
+use Rattle.retransmission.specs.Issued.{is_command_as}
 use Rattle.machine_laws.specs.Numbering.{start_on, IsBehind, IsInTurn}
 use Rattle.machine_laws.specs.Saying.{OneOf, count_of}
 use Rattle.machine_laws.proofs.NotificationLemmas.{announcement_writable, told_writable}

@@ -21,7 +21,7 @@ use Rattle.mgcp_text.proofs.IdLemmas.{IsId, read_id}
 use Rattle.mgcp_text.proofs.RoundLaws.{read_again}
 use Rattle.transmission.specs.Acknowledging.{asks_for_acknowledgement}
 use Rattle.transmission.specs.Texts.{texts_of}
-use Rattle.outbound.specs.Flight.{InFlight}
+use Rattle.retransmission.specs.Flight.{InFlight}
 use Rattle.plain_machine.specs.declared.endpoint.Endpoint.{Endpoint}
 use Rattle.plain_machine.specs.declared.setup.Setup.{Setup}
 use Rattle.plain_machine.specs.Answering.{Transaction, answer_text, command_with, executed, handled, history_with, refusing, reply, response_to, took_all, transacted_by}

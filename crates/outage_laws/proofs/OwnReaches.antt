@@ -8,7 +8,7 @@ use Rattle.mgcp_text.specs.Reading.{read_text}
 use Rattle.mgcp_text.proofs.RoundLaws.{read_again}
 use Rattle.endpoint_names.specs.declared.route.Route.{Route}
 use Rattle.endpoint_names.specs.Route.{at}
-use Rattle.outbound.specs.Issued.{is_command_as}
+use Rattle.retransmission.specs.Issued.{is_command_as}
 use Rattle.transmission.specs.declared.output.OutDatagram.{OutDatagram}
 use Rattle.transmission.specs.Packing.{messages_in, packed, same_address}
 use Rattle.transmission.specs.Texts.{texts_of}

@@ -1,8 +1,8 @@
 -- A command of the gateway's own goes out at its moments until a response to it comes, whoever the agent is.
 use Rattle.std.proofs.Common.{◌≡◌, ℕ, ◌+◌, ◌<◌, ◌≤◌, List, [], Option, Some, inl, inr, subst, arith}
 use Rattle.std.specs.Prelude.{◌⊎◌, All, IfSome}
-use Rattle.outbound.specs.Sends.{most_repeats}
-use Rattle.outbound.specs.Flight.{InFlight}
+use Rattle.retransmission.specs.Sends.{most_repeats}
+use Rattle.retransmission.specs.Flight.{InFlight}
 use Rattle.plain_machine.specs.declared.setup.Setup.{Setup}
 use Rattle.plain_machine.specs.declared.endpoint.Endpoint.{Endpoint}
 use Rattle.plain_machine.specs.Arriving.{TextArrival, arrivals_of}

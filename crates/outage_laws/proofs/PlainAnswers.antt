@@ -42,7 +42,7 @@ use Rattle.plain_machine.specs.Connecting.{connected, created_shown, deleted_sho
 use Rattle.plain_machine.specs.Machine.{Endpoints, endpoint_at, numbered, serves}
 use Rattle.plain_machine.specs.Reporting.{audited_endpoint, line_report, name_of_line, name_param, names_of, report_by}
 use Rattle.plain_machine.specs.Requesting.{answer_with, deed_done, deed_on_all, done_for, done_there, encoding_with, line_with_place, refused_by, shown_by, shown_of, shown_on, unless_refused}
-use Rattle.outbound.specs.Issued.{is_command_as}
+use Rattle.retransmission.specs.Issued.{is_command_as}
 
 -- What asks for one
 

@@ -4,8 +4,8 @@ use Rattle.std.specs.Prelude.{◌⊎◌, IfSome, slice_get}
 use Rattle.std.proofs.lemmas.Bool.{eqb-true, eqb-false}
 use Rattle.std.specs.declared.net.socket_addr.SocketAddrV4.{SocketAddrV4}
 use Rattle.mgcp_text.specs.Reading.{Outcome, read_text}
-use Rattle.outbound.specs.Flight.{InFlight}
-use Rattle.restart.specs.Restarting.{is_serving}
+use Rattle.retransmission.specs.Flight.{InFlight}
+use Rattle.retransmission.specs.Restarting.{is_serving}
 use Rattle.transmission.specs.Packing.{same_address}
 use Rattle.transmission.specs.Texts.{texts_of}
 use Rattle.mg_line.specs.declared.phone.Act.{Act}

@@ -1,8 +1,8 @@
 -- Where the gateway itself is with its announcements while none is answered: by their starts, one behind the other, and what went out.
 use Rattle.std.proofs.Common.{◌≡◌, ℕ, Option, Some, None, ap, ◌∙◌, zero, suc, ◌+◌, ◌-◌, ◌<◌, ◌≤◌, Bool, true, false, if◌then◌else◌, List, [], ◌∷◌, ◌++◌, inl, inr, refl, sym, subst, arith, append-nil, append_assoc}
 use Rattle.std.specs.Prelude.{option_map, ◌⊎◌, nat_le}
-use Rattle.outbound.specs.Flight.{InFlight, repeat_of, repeated, sent_first}
-use Rattle.restart.specs.Restarting.{announced_at}
+use Rattle.retransmission.specs.Flight.{InFlight, repeat_of, repeated, sent_first}
+use Rattle.retransmission.specs.Restarting.{announced_at}
 use Rattle.timers.specs.Order.{earlier}
 use Rattle.plain_machine.specs.declared.post.Post.{Post}
 use Rattle.plain_machine.specs.Falling.{announcement_item, command_item, post_due, happened_under, if_by}
@@ -10,12 +10,12 @@ use Rattle.std.specs.Option.{unwrap_or}
 use Rattle.std.proofs.lemmas.Bool.{leb-true, leb-false}
 use Rattle.std.proofs.lemmas.Option.{none-some}
 use Rattle.mgcp_text.specs.Writing.{written}
-use Rattle.outbound.specs.declared.repeat.Repeat.{Repeat}
-use Rattle.outbound.specs.declared.repeat.Repeat.TheVariants.{Sent as SentAgain, GivenUp}
-use Rattle.outbound.specs.Sends.{most_repeats, sending_time}
-use Rattle.outbound.proofs.LifeLaws.{repeat_same}
-use Rattle.restart.specs.declared.restart.Restart.{Restart}
-use Rattle.restart.specs.declared.restart.Restart.TheVariants.{Waiting, Announced}
+use Rattle.retransmission.specs.declared.repeat.Repeat.{Repeat}
+use Rattle.retransmission.specs.declared.repeat.Repeat.TheVariants.{Sent as SentAgain, GivenUp}
+use Rattle.retransmission.specs.Sends.{most_repeats, sending_time}
+use Rattle.retransmission.proofs.LifeLaws.{repeat_same}
+use Rattle.retransmission.specs.declared.restart.Restart.{Restart}
+use Rattle.retransmission.specs.declared.restart.Restart.TheVariants.{Waiting, Announced}
 use Rattle.timers.specs.declared.due_item.DueItem.{DueItem}
 use Rattle.timers.specs.declared.kind.DueKind.TheVariants.{Resend, Announce}
 use Rattle.plain_machine.specs.declared.setup.Setup.{Setup}

@@ -25,11 +25,11 @@ use Rattle.mg_line.specs.declared.phone.Act.{Act}
 use Rattle.mg_line.specs.Line.{LineDone}
 use Rattle.mg_line.specs.Acting.{phoned}
 use Rattle.mg_line.specs.Falling.{fired}
-use Rattle.outbound.specs.Flight.{InFlight}
-use Rattle.restart.specs.Restarting.{is_serving}
-use Rattle.restart.specs.declared.restart.Restart.{Restart}
-use Rattle.restart.specs.declared.heard.Heard.{Heard}
-use Rattle.restart.specs.declared.heard.Heard.TheVariants.{Nothing, PutOff, Redirected, Answered}
+use Rattle.retransmission.specs.Flight.{InFlight}
+use Rattle.retransmission.specs.Restarting.{is_serving}
+use Rattle.retransmission.specs.declared.restart.Restart.{Restart}
+use Rattle.retransmission.specs.declared.heard.Heard.{Heard}
+use Rattle.retransmission.specs.declared.heard.Heard.TheVariants.{Nothing, PutOff, Redirected, Answered}
 use Rattle.timers.specs.declared.kind.DueKind.{DueKind}
 use Rattle.timers.specs.declared.kind.DueKind.TheVariants.{OfLine, Resend, Announce}
 use Rattle.plain_machine.specs.declared.endpoint.Endpoint.{Endpoint}

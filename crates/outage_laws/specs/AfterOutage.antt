@@ -2,7 +2,7 @@
 use Rattle.std.specs.Prelude.{◌≡◌, ℕ, ◌+◌, ◌-◌, ◌*◌, ◌≤◌, nat_lt, if◌then◌else◌, List, [], ◌∷◌, ◌++◌, Any, Some, filter, nat_le, slice_get, true}
 use Rattle.transmission.specs.Arrival.{Arrival}
 use Rattle.transmission.specs.Memory.{memory_time}
-use Rattle.restart.specs.declared.restart.Restart.TheVariants.{Serving}
+use Rattle.retransmission.specs.declared.restart.Restart.TheVariants.{Serving}
 use Rattle.plain_machine.specs.declared.endpoint.Endpoint.{Endpoint}
 use Rattle.plain_machine.specs.declared.setup.Setup.{Setup}
 use Rattle.plain_machine.specs.Machine.{endpoint_at, serves}

@@ -2,7 +2,7 @@
 use Rattle.std.specs.Prelude.{ℕ, List, [], ◌∷◌, ◌++◌}
 use Rattle.transmission.specs.Arrival.{Arrival}
 use Rattle.transmission.specs.HistoryExample.{comes}
-use Rattle.outbound.specs.Flight.{InFlight, sent_first}
+use Rattle.retransmission.specs.Flight.{InFlight, sent_first}
 use Rattle.mg_line.specs.declared.phone.Act.TheVariants.{OffHook}
 use Rattle.plain_machine.specs.Event.{GatewayEvent, phone}
 use Rattle.plain_machine.specs.Example.{agent_route, announced_under, disconnected, ready}

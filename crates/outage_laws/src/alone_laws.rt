@@ -1,6 +1,6 @@
 //! Laws of a gateway alone, whoever its agent is and whatever the network does.
 ghost use Rattle.std.specs.Prelude.{◌≡◌, ◌⊎◌, ◌≤◌, ◌<◌, ◌+◌, ℕ, List, All, Some, true};
-ghost use Rattle.outbound.specs.Flight.{InFlight};
+ghost use Rattle.retransmission.specs.Flight.{InFlight};
 ghost use Rattle.plain_machine.specs.declared.endpoint.Endpoint.{Endpoint};
 ghost use Rattle.plain_machine.specs.declared.setup.Setup.{Setup};
 ghost use Rattle.plain_machine.specs.Event.{GatewayEvent};

@@ -3,7 +3,7 @@
 #![tactic(auto, unfolding(crate::proofs::Computing::on_examples))]
 
 ghost use Rattle.std.specs.Prelude.{◌≡◌, ◌+◌, ◌*◌, ◌++◌, [], ◌∷◌, map, true, false, None, Some};
-ghost use Rattle.restart.specs.declared.restart.Restart.TheVariants.{Waiting};
+ghost use Rattle.retransmission.specs.declared.restart.Restart.TheVariants.{Waiting};
 ghost use Rattle.plain_machine.specs.Event.{tick};
 ghost use Rattle.plain_machine.specs.Example.{naming_other, response, two_lines};
 ghost use Rattle.plain_machine.specs.Machine.{serves};

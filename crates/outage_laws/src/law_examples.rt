@@ -7,7 +7,7 @@ ghost use Rattle.transmission.specs.Arrival.{Arrival};
 ghost use Rattle.transmission.specs.HistoryExample.{comes};
 ghost use Rattle.transmission.specs.Firsts.{young_of};
 ghost use Rattle.transmission.specs.Memory.{memory_time};
-ghost use Rattle.outbound.specs.Sends.{most_repeats};
+ghost use Rattle.retransmission.specs.Sends.{most_repeats};
 ghost use Rattle.plain_machine.specs.Event.{tick};
 ghost use Rattle.plain_machine.specs.Example.{lifted_again, two_lines};
 ghost use Rattle.plain_machine.specs.Lists.{are_taken, plain};

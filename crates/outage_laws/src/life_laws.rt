@@ -4,7 +4,7 @@ ghost use Rattle.mgcp_text.specs.declared.message.Message.TheVariants as message
 ghost use Rattle.mgcp_text.specs.declared.message.Param.{Param};
 ghost use Rattle.mgcp_text.specs.Reading.{message, read_text};
 ghost use Rattle.transmission.specs.Kept.{firsts_in};
-ghost use Rattle.outbound.specs.Flight.{InFlight};
+ghost use Rattle.retransmission.specs.Flight.{InFlight};
 ghost use Rattle.plain_machine.specs.declared.endpoint.Endpoint.{Endpoint};
 ghost use Rattle.plain_machine.specs.declared.setup.Setup.{Setup};
 ghost use Rattle.plain_machine.specs.Setup.{IsSetUp};

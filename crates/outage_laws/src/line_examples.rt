@@ -2,7 +2,7 @@
 #![tactic(auto, unfolding(crate::proofs::Computing::on_examples))]
 
 ghost use Rattle.std.specs.Prelude.{◌≡◌, ◌+◌, ◌*◌, ◌++◌, ℕ, [], ◌∷◌, true};
-ghost use Rattle.restart.specs.declared.restart.Restart.TheVariants.{Announced, Serving};
+ghost use Rattle.retransmission.specs.declared.restart.Restart.TheVariants.{Announced, Serving};
 ghost use Rattle.plain_machine.specs.Example.{two_lines};
 ghost use Rattle.plain_machine.specs.Lists.{plain};
 ghost use Rattle.plain_machine.specs.Machine.{serves};

@@ -1,6 +1,6 @@
 //! Laws of a line whose network was down and came back.
 ghost use Rattle.std.specs.Prelude.{◌≡◌, ◌≤◌, ◌<◌, ◌+◌, ◌*◌, ◌++◌, ℕ, List, Any, [], Some, length, true};
-ghost use Rattle.restart.specs.declared.restart.Restart.TheVariants.{Serving};
+ghost use Rattle.retransmission.specs.declared.restart.Restart.TheVariants.{Serving};
 ghost use Rattle.plain_machine.specs.declared.endpoint.Endpoint.{Endpoint};
 ghost use Rattle.plain_machine.specs.declared.setup.Setup.{Setup};
 ghost use Rattle.plain_machine.specs.Event.{GatewayEvent};

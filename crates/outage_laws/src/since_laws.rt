@@ -13,7 +13,7 @@ ghost use Rattle.world_laws.specs.Copies.{HasRoom, IsRun, answer_wait, IsCopy};
 ghost use Rattle.world_laws.specs.Fairness.{GoesToAgent};
 ghost use Rattle.world_laws.specs.OwnChances.{HasCome, IsOfLine};
 ghost use Rattle.outage_laws.specs.AfterOutage.{AgentHasRoomFrom, IsFairFrom, gap_of, grown_old, longest_pause};
-ghost use Rattle.outbound.specs.Sends.{most_repeats};
+ghost use Rattle.retransmission.specs.Sends.{most_repeats};
 ghost use Rattle.agent_core.specs.declared.packet.End.TheVariants.{GatewayEnd};
 ghost use Rattle.outage_laws.specs.Carrying.{IsCarriedBack};
 

@@ -6,7 +6,7 @@ use Rattle.transmission.proofs.HistoryComputing.{on_examples as history_examples
 use Rattle.mgcp_text.proofs.PiggybackComputing.{on_examples as part_examples}
 use Rattle.command_forms.proofs.Computing.{on_examples as form_examples}
 use Rattle.mg_line.proofs.Computing.{on_examples as line_examples}
-use Rattle.outbound.proofs.Computing.{on_examples as flight_examples}
+use Rattle.retransmission.proofs.Computing.{on_examples as flight_examples}
 use Rattle.plain_machine.specs.Setup.{table_from, parts_of, setup_from, setup_of, key_at_fault}
 use Rattle.transmission.specs.Texts.{texts_of}
 use Rattle.plain_machine.specs.Arriving.{arrivals_from}

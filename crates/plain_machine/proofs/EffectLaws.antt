@@ -24,8 +24,8 @@ use Rattle.plain_machine.specs.Falling.{due_by, happened_on, happened_under, hap
 use Rattle.plain_machine.specs.Posting.{line_of_id}
 use Rattle.plain_machine.specs.Announcing.{heard_on, replied_on}
 use Rattle.plain_machine.specs.Responding.{response_with, responded_on, redirected_on, opened_on, lines_told, own_heard, responded}
-use Rattle.restart.specs.declared.heard.Heard.{Heard}
-use Rattle.restart.specs.declared.heard.Heard.TheVariants.{Nothing, PutOff, Redirected, Answered}
+use Rattle.retransmission.specs.declared.heard.Heard.{Heard}
+use Rattle.retransmission.specs.declared.heard.Heard.TheVariants.{Nothing, PutOff, Redirected, Answered}
 use Rattle.plain_machine.specs.declared.response.Response.{Response}
 use Rattle.timers.specs.declared.due_item.DueItem.{DueItem}
 use Rattle.plain_machine.specs.Done.{Done}

@@ -3,8 +3,8 @@
 use Rattle.std.specs.Prelude.{ℕ, ◌+◌, ◌*◌, ◌==◌, zero, suc, if◌then◌else◌, Bool, length, fold, Option, Some, None, is_some, option_map, option_and_then}
 use Rattle.timers.specs.declared.kind.LineDue.{LineDue}
 use Rattle.mg_line.specs.Falling.{due_of, fired}
-use Rattle.outbound.specs.Flight.{InFlight}
-use Rattle.restart.specs.Restarting.{announced_at}
+use Rattle.retransmission.specs.Flight.{InFlight}
+use Rattle.retransmission.specs.Restarting.{announced_at}
 use Rattle.timers.specs.declared.kind.DueKind.{DueKind}
 use Rattle.timers.specs.declared.kind.DueKind.TheVariants.{OfLine, Resend, Announce}
 use Rattle.timers.specs.declared.due_item.DueItem.{DueItem}

@@ -1,9 +1,9 @@
 -- What is given up: a command of the gateway's own that nobody answered (RFC 3435, 4.3).
 use Rattle.std.specs.Prelude.{ℕ, zero, suc, ◌==◌, if◌then◌else◌, List, [], Option, Some, None, option_map, option_and_then}
 use Rattle.std.specs.List.{cons_option}
-use Rattle.outbound.specs.declared.repeat.Repeat.{Repeat}
-use Rattle.outbound.specs.declared.repeat.Repeat.TheVariants as repeats
-use Rattle.outbound.specs.Flight.{InFlight, repeat_of}
+use Rattle.retransmission.specs.declared.repeat.Repeat.{Repeat}
+use Rattle.retransmission.specs.declared.repeat.Repeat.TheVariants as repeats
+use Rattle.retransmission.specs.Flight.{InFlight, repeat_of}
 use Rattle.timers.specs.declared.kind.DueKind.{DueKind}
 use Rattle.timers.specs.declared.kind.DueKind.TheVariants.{OfLine, Resend, Announce}
 use Rattle.timers.specs.declared.due_item.DueItem.{DueItem}

@@ -4,9 +4,9 @@ use Rattle.std.specs.List.{enumerate_from, range_with_len}
 use Rattle.connections.specs.declared.codec.Encoding.TheVariants.{Mu}
 use Rattle.connections.specs.Standing.{no_connections}
 use Rattle.mg_line.specs.Line.{opening_line}
-use Rattle.restart.specs.declared.restart.Restart.{Restart}
-use Rattle.restart.specs.declared.restart.Restart.TheVariants.{Serving}
-use Rattle.restart.specs.Restarting.{begun, is_serving}
+use Rattle.retransmission.specs.declared.restart.Restart.{Restart}
+use Rattle.retransmission.specs.declared.restart.Restart.TheVariants.{Serving}
+use Rattle.retransmission.specs.Restarting.{begun, is_serving}
 use Rattle.plain_machine.specs.declared.setup.Setup.{Setup}
 use Rattle.plain_machine.specs.declared.post.Post.{Post}
 use Rattle.plain_machine.specs.declared.endpoint.Endpoint.{Endpoint}

@@ -3,11 +3,11 @@
 use Rattle.std.specs.Prelude.{◌≡◌, ℕ, ◌+◌, ◌*◌, ◌/◌, ◌==◌, true, false, if◌then◌else◌, [], ◌∷◌, Option, Some, None}
 use Rattle.mgcp_text.specs.declared.message.Message.{Message}
 use Rattle.mgcp_text.specs.Writing.{written}
-use Rattle.outbound.specs.declared.repeat.Repeat.{Repeat}
-use Rattle.outbound.specs.declared.repeat.Repeat.TheVariants.{Sent as SentAgain, GivenUp}
+use Rattle.retransmission.specs.declared.repeat.Repeat.{Repeat}
+use Rattle.retransmission.specs.declared.repeat.Repeat.TheVariants.{Sent as SentAgain, GivenUp}
 use Rattle.endpoint_names.specs.Route.{at}
-use Rattle.outbound.specs.Flight.{InFlight, sent_to, sent_first, repeat_of, repeated}
-use Rattle.restart.specs.Restarting.{begun}
+use Rattle.retransmission.specs.Flight.{InFlight, sent_to, sent_first, repeat_of, repeated}
+use Rattle.retransmission.specs.Restarting.{begun}
 use Rattle.small_rules.specs.Numbering.{next_number}
 pub use Rattle.small_rules.specs.Numbering.{numbers}
 use Rattle.plain_machine.specs.declared.post.Post.{Post}

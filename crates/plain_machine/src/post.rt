@@ -2,8 +2,7 @@
 
 use crate::command_number::CommandNumber;
 use endpoint_names::Entity;
-use outbound::Pending;
-use restart::Restart;
+use retransmission::{Pending, Restart};
 
 /// What a line, or the gateway itself, sends its commands under.
 #[derive(Drop)]

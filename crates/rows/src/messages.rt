@@ -14,7 +14,7 @@ use crate::keeping::Kept;
 use crate::values::names::route_to;
 use mg_bytes::{OutOfMemory, boxed};
 use mgcp_text::TransactionId;
-use outbound::{Pending, Repeat, Reply};
+use retransmission::{Pending, Repeat, Reply};
 use scenario_files::{Outcome, Row, Scenario, said, value_of};
 use std::alloc::Global;
 

@@ -8,7 +8,7 @@ ghost use Rattle.std.specs.Prelude.{◌<◌, ◌^◌};
 
 use crate::keeping::Kept;
 use mg_bytes::OutOfMemory;
-use restart::Restart;
+use retransmission::Restart;
 use scenario_files::{Row, Scenario};
 use std::alloc::Global;
 

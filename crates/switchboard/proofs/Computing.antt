@@ -1,6 +1,6 @@
 -- The definitions opened, so that worked examples compute.
 use Rattle.std.specs.Prelude.{⊤}
-use Rattle.outbound.proofs.Computing.{on_examples as send_examples}
+use Rattle.retransmission.proofs.Computing.{on_examples as send_examples}
 use Rattle.call_office.proofs.Computing.{on_examples as office_examples}
 use Rattle.switchboard.specs.Ended.{ended_of}
 use Rattle.switchboard.specs.Flights.{falls}

@@ -6,11 +6,11 @@ use Rattle.std.proofs.lemmas.List.{length-take}
 use Rattle.std.specs.declared.net.socket_addr.SocketAddrV4.{SocketAddrV4}
 use Rattle.endpoint_names.specs.declared.route.Route.{Route}
 use Rattle.call_agent.specs.AgentStands.{AgentState, AgentStays}
-use Rattle.outbound.specs.declared.repeat.Repeat.{Repeat}
-use Rattle.outbound.specs.declared.repeat.Repeat.TheVariants.{Sent, GivenUp}
-use Rattle.outbound.specs.declared.reply.Reply.{Reply}
-use Rattle.outbound.specs.declared.reply.Reply.TheVariants.{Answered, Provisional, Stranger}
-use Rattle.outbound.specs.Flight.{InFlight, sent_first, repeat_of, again_as, repeated, reply_by, reply_of, heard_as, heard}
+use Rattle.retransmission.specs.declared.repeat.Repeat.{Repeat}
+use Rattle.retransmission.specs.declared.repeat.Repeat.TheVariants.{Sent, GivenUp}
+use Rattle.retransmission.specs.declared.reply.Reply.{Reply}
+use Rattle.retransmission.specs.declared.reply.Reply.TheVariants.{Answered, Provisional, Stranger}
+use Rattle.retransmission.specs.Flight.{InFlight, sent_first, repeat_of, again_as, repeated, reply_by, reply_of, heard_as, heard}
 
 pub as_it_was : (a : AgentState) → AgentStays a a
 as_it_was a = record { setup = refl; stands = λ before stands. stands }

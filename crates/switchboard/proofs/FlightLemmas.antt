@@ -1,7 +1,7 @@
 -- What falls due of a command, step by step.
 use Rattle.std.proofs.Common.{◌≡◌, ℕ, suc, zero, true, false, Some, None, sym, ap, ◌∙◌}
-use Rattle.outbound.specs.declared.repeat.Repeat.TheVariants.{Sent, GivenUp}
-use Rattle.outbound.specs.Flight.{InFlight}
+use Rattle.retransmission.specs.declared.repeat.Repeat.TheVariants.{Sent, GivenUp}
+use Rattle.retransmission.specs.Flight.{InFlight}
 use Rattle.switchboard.specs.Flights.{fallen, behind, goes_on, falls}
 
 pub fell_on : (steps left : ℕ) (message : InFlight) (moment : ℕ) → steps ≡ suc left → fallen message moment ≡ Some Sent

@@ -4,7 +4,7 @@ use Rattle.std.specs.Prelude.{is_none, slice_get}
 use Rattle.gateway_rules.specs.declared.refusal.Refusal.{Refusal}
 use Rattle.plain_machine.specs.Event.{tick}
 use Rattle.plain_machine.specs.Refusing.{ends, tick_refusal}
-use Rattle.outbound.specs.Flight.{InFlight}
+use Rattle.retransmission.specs.Flight.{InFlight}
 use Rattle.call_agent.specs.Agent.{AgentMachine}
 use Rattle.call_agent.specs.Flying.{first_flight, if_due}
 use Rattle.call_agent.specs.Hearing.{AgentEnds}

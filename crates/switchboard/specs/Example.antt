@@ -2,7 +2,7 @@
 use Rattle.std.specs.Prelude.{◌≡◌, ℕ, codes, List, Some}
 use Rattle.endpoint_names.specs.declared.route.Route.TheVariants.{One}
 use Rattle.endpoint_names.specs.RouteExample.{agent_at}
-use Rattle.outbound.specs.Flight.{InFlight, sent_first}
+use Rattle.retransmission.specs.Flight.{InFlight, sent_first}
 use Rattle.call_agent.specs.AgentStands.{AgentStands}
 use Rattle.call_agent.specs.Hearing.{AgentEvent, plain_agent}
 use Rattle.switchboard.specs.declared.flight.Flight.{Flight}

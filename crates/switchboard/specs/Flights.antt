@@ -1,10 +1,10 @@
 -- How a command in flight ends, by the rules by which an agent keeps it (RFC 3435, 3.5.3 and 4.3).
 use Rattle.std.specs.Prelude.{ℕ, zero, suc, ◌&&◌, ◌^◌, nat_le, nat_lt, Bool, true, false, if◌then◌else◌, Option, Some, None}
-use Rattle.outbound.specs.declared.repeat.Repeat.{Repeat}
-use Rattle.outbound.specs.declared.repeat.Repeat.TheVariants.{Sent, GivenUp}
-use Rattle.outbound.specs.declared.reply.Reply.{Reply}
-use Rattle.outbound.specs.declared.reply.Reply.TheVariants.{Answered, Provisional, Stranger}
-use Rattle.outbound.specs.Flight.{InFlight, repeat_of, repeated, reply_of, heard}
+use Rattle.retransmission.specs.declared.repeat.Repeat.{Repeat}
+use Rattle.retransmission.specs.declared.repeat.Repeat.TheVariants.{Sent, GivenUp}
+use Rattle.retransmission.specs.declared.reply.Reply.{Reply}
+use Rattle.retransmission.specs.declared.reply.Reply.TheVariants.{Answered, Provisional, Stranger}
+use Rattle.retransmission.specs.Flight.{InFlight, repeat_of, repeated, reply_of, heard}
 
 -- moments are below this, in ms
 abbrev pub end_of_time : ℕ

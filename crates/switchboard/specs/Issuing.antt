@@ -2,7 +2,7 @@
 use Rattle.std.specs.Prelude.{◌≡◌, ◌⊎◌, ℕ, List, [], ◌∷◌, ◌++◌, Option, Some, None, IsSomeAnd, Result, Ok, Err, slice_get, take}
 use Rattle.std.specs.Global.{Box}
 use Rattle.endpoint_names.specs.declared.route.Route.TheVariants.{One}
-use Rattle.outbound.specs.Flight.{sent_first}
+use Rattle.retransmission.specs.Flight.{sent_first}
 use Rattle.transmission.specs.Texts.{largest_datagram}
 use Rattle.call_agent.specs.declared.issuing.Issued.{Issued}
 use Rattle.call_agent.specs.declared.issuing.IssueFault.{IssueFault}

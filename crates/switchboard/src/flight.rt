@@ -6,7 +6,7 @@ ghost use Rattle.switchboard.specs.Flights.{most_steps, fallen, behind, falls, o
 use crate::own_copy::{END_OF_TIME, OwnCopy, Room};
 use call_agent::Issued;
 use mgcp_text::TransactionId;
-use outbound::{Repeat, Reply};
+use retransmission::{Repeat, Reply};
 
 // A command is repeated less often than this, and then given up.
 const MOST_STEPS: u8 = 8;

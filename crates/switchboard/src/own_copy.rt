@@ -2,14 +2,14 @@
 ghost use Rattle.std.specs.Prelude.{◌≡◌, ◌<◌, ◌≤◌, ◌^◌, [], IfOk, length, take};
 ghost use Rattle.std.specs.Vec.{vec_capacity};
 ghost use Rattle.endpoint_names.specs.declared.route.Route.TheVariants.{One};
-ghost use Rattle.outbound.specs.Flight.{sent_to, sent_first, repeat_of, repeated, reply_of, heard};
+ghost use Rattle.retransmission.specs.Flight.{sent_to, sent_first, repeat_of, repeated, reply_of, heard};
 ghost use Rattle.transmission.specs.Texts.{largest_datagram};
 
 use call_agent::Issued;
 use endpoint_names::Route;
 use mg_bytes::{OutOfMemory, Text};
 use mgcp_text::TransactionId;
-use outbound::{Pending, Repeat, Reply};
+use retransmission::{Pending, Repeat, Reply};
 use std::alloc::{AllocError, Global};
 use std::marker::Model;
 use std::net::SocketAddrV4;
@@ -18,18 +18,18 @@ use transmission::LARGEST_DATAGRAM;
 /// Moments are below this (in ms), as those of an agent are.
 pub(crate) const END_OF_TIME: u64 = 1 << 62;
 
-/// A command that an agent has in flight, as the desk keeps it beside the agent: by the same rules. A contract sees what `outbound` has of
+/// A command that an agent has in flight, as the desk keeps it beside the agent: by the same rules. A contract sees what `retransmission` has of
 /// one.
 #[derive(Drop)]
 pub(crate) struct OwnCopy {
-    // Its moments, by the rules of `outbound`. The id and the text that this has are of no command.
+    // Its moments, by the rules of `retransmission`. The id and the text that this has are of no command.
     timing: Pending,
     id: u32,
     text: Text,
 }
 
 impl Model for OwnCopy {
-    ghost use Rattle.outbound.specs.Flight.{InFlight};
+    ghost use Rattle.retransmission.specs.Flight.{InFlight};
 
     ghost Value = { InFlight };
 
@@ -47,7 +47,7 @@ pub(crate) struct Room {
 impl Model for Room {
     ghost use Rattle.std.specs.Prelude.{◌≡◌, ◌≤◌, []};
     ghost use Rattle.std.specs.Vec.{vec_capacity};
-    ghost use Rattle.outbound.specs.Flight.{InFlight};
+    ghost use Rattle.retransmission.specs.Flight.{InFlight};
     ghost use Rattle.transmission.specs.Texts.{largest_datagram};
 
     ghost Value = { InFlight };

@@ -11,7 +11,7 @@ ghost use Rattle.call_office.specs.declared.care.Duty.TheVariants.{Audit};
 ghost use Rattle.call_office.specs.declared.care.Duty.TheVariants as duties;
 ghost use Rattle.switchboard.specs.declared.flight.Flight.{Flight};
 ghost use Rattle.endpoint_names.specs.declared.route.Route.TheVariants as routes;
-ghost use Rattle.outbound.specs.Flight.{InFlight, sent_first};
+ghost use Rattle.retransmission.specs.Flight.{InFlight, sent_first};
 ghost use Rattle.transmission.specs.Texts.{largest_datagram};
 ghost use Rattle.call_agent.specs.declared.issuing.Issued.{Issued};
 ghost use Rattle.call_agent.specs.declared.issuing.IssueFault.{IssueFault};

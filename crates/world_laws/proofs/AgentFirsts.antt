@@ -18,9 +18,9 @@ use Rattle.transmission.specs.Looking.{Looked, new, repeat, confirmed, full, loo
 use Rattle.transmission.specs.Recalling.{Remembers}
 use Rattle.transmission.proofs.RecallLaws.{recalls_itself}
 use Rattle.transmission.proofs.EntryLaws.{remembers_tells}
-use Rattle.outbound.specs.declared.reply.Reply.{Reply}
-use Rattle.outbound.specs.declared.reply.Reply.TheVariants.{Answered, Provisional, Stranger}
-use Rattle.outbound.specs.Flight.{InFlight, reply_of, heard}
+use Rattle.retransmission.specs.declared.reply.Reply.{Reply}
+use Rattle.retransmission.specs.declared.reply.Reply.TheVariants.{Answered, Provisional, Stranger}
+use Rattle.retransmission.specs.Flight.{InFlight, reply_of, heard}
 use Rattle.plain_machine.specs.Event.{datagram, phone, tick, GatewayEvent}
 use Rattle.transmission.specs.Texts.{texts_of}
 use Rattle.plain_machine.specs.Arriving.{arrival, TextArrival, arrivals_of}

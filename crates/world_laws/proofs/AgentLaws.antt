@@ -26,12 +26,12 @@ use Rattle.machine_laws.proofs.GatewayEvents.{repeat_gives, tells_on, firsts_app
 use Rattle.transmission.specs.Memory.{most_firsts}
 use Rattle.transmission.specs.Looking.{Looked, new, repeat, confirmed, full, look_of}
 use Rattle.endpoint_names.specs.declared.route.Route.TheVariants.{One}
-use Rattle.outbound.specs.declared.repeat.Repeat.{Repeat}
-use Rattle.outbound.specs.declared.repeat.Repeat.TheVariants.{Sent as SentAgain, GivenUp}
-use Rattle.outbound.specs.declared.reply.Reply.{Reply}
-use Rattle.outbound.specs.declared.reply.Reply.TheVariants.{Answered, Provisional, Stranger}
-use Rattle.outbound.specs.Flight.{InFlight, sent_first, repeat_of, repeated, reply_of, heard}
-use Rattle.outbound.proofs.LifeLaws.{repeat_same, reply_same, sent_later, held_later, sent_soon}
+use Rattle.retransmission.specs.declared.repeat.Repeat.{Repeat}
+use Rattle.retransmission.specs.declared.repeat.Repeat.TheVariants.{Sent as SentAgain, GivenUp}
+use Rattle.retransmission.specs.declared.reply.Reply.{Reply}
+use Rattle.retransmission.specs.declared.reply.Reply.TheVariants.{Answered, Provisional, Stranger}
+use Rattle.retransmission.specs.Flight.{InFlight, sent_first, repeat_of, repeated, reply_of, heard}
+use Rattle.retransmission.proofs.LifeLaws.{repeat_same, reply_same, sent_later, held_later, sent_soon}
 use Rattle.transmission.specs.declared.output.OutDatagram.{OutDatagram}
 use Rattle.transmission.specs.Acknowledging.{asks_for_acknowledgement, acknowledgement_text, acknowledgements}
 use Rattle.plain_machine.specs.Refusing.{tick_refusal}
@@ -39,7 +39,7 @@ use Rattle.transmission.specs.Texts.{largest_datagram, texts_of}
 use Rattle.plain_machine.specs.Event.{datagram, phone, tick}
 use Rattle.machine_laws.proofs.EachLemmas.{Each, all_from_each, each_both, each_push, each_weaker, one_before, one_behind, one_of_each, one_to, one_weaker}
 use Rattle.machine_laws.proofs.FlightLemmas.{IsSame}
-use Rattle.outbound.specs.Issued.{is_command_as}
+use Rattle.retransmission.specs.Issued.{is_command_as}
 use Rattle.plain_machine.specs.Message.{Begun}
 use Rattle.machine_laws.specs.Saying.{Gives, Carries, IsAnswerTo, OneOf, Tells}
 use Rattle.transmission.specs.Transacting.{message_to}
@@ -51,7 +51,7 @@ use Rattle.call_agent.specs.Taking.{GatewayCommand, answer_to, code_for, command
 use Rattle.call_agent.specs.Issuing.{IssueRefusal, bad_command, command_text, greatest_id, is_good, issue_refusal, issued, no_more_ids}
 use Rattle.call_agent.specs.Responding.{replied, responded, responded_to}
 use Rattle.call_agent.proofs.EventLemmas.{agent_clock, tick_forward}
-use Rattle.outbound.specs.Sends.{sending_time}
+use Rattle.retransmission.specs.Sends.{sending_time}
 use Rattle.machine_laws.proofs.MessageLaws.{code_is, code_short}
 
 -- a text that goes out

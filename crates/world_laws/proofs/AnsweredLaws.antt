@@ -12,9 +12,9 @@ use Rattle.mgcp_text.specs.declared.message.Param.{Param}
 use Rattle.mgcp_text.specs.declared.message.Message.TheVariants as messages
 use Rattle.mgcp_text.specs.Reading.{Outcome, message, read_text}
 use Rattle.mg_line.specs.Answering.{answered}
-use Rattle.outbound.specs.Flight.{InFlight}
-use Rattle.restart.specs.declared.restart.Restart.TheVariants.{Serving}
-use Rattle.restart.specs.declared.heard.Heard.{Heard}
+use Rattle.retransmission.specs.Flight.{InFlight}
+use Rattle.retransmission.specs.declared.restart.Restart.TheVariants.{Serving}
+use Rattle.retransmission.specs.declared.heard.Heard.{Heard}
 use Rattle.transmission.specs.Texts.{texts_of, largest_datagram}
 use Rattle.plain_machine.specs.declared.response.Response.{Response}
 use Rattle.plain_machine.specs.declared.setup.Setup.{Setup}

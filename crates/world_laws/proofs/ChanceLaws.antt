@@ -12,8 +12,8 @@ use Rattle.machine_laws.proofs.EachLemmas.{each_from_all, one_of_each, one_to, o
 use Rattle.world_laws.proofs.LookLemmas.{one_unflat, each_two, one_beyond}
 use Rattle.std.specs.declared.net.socket_addr.SocketAddrV4.{SocketAddrV4}
 use Rattle.mgcp_text.specs.Reading.{read_text}
-use Rattle.outbound.specs.Sends.{most_repeats}
-use Rattle.outbound.specs.Flight.{InFlight}
+use Rattle.retransmission.specs.Sends.{most_repeats}
+use Rattle.retransmission.specs.Flight.{InFlight}
 use Rattle.transmission.specs.Transacting.{message_to}
 use Rattle.endpoint_names.specs.Route.{at}
 use Rattle.plain_machine.specs.declared.setup.Setup.{Setup}

@@ -2,7 +2,7 @@
 use Rattle.std.proofs.Common.{◌≡◌, ◌≢◌, ℕ, Bool, true, false, ◌==◌, if◌then◌else◌, List, [], ◌∷◌, Some, inl, inr, refl, sym, ◌∙◌, zero, suc, ◌+◌, ◌-◌, ◌*◌, ◌<◌, ◌≤◌, ◌++◌, length, Option, None, ap, subst, arith}
 use Rattle.std.specs.Prelude.{◌⊎◌, IfSome, find, nat_le}
 use Rattle.std.proofs.lemmas.Bool.{eqb-true, eqb-false, leb-true, leb-false}
-use Rattle.outbound.specs.Flight.{InFlight, sent_to, repeat_of, repeated}
+use Rattle.retransmission.specs.Flight.{InFlight, sent_to, repeat_of, repeated}
 use Rattle.machine_laws.specs.Saying.{OneOf}
 use Rattle.machine_laws.proofs.EachLemmas.{Each, each_weaker, one_behind, one_of_each, one_to}
 use Rattle.call_agent.specs.Flying.{has_id, with_flight, without_flight, Flown, afterwards, first_flight, flown_on, fly_on, if_due, pass, passed, sooner}
@@ -11,10 +11,10 @@ use Rattle.std.proofs.lemmas.Option.{none-some}
 use Rattle.std.specs.declared.net.socket_addr.SocketAddrV4.{SocketAddrV4}
 use Rattle.endpoint_names.specs.declared.route.Route.TheVariants.{One}
 use Rattle.endpoint_names.specs.Route.{at}
-use Rattle.outbound.specs.declared.repeat.Repeat.{Repeat}
-use Rattle.outbound.specs.declared.repeat.Repeat.TheVariants.{Sent as SentAgain, GivenUp}
-use Rattle.outbound.specs.Sends.{most_repeats, sending_time, wait_after}
-use Rattle.outbound.proofs.LifeLaws.{repeat_same}
+use Rattle.retransmission.specs.declared.repeat.Repeat.{Repeat}
+use Rattle.retransmission.specs.declared.repeat.Repeat.TheVariants.{Sent as SentAgain, GivenUp}
+use Rattle.retransmission.specs.Sends.{most_repeats, sending_time, wait_after}
+use Rattle.retransmission.proofs.LifeLaws.{repeat_same}
 use Rattle.transmission.specs.declared.output.OutDatagram.{OutDatagram}
 use Rattle.transmission.specs.Transacting.{message_to}
 use Rattle.plain_machine.specs.Message.{Begun}

@@ -8,14 +8,14 @@ use Rattle.mg_line.specs.Acting.{phoned}
 use Rattle.mg_line.specs.Answering.{answered}
 use Rattle.mg_line.specs.Opening.{opened}
 use Rattle.mg_line.specs.Falling.{fired}
-use Rattle.outbound.specs.declared.repeat.Repeat.{Repeat}
-use Rattle.outbound.specs.declared.repeat.Repeat.TheVariants.{Sent as SentAgain, GivenUp}
-use Rattle.outbound.specs.Flight.{InFlight, heard, repeat_of, repeated, reply_of}
-use Rattle.outbound.proofs.LifeLaws.{repeat_same, reply_same}
-use Rattle.restart.specs.declared.restart.Restart.{Restart}
-use Rattle.restart.specs.declared.restart.Restart.TheVariants.{Waiting, Announced, Serving}
-use Rattle.restart.specs.declared.heard.Heard.{Heard}
-use Rattle.restart.specs.declared.heard.Heard.TheVariants.{Nothing, PutOff, Redirected, Answered}
+use Rattle.retransmission.specs.declared.repeat.Repeat.{Repeat}
+use Rattle.retransmission.specs.declared.repeat.Repeat.TheVariants.{Sent as SentAgain, GivenUp}
+use Rattle.retransmission.specs.Flight.{InFlight, heard, repeat_of, repeated, reply_of}
+use Rattle.retransmission.proofs.LifeLaws.{repeat_same, reply_same}
+use Rattle.retransmission.specs.declared.restart.Restart.{Restart}
+use Rattle.retransmission.specs.declared.restart.Restart.TheVariants.{Waiting, Announced, Serving}
+use Rattle.retransmission.specs.declared.heard.Heard.{Heard}
+use Rattle.retransmission.specs.declared.heard.Heard.TheVariants.{Nothing, PutOff, Redirected, Answered}
 use Rattle.timers.specs.declared.kind.DueKind.{DueKind}
 use Rattle.timers.specs.declared.kind.DueKind.TheVariants.{OfLine, Resend, Announce}
 use Rattle.command_forms.specs.declared.forms.Deed.{Deed}
@@ -44,10 +44,10 @@ use Rattle.mg_line.specs.State.{State}
 use Rattle.mg_line.specs.State.TheVariants.{Notification}
 use Rattle.mg_line.specs.Laws.{AwaitsIfNotified}
 use Rattle.mg_line.proofs.OnceLemmas.{notifies_once}
-use Rattle.outbound.specs.declared.reply.Reply.{Reply}
-use Rattle.outbound.specs.declared.reply.Reply.TheVariants as replies
-use Rattle.outbound.specs.declared.reply.Reply.TheVariants.{Provisional, Stranger}
-use Rattle.restart.specs.Restarting.{is_serving, heard_of}
+use Rattle.retransmission.specs.declared.reply.Reply.{Reply}
+use Rattle.retransmission.specs.declared.reply.Reply.TheVariants as replies
+use Rattle.retransmission.specs.declared.reply.Reply.TheVariants.{Provisional, Stranger}
+use Rattle.retransmission.specs.Restarting.{is_serving, heard_of}
 use Rattle.plain_machine.specs.Flights.{IsClosed}
 use Rattle.world_laws.proofs.LinkLaws.{final_is}
 

@@ -14,7 +14,7 @@ use Rattle.transmission.specs.Texts.{texts_of}
 use Rattle.plain_machine.specs.declared.setup.Setup.{Setup}
 use Rattle.plain_machine.specs.Arriving.{arrivals_of}
 use Rattle.plain_machine.specs.Setup.{IsSetUp}
-use Rattle.outbound.specs.Issued.{is_command_as}
+use Rattle.retransmission.specs.Issued.{is_command_as}
 use Rattle.plain_machine.specs.Message.{Begun}
 use Rattle.machine_laws.specs.Saying.{Gives, Carries, IsAnswerTo, OneOf, Tells}
 use Rattle.machine_laws.proofs.EachLemmas.{Each, any_from_one, each_at, each_from_all, is_none-None, one_from_any, one_mapped, one_of_each, one_to, one_unmapped, one_weaker}

@@ -12,10 +12,10 @@ use Rattle.transmission.specs.declared.entry.KeptFirst.{KeptFirst}
 use Rattle.transmission.specs.Memory.{most_firsts}
 use Rattle.transmission.specs.Kept.{firsts_in}
 use Rattle.transmission.specs.Looking.{Looked, new, repeat, confirmed, full, look_of}
-use Rattle.outbound.specs.declared.reply.Reply.{Reply}
-use Rattle.outbound.specs.declared.reply.Reply.TheVariants.{Answered, Provisional, Stranger}
-use Rattle.outbound.specs.Flight.{InFlight, reply_by, reply_of, heard}
-use Rattle.outbound.proofs.LifeLaws.{reply_same}
+use Rattle.retransmission.specs.declared.reply.Reply.{Reply}
+use Rattle.retransmission.specs.declared.reply.Reply.TheVariants.{Answered, Provisional, Stranger}
+use Rattle.retransmission.specs.Flight.{InFlight, reply_by, reply_of, heard}
+use Rattle.retransmission.proofs.LifeLaws.{reply_same}
 use Rattle.transmission.specs.declared.output.OutDatagram.{OutDatagram}
 use Rattle.endpoint_names.specs.Route.{at}
 use Rattle.plain_machine.specs.Setup.{IsSetUp}

@@ -19,13 +19,13 @@ use Rattle.transmission.specs.Memory.{most_firsts}
 use Rattle.transmission.specs.Kept.{first_entry, firsts_in, young_firsts}
 use Rattle.transmission.specs.Looking.{Found, Looked, confirmed, confirms, full, latest, look_of, new, recalled_from, repeat, told_by}
 use Rattle.transmission.proofs.CountLaws.{firsts_in-append}
-use Rattle.outbound.specs.declared.reply.Reply.{Reply}
-use Rattle.outbound.specs.declared.reply.Reply.TheVariants.{Answered, Provisional, Stranger}
-use Rattle.outbound.specs.Flight.{InFlight, reply_of, heard}
+use Rattle.retransmission.specs.declared.reply.Reply.{Reply}
+use Rattle.retransmission.specs.declared.reply.Reply.TheVariants.{Answered, Provisional, Stranger}
+use Rattle.retransmission.specs.Flight.{InFlight, reply_of, heard}
 use Rattle.transmission.specs.declared.output.OutDatagram.{OutDatagram}
 use Rattle.transmission.specs.Confirming.{spans_of}
 use Rattle.transmission.specs.Transacting.{message_to}
-use Rattle.outbound.specs.Issued.{is_command_as}
+use Rattle.retransmission.specs.Issued.{is_command_as}
 use Rattle.machine_laws.proofs.GatewayEvents.{IsAnsweredBy}
 use Rattle.call_agent.specs.declared.setup.AgentSetup.{AgentSetup}
 use Rattle.call_agent.specs.Agent.{AgentMachine}

@@ -1,7 +1,7 @@
 -- A line's commands are numbered in turn, and so does each turn of the line leave them.
 use Rattle.std.proofs.Common.{◌≡◌, ℕ, ◌≤◌, Bool, true, false, List, [], ◌∷◌, ◌++◌, Option, Some, None, refl, sym, ap, ◌∙◌, subst, append-nil, append_assoc, ◌+◌, ◌<◌, ◌==◌, if◌then◌else◌, inl, inr, arith}
-use Rattle.outbound.specs.Flight.{InFlight, repeat_of}
-use Rattle.restart.specs.declared.restart.Restart.TheVariants.{Serving, Waiting, Announced}
+use Rattle.retransmission.specs.Flight.{InFlight, repeat_of}
+use Rattle.retransmission.specs.declared.restart.Restart.TheVariants.{Serving, Waiting, Announced}
 use Rattle.plain_machine.specs.declared.response.Response.{Response}
 use Rattle.plain_machine.specs.declared.setup.Setup.{Setup}
 use Rattle.plain_machine.specs.declared.endpoint.Endpoint.{Endpoint}
@@ -32,11 +32,11 @@ use Rattle.mg_line.specs.Acting.{phoned}
 use Rattle.mg_line.specs.Answering.{answered}
 use Rattle.mg_line.specs.Opening.{opened}
 use Rattle.mg_line.specs.Falling.{fired}
-use Rattle.outbound.specs.declared.repeat.Repeat.{Repeat}
-use Rattle.outbound.specs.declared.repeat.Repeat.TheVariants.{Sent as SentAgain, GivenUp}
-use Rattle.restart.specs.declared.restart.Restart.{Restart}
-use Rattle.restart.specs.declared.heard.Heard.{Heard}
-use Rattle.restart.specs.declared.heard.Heard.TheVariants.{Nothing, PutOff, Redirected, Answered}
+use Rattle.retransmission.specs.declared.repeat.Repeat.{Repeat}
+use Rattle.retransmission.specs.declared.repeat.Repeat.TheVariants.{Sent as SentAgain, GivenUp}
+use Rattle.retransmission.specs.declared.restart.Restart.{Restart}
+use Rattle.retransmission.specs.declared.heard.Heard.{Heard}
+use Rattle.retransmission.specs.declared.heard.Heard.TheVariants.{Nothing, PutOff, Redirected, Answered}
 use Rattle.timers.specs.declared.kind.DueKind.{DueKind}
 use Rattle.timers.specs.declared.kind.DueKind.TheVariants.{OfLine, Resend, Announce}
 use Rattle.command_forms.specs.declared.forms.Deed.{Deed}

@@ -9,9 +9,9 @@ use Rattle.mg_line.specs.State.TheVariants.{Notification}
 use Rattle.mg_line.specs.Line.{LineDone, Notice}
 use Rattle.mg_line.specs.Laws.{AwaitsIfNotified}
 use Rattle.mg_line.proofs.OnceLemmas.{notifies_once}
-use Rattle.outbound.specs.Flight.{InFlight, repeat_of, repeated, reply_by, reply_of, heard, heard_as, sent_first}
-use Rattle.restart.specs.declared.restart.Restart.{Restart}
-use Rattle.restart.specs.declared.restart.Restart.TheVariants.{Waiting, Announced, Serving}
+use Rattle.retransmission.specs.Flight.{InFlight, repeat_of, repeated, reply_by, reply_of, heard, heard_as, sent_first}
+use Rattle.retransmission.specs.declared.restart.Restart.{Restart}
+use Rattle.retransmission.specs.declared.restart.Restart.TheVariants.{Waiting, Announced, Serving}
 use Rattle.plain_machine.specs.declared.setup.Setup.{Setup}
 use Rattle.plain_machine.specs.declared.endpoint.Endpoint.{Endpoint}
 use Rattle.plain_machine.specs.Effect.{silently, Effect}
@@ -29,16 +29,16 @@ use Rattle.mg_line.specs.Acting.{phoned}
 use Rattle.mg_line.specs.Answering.{answered}
 use Rattle.mg_line.specs.Opening.{opened}
 use Rattle.mg_line.specs.Falling.{fired}
-use Rattle.outbound.specs.declared.repeat.Repeat.{Repeat}
-use Rattle.outbound.specs.declared.repeat.Repeat.TheVariants.{Sent as SentAgain, GivenUp}
-use Rattle.outbound.specs.declared.reply.Reply.{Reply}
-use Rattle.outbound.specs.declared.reply.Reply.TheVariants as replies
-use Rattle.outbound.specs.declared.reply.Reply.TheVariants.{Provisional, Stranger}
-use Rattle.outbound.specs.Sends.{most_repeats, sending_time, wait_after}
-use Rattle.outbound.proofs.LifeLaws.{repeat_same, reply_same}
-use Rattle.restart.specs.declared.heard.Heard.{Heard}
-use Rattle.restart.specs.declared.heard.Heard.TheVariants.{Nothing, PutOff, Redirected, Answered}
-use Rattle.restart.specs.Restarting.{heard_of}
+use Rattle.retransmission.specs.declared.repeat.Repeat.{Repeat}
+use Rattle.retransmission.specs.declared.repeat.Repeat.TheVariants.{Sent as SentAgain, GivenUp}
+use Rattle.retransmission.specs.declared.reply.Reply.{Reply}
+use Rattle.retransmission.specs.declared.reply.Reply.TheVariants as replies
+use Rattle.retransmission.specs.declared.reply.Reply.TheVariants.{Provisional, Stranger}
+use Rattle.retransmission.specs.Sends.{most_repeats, sending_time, wait_after}
+use Rattle.retransmission.proofs.LifeLaws.{repeat_same, reply_same}
+use Rattle.retransmission.specs.declared.heard.Heard.{Heard}
+use Rattle.retransmission.specs.declared.heard.Heard.TheVariants.{Nothing, PutOff, Redirected, Answered}
+use Rattle.retransmission.specs.Restarting.{heard_of}
 use Rattle.timers.specs.declared.due_item.DueItem.{DueItem}
 use Rattle.timers.specs.declared.kind.DueKind.TheVariants.{OfLine}
 use Rattle.timers.specs.declared.kind.LineDue.{LineDue}

@@ -4,8 +4,8 @@ use Rattle.std.specs.Prelude.{◌⊎◌, All, IfSome, filter, nat_le, option_and
 use Rattle.std.proofs.lemmas.Bool.{leb-true, leb-false}
 use Rattle.mgcp_text.specs.declared.message.Message.TheVariants as messages
 use Rattle.mgcp_text.specs.Reading.{Outcome, message, no_header, bad_version, bad_body}
-use Rattle.outbound.specs.Sends.{most_repeats}
-use Rattle.outbound.specs.Flight.{InFlight}
+use Rattle.retransmission.specs.Sends.{most_repeats}
+use Rattle.retransmission.specs.Flight.{InFlight}
 use Rattle.transmission.specs.Texts.{texts_of}
 use Rattle.plain_machine.specs.declared.response.Response.{Response}
 use Rattle.plain_machine.specs.declared.setup.Setup.{Setup}

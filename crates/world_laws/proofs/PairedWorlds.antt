@@ -15,7 +15,7 @@ use Rattle.machine_laws.proofs.EachLemmas.{Each}
 use Rattle.world_laws.specs.Reached.{Reached, added_by, as_arrival, executed_with}
 use Rattle.std.specs.List.{list_any, slice_index_or}
 use Rattle.mgcp_text.specs.declared.message.Message.TheVariants as messages
-use Rattle.restart.specs.Restarting.{is_serving}
+use Rattle.retransmission.specs.Restarting.{is_serving}
 use Rattle.plain_machine.specs.declared.post.Post.{Post}
 use Rattle.world_laws.proofs.LinkLaws.{Rises}
 use Rattle.world_laws.proofs.ReachedLaws.{Apart}

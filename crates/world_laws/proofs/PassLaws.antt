@@ -2,11 +2,11 @@
 use Rattle.std.proofs.Common.{◌≡◌, ◌≢◌, ℕ, zero, suc, ◌+◌, ◌-◌, ◌*◌, ◌<◌, ◌≤◌, Bool, true, false, ◌==◌, if◌then◌else◌, List, [], ◌∷◌, ◌++◌, length, Option, Some, None, refl, sym, ap, ◌∙◌, subst, inl, inr, arith, ◌&&◌}
 use Rattle.std.specs.Prelude.{◌⊎◌, nat_le, nat_lt, unwrap_or}
 use Rattle.std.proofs.lemmas.Bool.{and_parts, ltb-true, eqb-true, eqb-false, leb-true, leb-false, ltb-false}
-use Rattle.outbound.specs.declared.repeat.Repeat.{Repeat}
-use Rattle.outbound.specs.declared.repeat.Repeat.TheVariants.{Sent as SentAgain, GivenUp}
-use Rattle.outbound.specs.Sends.{may_repeat, most_repeats, sending_time, wait_after}
-use Rattle.outbound.specs.Flight.{InFlight, repeat_of, repeated, again_as}
-use Rattle.outbound.proofs.LifeLaws.{repeat_same}
+use Rattle.retransmission.specs.declared.repeat.Repeat.{Repeat}
+use Rattle.retransmission.specs.declared.repeat.Repeat.TheVariants.{Sent as SentAgain, GivenUp}
+use Rattle.retransmission.specs.Sends.{may_repeat, most_repeats, sending_time, wait_after}
+use Rattle.retransmission.specs.Flight.{InFlight, repeat_of, repeated, again_as}
+use Rattle.retransmission.proofs.LifeLaws.{repeat_same}
 use Rattle.machine_laws.specs.Saying.{OneOf}
 use Rattle.machine_laws.proofs.EachLemmas.{Each, one_of_each, one_to}
 use Rattle.call_agent.specs.declared.setup.AgentSetup.{AgentSetup}

@@ -19,7 +19,7 @@ use Rattle.plain_machine.specs.Arriving.{TextArrival, arrival, arrivals_from, ar
 use Rattle.plain_machine.specs.Setup.{IsSetUp}
 use Rattle.plain_machine.specs.Event.{datagram, tick}
 use Rattle.machine_laws.proofs.TransactionLaws.{history_is}
-use Rattle.outbound.specs.Issued.{is_command_as}
+use Rattle.retransmission.specs.Issued.{is_command_as}
 use Rattle.plain_machine.specs.Message.{Begun}
 use Rattle.machine_laws.specs.Saying.{Gives, Carries, Tells}
 use Rattle.machine_laws.proofs.EachLemmas.{Each, each_at, each_both, each_weaker, is_none-None, one_of_each, one_to}

@@ -17,12 +17,12 @@ use Rattle.transmission.specs.Kept.{first_entry, firsts_in}
 use Rattle.transmission.specs.Looking.{Looked, new, repeat, confirmed, full, look_of}
 use Rattle.transmission.proofs.CountLaws.{firsts_in-append}
 use Rattle.transmission.proofs.LookLaws.{repeat_kept}
-use Rattle.outbound.specs.declared.reply.Reply.{Reply}
-use Rattle.outbound.specs.declared.reply.Reply.TheVariants.{Answered, Provisional, Stranger}
-use Rattle.outbound.specs.Flight.{InFlight, reply_of, heard, repeat_of, repeated, reply_by}
-use Rattle.outbound.specs.declared.repeat.Repeat.{Repeat}
-use Rattle.outbound.specs.declared.repeat.Repeat.TheVariants.{Sent as SentAgain, GivenUp}
-use Rattle.outbound.proofs.LifeLaws.{repeat_same, reply_same}
+use Rattle.retransmission.specs.declared.reply.Reply.{Reply}
+use Rattle.retransmission.specs.declared.reply.Reply.TheVariants.{Answered, Provisional, Stranger}
+use Rattle.retransmission.specs.Flight.{InFlight, reply_of, heard, repeat_of, repeated, reply_by}
+use Rattle.retransmission.specs.declared.repeat.Repeat.{Repeat}
+use Rattle.retransmission.specs.declared.repeat.Repeat.TheVariants.{Sent as SentAgain, GivenUp}
+use Rattle.retransmission.proofs.LifeLaws.{repeat_same, reply_same}
 use Rattle.transmission.specs.Acknowledging.{acknowledgement_text, asks_for_acknowledgement}
 use Rattle.transmission.specs.Transacting.{message_to}
 use Rattle.transmission.specs.declared.output.OutDatagram.{OutDatagram}
@@ -31,7 +31,7 @@ use Rattle.plain_machine.specs.Event.{datagram, phone, tick}
 use Rattle.machine_laws.proofs.EachLemmas.{Each, each_back, each_both, each_weaker, one_from_any, one_of_each, one_to, one_before, one_behind}
 use Rattle.machine_laws.proofs.FlightLemmas.{IsSame}
 use Rattle.machine_laws.proofs.MessageLaws.{code_is}
-use Rattle.outbound.specs.Issued.{is_command_as}
+use Rattle.retransmission.specs.Issued.{is_command_as}
 use Rattle.plain_machine.specs.Message.{Begun}
 use Rattle.call_agent.specs.declared.setup.AgentSetup.{AgentSetup}
 use Rattle.call_agent.specs.Agent.{AgentMachine, agent_opening, FinalAnswer}

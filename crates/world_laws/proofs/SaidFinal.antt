@@ -31,7 +31,7 @@ use Rattle.plain_machine.specs.Happening.{effect}
 use Rattle.plain_machine.specs.Refusing.{refusal_of}
 use Rattle.plain_machine.proofs.EffectLaws.{handled_now}
 use Rattle.machine_laws.specs.Saying.{acknowledging, Carries, begun_in}
-use Rattle.outbound.specs.Issued.{is_command_as}
+use Rattle.retransmission.specs.Issued.{is_command_as}
 use Rattle.machine_laws.proofs.EachLemmas.{Each, each_both, each_weaker, one_from_any, one_of_each, one_to}
 use Rattle.machine_laws.proofs.GatewayEvents.{EndpointsStand, GatewayHolds, tick_on, IsCommand, flight_later}
 use Rattle.machine_laws.proofs.GatewayTurns.{OwnStands, LineStands, log_turns}

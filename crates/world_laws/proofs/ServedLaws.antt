@@ -28,7 +28,7 @@ use Rattle.plain_machine.specs.Transactions.{commands_in, commands_with, command
 use Rattle.machine_laws.proofs.CommandLaws.{IsOut}
 use Rattle.machine_laws.proofs.MessageLaws.{event_goes}
 use Rattle.machine_laws.proofs.TransactionLaws.{history_is}
-use Rattle.outbound.specs.Issued.{is_command_as}
+use Rattle.retransmission.specs.Issued.{is_command_as}
 use Rattle.machine_laws.specs.Saying.{IsAnswerTo, OneOf}
 use Rattle.machine_laws.proofs.EachLemmas.{all_from_each, any_from_one, each_from_all, each_mapped, one_from_any, one_mapped, one_of_each, one_to, one_weaker}
 use Rattle.machine_laws.proofs.GatewayEvents.{IsAnsweredBy}

@@ -29,10 +29,10 @@ use Rattle.agent_core.specs.declared.packet.End.TheVariants.{AgentEnd as agent_e
 use Rattle.world_laws.proofs.WorldLaws.{gateway_alone}
 use Rattle.world_laws.specs.Copies.{IsCopy, IsPlainAnswer}
 use Rattle.world_laws.specs.OwnChances.{IsResponse}
-use Rattle.outbound.specs.Flight.{InFlight}
-use Rattle.restart.specs.declared.restart.Restart.{Restart}
-use Rattle.restart.specs.declared.restart.Restart.TheVariants.{Waiting, Announced, Serving}
-use Rattle.restart.specs.Restarting.{is_serving}
+use Rattle.retransmission.specs.Flight.{InFlight}
+use Rattle.retransmission.specs.declared.restart.Restart.{Restart}
+use Rattle.retransmission.specs.declared.restart.Restart.TheVariants.{Waiting, Announced, Serving}
+use Rattle.retransmission.specs.Restarting.{is_serving}
 use Rattle.plain_machine.specs.declared.post.Post.{Post}
 use Rattle.plain_machine.specs.declared.response.Response.{Response}
 use Rattle.plain_machine.specs.Announcing.{heard_on}

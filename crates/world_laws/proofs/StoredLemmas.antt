@@ -24,7 +24,7 @@ use Rattle.plain_machine.specs.Answering.{Transaction, command_with, transaction
 use Rattle.plain_machine.specs.Transactions.{command_arrival, arriving, commands_in}
 use Rattle.plain_machine.proofs.EffectLaws.{handled_now}
 use Rattle.machine_laws.proofs.TransactionLaws.{Keeps, one_more, a_first_is_executed, a_repeat_is_answered_again, arrived_on}
-use Rattle.outbound.specs.Issued.{is_command_as}
+use Rattle.retransmission.specs.Issued.{is_command_as}
 use Rattle.machine_laws.specs.Saying.{OneOf}
 use Rattle.machine_laws.proofs.EachLemmas.{any_from_one, one_before, one_behind, one_from_any, Each, each_both, each_weaker, one_weaker}
 use Rattle.world_laws.specs.Copies.{IsConfirmedAmong, HasRoom, IsStored}

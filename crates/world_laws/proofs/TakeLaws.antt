@@ -2,7 +2,7 @@
 use Rattle.std.proofs.Common.{◌≡◌, ◌≢◌, ℕ, suc, ◌+◌, ◌<◌, ◌≤◌, Bool, true, false, not, ◌==◌, if◌then◌else◌, List, [], ◌∷◌, ◌++◌, length, Option, Some, inl, inr, refl, sym, ap, ◌∙◌, subst, arith, map}
 use Rattle.std.specs.Prelude.{◌⊎◌, All, Any, filter, slice_get, unwrap_or}
 use Rattle.std.proofs.lemmas.Bool.{eqb-true, eqb-false}
-use Rattle.outbound.specs.Sends.{most_repeats}
+use Rattle.retransmission.specs.Sends.{most_repeats}
 use Rattle.plain_machine.specs.declared.setup.Setup.{Setup}
 use Rattle.plain_machine.specs.Setup.{IsSetUp}
 use Rattle.plain_machine.specs.Message.{Begun}
@@ -30,7 +30,7 @@ use Rattle.transmission.specs.Transacting.{message_to}
 use Rattle.transmission.proofs.PackingLaws.{IsMessage}
 use Rattle.endpoint_names.specs.Route.{at}
 use Rattle.plain_machine.specs.Event.{datagram}
-use Rattle.outbound.specs.Issued.{is_command_as}
+use Rattle.retransmission.specs.Issued.{is_command_as}
 use Rattle.machine_laws.proofs.PostLogs.{WasBegun}
 use Rattle.machine_laws.proofs.GatewayEvents.{IsAnsweredBy}
 use Rattle.call_agent.specs.Agent.{AgentMachine}

@@ -14,9 +14,9 @@ use Rattle.transmission.specs.Memory.{most_firsts}
 use Rattle.transmission.specs.Kept.{first_entry}
 use Rattle.transmission.specs.Looking.{Looked, new, repeat, confirmed, full, confirms, look_of}
 use Rattle.transmission.specs.Span.{is_named}
-use Rattle.outbound.specs.declared.reply.Reply.{Reply}
-use Rattle.outbound.specs.declared.reply.Reply.TheVariants.{Answered, Provisional, Stranger}
-use Rattle.outbound.specs.Flight.{InFlight, reply_of, heard}
+use Rattle.retransmission.specs.declared.reply.Reply.{Reply}
+use Rattle.retransmission.specs.declared.reply.Reply.TheVariants.{Answered, Provisional, Stranger}
+use Rattle.retransmission.specs.Flight.{InFlight, reply_of, heard}
 use Rattle.transmission.specs.Confirming.{spans_of}
 use Rattle.transmission.specs.Texts.{texts_of}
 use Rattle.plain_machine.specs.declared.setup.Setup.{Setup}

@@ -31,13 +31,13 @@ use Rattle.mg_line.specs.Acting.{phoned}
 use Rattle.mg_line.specs.Answering.{answered}
 use Rattle.mg_line.specs.Falling.{fired}
 use Rattle.mg_line.specs.Opening.{opened}
-use Rattle.outbound.specs.declared.repeat.Repeat.{Repeat}
-use Rattle.outbound.specs.declared.repeat.Repeat.TheVariants.{Sent as SentAgain, GivenUp}
-use Rattle.outbound.specs.Flight.{InFlight, repeat_of}
-use Rattle.restart.specs.declared.restart.Restart.{Restart}
-use Rattle.restart.specs.declared.restart.Restart.TheVariants.{Waiting, Announced, Serving}
-use Rattle.restart.specs.declared.heard.Heard.{Heard}
-use Rattle.restart.specs.declared.heard.Heard.TheVariants.{Nothing, PutOff, Redirected, Answered}
+use Rattle.retransmission.specs.declared.repeat.Repeat.{Repeat}
+use Rattle.retransmission.specs.declared.repeat.Repeat.TheVariants.{Sent as SentAgain, GivenUp}
+use Rattle.retransmission.specs.Flight.{InFlight, repeat_of}
+use Rattle.retransmission.specs.declared.restart.Restart.{Restart}
+use Rattle.retransmission.specs.declared.restart.Restart.TheVariants.{Waiting, Announced, Serving}
+use Rattle.retransmission.specs.declared.heard.Heard.{Heard}
+use Rattle.retransmission.specs.declared.heard.Heard.TheVariants.{Nothing, PutOff, Redirected, Answered}
 use Rattle.timers.specs.declared.kind.DueKind.{DueKind}
 use Rattle.timers.specs.declared.kind.DueKind.TheVariants.{OfLine, Resend, Announce}
 use Rattle.plain_machine.specs.declared.post.Post.{Post}

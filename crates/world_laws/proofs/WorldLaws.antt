@@ -30,7 +30,7 @@ use Rattle.plain_machine.proofs.EffectLaws.{effect_now}
 use Rattle.plain_machine.specs.declared.setup.Setup.{Setup}
 use Rattle.machine_laws.proofs.EachLemmas.{Each, all_from_each, any_from_one, each_at, each_both, each_mapped, each_unflat, each_unmapped, each_weaker, one_before, one_of_each, one_to, one_weaker, is_none-None}
 use Rattle.machine_laws.proofs.GatewayEvents.{AreAnswers, IsCommand, tells_on}
-use Rattle.outbound.specs.Issued.{is_command_as}
+use Rattle.retransmission.specs.Issued.{is_command_as}
 use Rattle.plain_machine.specs.Message.{Begun}
 use Rattle.machine_laws.specs.Saying.{Gives, Carries, IsAnswerTo, OneOf, Tells}
 use Rattle.call_agent.specs.Hearing.{AgentEvent, AgentRefusal, agent_after, agent_effect, agent_refusal, hears, issued_from, issued_with, issues}

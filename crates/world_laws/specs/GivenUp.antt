@@ -4,7 +4,7 @@ use Rattle.std.specs.List.{list_any}
 use Rattle.mgcp_text.specs.declared.message.Message.TheVariants as messages
 use Rattle.mgcp_text.specs.declared.message.Verb.{Verb}
 use Rattle.mgcp_text.specs.declared.message.Verb.TheVariants.{Epcf, Rqnt, Ntfy, Crcx, Mdcx, Dlcx, Auep, Aucx, Rsip, Other}
-use Rattle.restart.specs.Restarting.{is_serving}
+use Rattle.retransmission.specs.Restarting.{is_serving}
 use Rattle.plain_machine.specs.declared.post.Post.{Post}
 use Rattle.plain_machine.specs.Message.{Said, answer, again, command, resent, acknowledgement, Sent}
 

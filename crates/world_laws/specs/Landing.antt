@@ -3,7 +3,7 @@ use Rattle.std.specs.Prelude.{ℕ, ◌&&◌, nat_le, if◌then◌else◌, Bool, 
 use Rattle.std.specs.declared.net.socket_addr.SocketAddrV4.{SocketAddrV4}
 use Rattle.mgcp_text.specs.declared.message.Message.TheVariants as messages
 use Rattle.mgcp_text.specs.Reading.{Outcome, message, no_header, bad_version, bad_body, read_text}
-use Rattle.outbound.specs.Flight.{InFlight}
+use Rattle.retransmission.specs.Flight.{InFlight}
 use Rattle.plain_machine.specs.Event.{datagram, phone, tick}
 use Rattle.transmission.specs.Texts.{texts_of}
 use Rattle.call_agent.specs.declared.setup.AgentSetup.{AgentSetup}

@@ -3,7 +3,7 @@ use Rattle.std.specs.Prelude.{◌≡◌, ◌≢◌, ℕ, ◌+◌, ◌*◌, ◌<�
 use Rattle.event_values.specs.declared.observed.Observed.{Observed}
 use Rattle.event_values.specs.declared.observed.Observed.TheVariants.{Happened, Ended}
 use Rattle.mg_line.specs.State.TheVariants.{Notification, Lockstep}
-use Rattle.outbound.specs.Flight.{InFlight}
+use Rattle.retransmission.specs.Flight.{InFlight}
 use Rattle.plain_machine.specs.declared.setup.Setup.{Setup}
 use Rattle.plain_machine.specs.declared.endpoint.Endpoint.{Endpoint}
 use Rattle.plain_machine.specs.Event.{GatewayEvent}

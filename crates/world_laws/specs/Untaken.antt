@@ -6,7 +6,7 @@ use Rattle.event_values.specs.declared.observed.Observed.{Observed}
 use Rattle.world_laws.specs.Course.{notified_with}
 use Rattle.world_laws.specs.Dialled.{told_along}
 use Rattle.std.specs.List.{list_any}
-use Rattle.outbound.specs.Flight.{InFlight}
+use Rattle.retransmission.specs.Flight.{InFlight}
 use Rattle.world_laws.specs.Reached.{Reached}
 
 -- its O, as whoever gets it reads it; what is no notification tells nothing

@@ -9,7 +9,7 @@ ghost use Rattle.transmission.specs.Arrival.{Arrival};
 ghost use Rattle.transmission.specs.Kept.{firsts_in};
 ghost use Rattle.transmission.specs.Memory.{most_firsts};
 ghost use Rattle.transmission.specs.Firsts.{firsts_of};
-ghost use Rattle.outbound.specs.Sends.{most_repeats};
+ghost use Rattle.retransmission.specs.Sends.{most_repeats};
 ghost use Rattle.transmission.specs.Texts.{texts_of};
 ghost use Rattle.plain_machine.specs.declared.setup.Setup.{Setup};
 ghost use Rattle.plain_machine.specs.declared.endpoint.Endpoint.{Endpoint};

@@ -7,7 +7,7 @@ ghost use Rattle.mgcp_text.specs.Writing.{is_writable_param, is_writable};
 ghost use Rattle.endpoint_names.specs.Table.{is_domain};
 ghost use Rattle.plain_machine.specs.Announcing.{announced_lines, method_of, announcement, announced, announced_on};
 ghost use Rattle.plain_machine.specs.Announcing.{heard_on, put_off, replied, replied_on};
-ghost use Rattle.restart.specs.declared.restart.Restart.TheVariants.{Serving};
+ghost use Rattle.retransmission.specs.declared.restart.Restart.TheVariants.{Serving};
 ghost use Rattle.endpoints.specs.Telling.{MayTell};
 ghost use Rattle.endpoints.specs.Ids.{HasId};
 ghost use Rattle.endpoints.specs.Effects.{HasEffect};
@@ -19,7 +19,7 @@ use endpoint_names::{Entity, Pattern, write_name};
 use mg_bytes::OutOfMemory;
 use mgcp_text::{Bytes, Message, Param, Params, TransactionId, Verb};
 use plain_machine::{OutMessage, Post, PostOwner, Response, owner_of};
-use restart::{Heard, Restart};
+use retransmission::{Heard, Restart};
 
 // Which lines are announced: the gateway itself announces all of its lines.
 fn announced_lines(line: u16) -> Pattern

@@ -3,7 +3,7 @@
 //! 4.4.6).
 ghost use Rattle.std.specs.Prelude.{◌≡◌, option_map, OnOk, OnErr};
 ghost use Rattle.mg_line.specs.Falling.{due_of};
-ghost use Rattle.restart.specs.Restarting.{announced_at};
+ghost use Rattle.retransmission.specs.Restarting.{announced_at};
 ghost use Rattle.plain_machine.specs.Falling.{line_item, command_item, announcement_item, post_due, due_on};
 ghost use Rattle.plain_machine.specs.Falling.{happened_on, happened_under};
 ghost use Rattle.endpoints.specs.Telling.{MayTell, IsLine};

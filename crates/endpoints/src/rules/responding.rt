@@ -15,7 +15,7 @@ use crate::rules::posting::{Occasion, redirect};
 use endpoint_names::Entity;
 use mg_bytes::OutOfMemory;
 use plain_machine::{Endpoint, OutMessage, Response};
-use restart::Heard;
+use retransmission::Heard;
 
 /// What a response does to an endpoint. An error is for want of memory only.
 #[tactic(auto, unfolding(plain_machine::specs::Responding::responded_on))]

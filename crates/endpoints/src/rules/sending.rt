@@ -6,7 +6,7 @@ ghost use Rattle.plain_machine.specs.Labelling.{verb_of, id_of, own_verb};
 
 use mg_bytes::{OutOfMemory, Text};
 use mgcp_text::{Message, Verb};
-use outbound::Pending;
+use retransmission::Pending;
 use plain_machine::{Label, OutDatagram, OutMessage, What, Whose, own_verb};
 use std::net::SocketAddrV4;
 

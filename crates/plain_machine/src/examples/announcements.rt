@@ -5,7 +5,7 @@ ghost use Rattle.std.specs.Prelude.{◌≡◌, ◌++◌, codes, [], ◌∷◌, t
 ghost use Rattle.mgcp_text.specs.declared.message.Message.TheVariants as messages;
 ghost use Rattle.mgcp_text.specs.declared.message.Verb.TheVariants as verbs;
 ghost use Rattle.mg_line.specs.declared.phone.Act.TheVariants.{OffHook, OnHook};
-ghost use Rattle.restart.specs.declared.restart.Restart.TheVariants.{Waiting, Announced, Serving};
+ghost use Rattle.retransmission.specs.declared.restart.Restart.TheVariants.{Waiting, Announced, Serving};
 ghost use Rattle.plain_machine.specs.Event.{phone, tick};
 ghost use Rattle.plain_machine.specs.Message.{command};
 ghost use Rattle.plain_machine.specs.Announcing.{announcement};

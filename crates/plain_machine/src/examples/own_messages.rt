@@ -3,7 +3,7 @@
 
 ghost use Rattle.std.specs.Prelude.{◌≡◌, ◌++◌, codes, [], ◌∷◌, option_map, true, false, None, Some};
 ghost use Rattle.timers.specs.declared.kind.LineDue.TheVariants as ends;
-ghost use Rattle.restart.specs.declared.restart.Restart.TheVariants.{Waiting, Announced};
+ghost use Rattle.retransmission.specs.declared.restart.Restart.TheVariants.{Waiting, Announced};
 ghost use Rattle.plain_machine.specs.Effect.{silently};
 ghost use Rattle.plain_machine.specs.Event.{tick};
 ghost use Rattle.plain_machine.specs.Message.{resent};

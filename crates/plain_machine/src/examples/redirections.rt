@@ -3,7 +3,7 @@
 
 ghost use Rattle.std.specs.Prelude.{◌≡◌, ◌++◌, codes, [], ◌∷◌, map, replicate, true, false, None, Some};
 ghost use Rattle.mg_line.specs.declared.phone.Act.TheVariants.{OffHook};
-ghost use Rattle.restart.specs.declared.restart.Restart.TheVariants.{Waiting, Announced};
+ghost use Rattle.retransmission.specs.declared.restart.Restart.TheVariants.{Waiting, Announced};
 ghost use Rattle.plain_machine.specs.Event.{phone, tick};
 ghost use Rattle.plain_machine.specs.Machine.{opening_endpoints, with_own, serves};
 ghost use Rattle.plain_machine.specs.Responding.{entity_in};

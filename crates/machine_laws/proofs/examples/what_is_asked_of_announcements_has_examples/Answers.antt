@@ -1,7 +1,7 @@
 use Rattle.std.proofs.Common.{◌≡◌, inl, inr, refl}
 use Rattle.mgcp_text.specs.declared.message.Verb.TheVariants.{Rqnt}
 use Rattle.command_forms.specs.Codes.{Audits}
-use Rattle.restart.specs.declared.heard.Heard.TheVariants.{Answered, Redirected}
+use Rattle.retransmission.specs.declared.heard.Heard.TheVariants.{Answered, Redirected}
 use Rattle.plain_machine.specs.Example.{other_entity}
 use Rattle.machine_laws.proofs.IsolationComputing.{on_examples}
 use Rattle.machine_laws.proofs.examples.what_is_asked_of_announcements_has_examples.Goals as goal

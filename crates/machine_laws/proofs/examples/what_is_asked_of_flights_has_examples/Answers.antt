@@ -1,5 +1,5 @@
 use Rattle.std.proofs.Common.{◌≡◌, inl, refl, arith}
-use Rattle.outbound.specs.declared.reply.Reply.TheVariants.{Answered, Provisional, Stranger}
+use Rattle.retransmission.specs.declared.reply.Reply.TheVariants.{Answered, Provisional, Stranger}
 use Rattle.machine_laws.proofs.IsolationComputing.{on_examples}
 use Rattle.machine_laws.proofs.examples.what_is_asked_of_flights_has_examples.Goals as goal
 

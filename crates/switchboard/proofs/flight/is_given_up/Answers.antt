@@ -1,6 +1,6 @@
 use Rattle.std.proofs.Common.{◌≡◌, ◌+◌, ◌-◌, suc, zero, true, false, Some, None, ap, ◌∙◌, arith, rules}
-use Rattle.outbound.specs.declared.repeat.Repeat.TheVariants.{Sent, GivenUp}
-use Rattle.outbound.specs.Flight.{InFlight}
+use Rattle.retransmission.specs.declared.repeat.Repeat.TheVariants.{Sent, GivenUp}
+use Rattle.retransmission.specs.Flight.{InFlight}
 use Rattle.switchboard.specs.Flights.{most_steps, fallen, falls}
 use Rattle.switchboard.proofs.FlightLemmas.{fell_on, fell_up, fell_not, fell_out}
 use Rattle.switchboard.proofs.flight.is_given_up.Goals as goal

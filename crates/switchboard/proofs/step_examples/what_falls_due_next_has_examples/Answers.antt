@@ -1,6 +1,6 @@
 use Rattle.std.proofs.Common.{◌≡◌, ℕ, List, [], ◌∷◌, Option, Some, None, refl, sym, ap, ◌∙◌}
 use Rattle.std.specs.Prelude.{min, option_map}
-use Rattle.outbound.specs.Flight.{InFlight}
+use Rattle.retransmission.specs.Flight.{InFlight}
 use Rattle.turns.specs.Clock.{earlier}
 use Rattle.call_agent.specs.Flying.{first_flight}
 use Rattle.switchboard.specs.declared.gateway.Wake.{Wake}

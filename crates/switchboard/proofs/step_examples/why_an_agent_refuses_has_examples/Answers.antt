@@ -2,7 +2,7 @@ use Rattle.std.proofs.Common.{◌≡◌, ℕ, [], ◌∷◌, Some, None, if◌th
 use Rattle.std.specs.Prelude.{is_none, nat_le}
 use Rattle.gateway_rules.specs.declared.refusal.Refusal.TheVariants.{OutOfMemory, TickTooFar, ClockBack}
 use Rattle.plain_machine.specs.Refusing.{ends}
-use Rattle.outbound.specs.Flight.{InFlight}
+use Rattle.retransmission.specs.Flight.{InFlight}
 use Rattle.call_agent.specs.Flying.{first_flight}
 use Rattle.call_agent.specs.Hearing.{plain_agent}
 use Rattle.switchboard.proofs.StepExampleLemmas.{agent_ended, agent_ends, EndsTick}

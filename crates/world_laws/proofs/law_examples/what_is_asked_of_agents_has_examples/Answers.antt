@@ -4,8 +4,8 @@ use Rattle.mgcp_text.specs.declared.message.Message.TheVariants as messages
 use Rattle.mgcp_text.specs.declared.message.Param.{Param}
 use Rattle.mgcp_text.specs.Reading.{Outcome, bad_body, bad_version, id_in, message, no_header, read_text}
 use Rattle.transmission.proofs.RecallLaws.{recalls_itself}
-use Rattle.outbound.specs.declared.reply.Reply.TheVariants.{Answered, Provisional}
-use Rattle.outbound.specs.Flight.{InFlight, reply_of}
+use Rattle.retransmission.specs.declared.reply.Reply.TheVariants.{Answered, Provisional}
+use Rattle.retransmission.specs.Flight.{InFlight, reply_of}
 use Rattle.transmission.specs.Packing.{packed}
 use Rattle.call_agent.specs.Choosing.{has_id}
 use Rattle.call_agent.proofs.AgentStands.{effect_alike}

@@ -1,5 +1,5 @@
 use Rattle.std.proofs.Common.{◌∙◌, ap, refl}
-use Rattle.outbound.specs.Issued.{answered_with}
+use Rattle.retransmission.specs.Issued.{answered_with}
 use Rattle.call_agent.proofs.StandLemmas.{answered_is}
 use Rattle.call_agent.proofs.agent.Agent.answers.Goals as goal
 

@@ -1,6 +1,6 @@
 use Rattle.std.proofs.Common.{◌≡◌, true, false, refl, sym, ◌∙◌, rules}
 use Rattle.std.specs.Prelude.{◌==◌}
-use Rattle.outbound.specs.declared.reply.Reply.TheVariants.{Stranger}
+use Rattle.retransmission.specs.declared.reply.Reply.TheVariants.{Stranger}
 use Rattle.switchboard.proofs.CopyLemmas.{hears_so, own_kept, own_reply, replies_so}
 use Rattle.switchboard.proofs.own_copy.OwnCopy.answer.Goals as goal
 

@@ -1,5 +1,0 @@
-pub mod Sends
-pub mod Flight
-pub mod Life
-pub mod Issued
-pub mod Example

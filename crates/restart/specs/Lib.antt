@@ -1,2 +1,0 @@
-pub mod Restarting
-pub mod Example
