@@ -6,3 +6,5 @@ pub mod VerdictLaws
 pub mod ReadingLaws
 pub mod LetterLaws
 pub mod BeginLaws
+pub mod BitLaws
+pub mod DraftLaws

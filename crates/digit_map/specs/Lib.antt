@@ -6,3 +6,5 @@ pub mod Words
 pub mod Verdict
 pub mod Rows
 pub mod Example
+pub mod Places
+pub mod Drafts

@@ -6,7 +6,7 @@ use Rattle.std.proofs.lemmas.Nat.{and_block, or_block, xor_block, xor_lt}
 use Rattle.std.proofs.Math.Nat.{pow-suc}
 use Rattle.std.proofs.lemmas.Bool.Decides.{nat_tests}
 use Rattle.digit_map_bits.specs.Blocks.{bit, bits_by, some_bit}
-use Rattle.digit_map_places.proofs.BitLaws.{bit_small, doubled}
+use Rattle.digit_map.proofs.BitLaws.{bit_small, doubled}
 
 and_bit : (x y : Bool) → bit_and (bit x) (bit y) ≡ bit (x && y)
 and_bit true true = refl

@@ -7,11 +7,11 @@ use Rattle.mg_bytes.specs.declared.letter.Letter.{Letter}
 use Rattle.mg_bytes.specs.declared.letter.Letter.TheVariants.{Zero, One, Two, Three, Four, Five, Six, Seven, Eight, Nine, Star, Hash, A, B, C, D, Timer}
 use Rattle.mg_bytes.specs.Letter.{all_letters}
 use Rattle.digit_map.specs.Cuts.{strings_of}
-use Rattle.digit_map_places.specs.declared.block.Block.{Block}
-use Rattle.digit_map_places.specs.declared.draft.Draft.{Draft}
+use Rattle.digit_map.specs.declared.block.Block.{Block}
+use Rattle.digit_map.specs.declared.draft.Draft.{Draft}
 use Rattle.digit_map_bits.specs.Places.{Place, takes, repeats, is_end, blank, taken, led, led_by, places_in, places_of, places_after}
 use Rattle.digit_map_bits.specs.Blocks.{index_of, bit, bits_by, block_of, word_of, blocks_of, words_of, count_of, taken_bits, carries, led_word, leads_on, led_words, some_bit, ends_some, draft_of, block_from, blocks_from, words_from}
-use Rattle.digit_map_places.proofs.BitLaws.{bit_small}
+use Rattle.digit_map.proofs.BitLaws.{bit_small}
 use Rattle.digit_map_bits.proofs.BitLaws.{or_bit, bits_and, bits_or, handed, carried_bits, carries_are, carried_small, low_part, high_part, some_bits}
 use Rattle.std.proofs.lemmas.Nat.{or_block}
 

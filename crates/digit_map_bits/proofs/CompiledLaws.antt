@@ -3,8 +3,8 @@ use Rattle.std.proofs.Common.{◌≡◌, ◌↔◌, ℕ, ◌*◌, ◌/◌, Bool,
 use Rattle.std.specs.List.{list_any}
 use Rattle.mg_bytes.specs.declared.letter.Letter.{Letter}
 use Rattle.mg_bytes.specs.declared.letter.Letter.TheVariants.{Timer}
-use Rattle.digit_map_places.specs.declared.block.Block.{Block}
-use Rattle.digit_map_places.specs.declared.draft.Draft.{Draft}
+use Rattle.digit_map.specs.declared.block.Block.{Block}
+use Rattle.digit_map.specs.declared.draft.Draft.{Draft}
 use Rattle.digit_map.specs.declared.verdict.Verdict.{Verdict}
 use Rattle.digit_map.specs.Spelling.{is_map}
 use Rattle.digit_map.specs.Words.{IsWord}

@@ -2,7 +2,7 @@
 use Rattle.std.proofs.Common.{◌≡◌, ℕ, ◌+◌, ◌<◌, ◌≤◌, Bool, true, false, ◌||◌, List, [], ◌∷◌, ◌++◌, length, take, drop, set, get_or, zero, suc, refl, sym, ap, ◌∙◌, arith, add-one}
 use Rattle.std.specs.Prelude.{bit_and}
 use Rattle.mg_bytes.specs.declared.letter.Letter.{Letter}
-use Rattle.digit_map_places.specs.declared.block.Block.{Block}
+use Rattle.digit_map.specs.declared.block.Block.{Block}
 use Rattle.digit_map_bits.specs.Blocks.{taken_bits, led_word, leads_on, led_words, some_bit, ends_some}
 
 -- a block and its word

@@ -11,9 +11,9 @@ use Rattle.mg_bytes.specs.declared.letter.Letter.{Letter}
 use Rattle.mg_bytes.specs.declared.letter.Letter.TheVariants.{Zero, One, Two, Three, Four, Five, Six, Seven, Eight}
 use Rattle.mg_bytes.specs.declared.letter.Letter.TheVariants.{Nine, Star, Hash, A, B, C, D, Timer}
 use Rattle.mg_bytes.specs.Letter.{all_letters}
-use Rattle.digit_map_places.specs.declared.block.Block.{Block}
-pub use Rattle.digit_map_places.specs.Drafts.{bit, draft_of, row_of, block_from}
-unfoldable pub use Rattle.digit_map_places.specs.Drafts.{bits_by, blocks_from, words_from}
+use Rattle.digit_map.specs.declared.block.Block.{Block}
+pub use Rattle.digit_map.specs.Drafts.{bit, draft_of, row_of, block_from}
+unfoldable pub use Rattle.digit_map.specs.Drafts.{bits_by, blocks_from, words_from}
 use Rattle.digit_map.specs.declared.verdict.Verdict.{Verdict}
 use Rattle.digit_map.specs.declared.verdict.Verdict.TheVariants.{Perfect, Partial, Impossible}
 use Rattle.digit_map_bits.specs.Places.{Place, takes, repeats, is_end, places_of, places_after}

@@ -9,8 +9,8 @@
 use Rattle.std.specs.Prelude.{ℕ, Bool, false, ◌&&◌, ◌||◌, List, [], ◌∷◌, Option, Some, None}
 use Rattle.mg_bytes.specs.declared.letter.Letter.{Letter}
 use Rattle.digit_map.specs.Words.{spells}
-pub use Rattle.digit_map_places.specs.Places.{Place, takes, repeats, is_end, blank}
-unfoldable pub use Rattle.digit_map_places.specs.Places.{places_from, places_in, places_of}
+pub use Rattle.digit_map.specs.Places.{Place, takes, repeats, is_end, blank}
+unfoldable pub use Rattle.digit_map.specs.Places.{places_from, places_in, places_of}
 
 -- Behind letters
 

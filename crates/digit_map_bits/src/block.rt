@@ -8,8 +8,7 @@ ghost use Rattle.std.specs.List.{list_any};
 ghost use Rattle.digit_map_bits.specs.Blocks.{index_of, taken_bits, led_word, leads_on, led_words, some_bit, ends_some};
 ghost use Rattle.digit_map_bits.specs.Blocks.{verdict_at};
 
-use digit_map::Verdict;
-use digit_map_places::Block;
+use digit_map::{Block, Verdict};
 use mg_bytes::Letter;
 
 /// What a letter makes of a word.

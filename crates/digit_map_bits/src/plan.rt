@@ -3,8 +3,7 @@ ghost use Rattle.std.specs.Prelude.{◌≡◌, length, false, IfOk};
 ghost use Rattle.digit_map_bits.specs.Blocks.{led_words, ends_some, verdict_at, IsCompiled};
 
 use crate::block::{ends_by, lead, verdict_at};
-use digit_map::{MapText, Verdict};
-use digit_map_places::{Block, blocks_from, drafts_of, words_from};
+use digit_map::{Block, MapText, Verdict, blocks_from, drafts_of, words_from};
 use mg_bytes::{Letter, OutOfMemory};
 use std::alloc::Global;
 

@@ -4,9 +4,9 @@
 -- Nobody has to believe what stands here either (`Places`).
 use Rattle.std.specs.Prelude.{ℕ, ◌+◌, ◌*◌, Bool, true, false, List, [], ◌∷◌, ◌++◌, map, take, drop, slice_index_or, suc, zero}
 use Rattle.mg_bytes.specs.Letter.{all_letters}
-use Rattle.digit_map_places.specs.declared.block.Block.{Block}
-use Rattle.digit_map_places.specs.declared.draft.Draft.{Draft}
-use Rattle.digit_map_places.specs.Places.{Place, takes, repeats, is_end}
+use Rattle.digit_map.specs.declared.block.Block.{Block}
+use Rattle.digit_map.specs.declared.draft.Draft.{Draft}
+use Rattle.digit_map.specs.Places.{Place, takes, repeats, is_end}
 
 -- Bits
 

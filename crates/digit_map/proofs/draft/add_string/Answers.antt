@@ -1,5 +1,5 @@
-use Rattle.digit_map_places.proofs.DraftLaws.{position_added, end_added}
-use Rattle.digit_map_places.proofs.draft.add_string.Goals as goal
+use Rattle.digit_map.proofs.DraftLaws.{position_added, end_added}
+use Rattle.digit_map.proofs.draft.add_string.Goals as goal
 
 pub loop-position-preserved : goal.loop-position-preserved
 loop-position-preserved c =

@@ -3,11 +3,11 @@ use Rattle.std.proofs.Common.{◌≡◌, ℕ, ◌+◌, ◌-◌, ◌*◌, ◌<◌
 use Rattle.std.specs.Prelude.{◌%◌, slice_index_or}
 use Rattle.digit_map.specs.Cuts.{positions_of, strings_of}
 use Rattle.digit_map.specs.Words.{is_repeated}
-use Rattle.digit_map_places.specs.declared.block.Block.{Block}
-use Rattle.digit_map_places.specs.declared.draft.Draft.{Draft}
-use Rattle.digit_map_places.specs.Places.{Place, places_from, places_in, places_of, blank}
-use Rattle.digit_map_places.specs.Drafts.{bit, bits_by, draft_of, row_of, block_from, blocks_from, words_from}
-use Rattle.digit_map_places.proofs.BitLaws.{bits_small}
+use Rattle.digit_map.specs.declared.block.Block.{Block}
+use Rattle.digit_map.specs.declared.draft.Draft.{Draft}
+use Rattle.digit_map.specs.Places.{Place, places_from, places_in, places_of, blank}
+use Rattle.digit_map.specs.Drafts.{bit, bits_by, draft_of, row_of, block_from, blocks_from, words_from}
+use Rattle.digit_map.proofs.BitLaws.{bits_small}
 
 -- a chunk of drafts
 pub blocks_next : (blocks : List Block) (count done : ℕ) (rest : List Draft) → done < count

@@ -1,8 +1,8 @@
 use Rattle.std.proofs.Common.{◌≡◌, ◌++◌, map, true}
 use Rattle.digit_map.specs.Cuts.{positions_of}
-use Rattle.digit_map_places.specs.Places.{places_from}
-use Rattle.digit_map_places.specs.Drafts.{draft_of}
-use Rattle.digit_map_places.proofs.draft.add_string.Given as goal
+use Rattle.digit_map.specs.Places.{places_from}
+use Rattle.digit_map.specs.Drafts.{draft_of}
+use Rattle.digit_map.proofs.draft.add_string.Given as goal
 
 abbrev pub invariant-loop-position : goal.invariant-loop-position
 invariant-loop-position l =

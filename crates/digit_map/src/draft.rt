@@ -3,11 +3,12 @@ ghost use Rattle.std.specs.Prelude.{◌≡◌, ◌≤◌, ◌&&◌, ◌++◌, �
 ghost use Rattle.mg_bytes.specs.Letter.{all_letters};
 ghost use Rattle.digit_map.specs.Words.{is_in_range};
 ghost use Rattle.digit_map.specs.Cuts.{strings_of, positions_of};
-ghost use Rattle.digit_map_places.specs.Places.{places_from, places_in, places_of};
-ghost use Rattle.digit_map_places.specs.Drafts.{bit, draft_of, row_of, block_from, blocks_from, words_from};
+ghost use Rattle.digit_map.specs.Places.{places_from, places_in, places_of};
+ghost use Rattle.digit_map.specs.Drafts.{bit, draft_of, row_of, block_from, blocks_from, words_from};
 
 use crate::block::Block;
-use digit_map::{is_in_range, is_repeated, positions, set_of, stands_for, strings};
+use crate::cut::{positions, set_of, strings};
+use crate::walk::{is_in_range, is_repeated, stands_for};
 use mg_bytes::{Letter, OutOfMemory};
 use std::alloc::Global;
 
@@ -88,7 +89,7 @@ fn letters_of(set: &[u8]) -> [bool; 17]
 }
 
 // The place before a position.
-#[tactic(auto, unfolding(digit_map::specs::Words::has_letter))]
+#[tactic(auto, unfolding(crate::specs::Words::has_letter))]
 fn place_before(position: &[u8], live: bool) -> Draft
     ensures { result ≡ draft_of (record { ahead = Some position.now; live = live }) }
 {

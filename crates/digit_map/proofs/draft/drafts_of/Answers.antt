@@ -1,12 +1,12 @@
 use Rattle.std.proofs.Common.{◌≡◌, ◌-◌, ◌%◌, length, map, arith, ap, ◌∙◌}
 use Rattle.std.specs.Vec.{vec_len}
 use Rattle.digit_map.specs.Cuts.{strings_of}
-use Rattle.digit_map_places.specs.Places.{places_in}
-use Rattle.digit_map_places.specs.Drafts.{draft_of}
-use Rattle.digit_map_places.specs.declared.draft.Draft.{Draft}
+use Rattle.digit_map.specs.Places.{places_in}
+use Rattle.digit_map.specs.Drafts.{draft_of}
+use Rattle.digit_map.specs.declared.draft.Draft.{Draft}
 use Rattle.std.proofs.Common.{List}
-use Rattle.digit_map_places.proofs.DraftLaws.{all_added}
-use Rattle.digit_map_places.proofs.draft.drafts_of.Goals as goal
+use Rattle.digit_map.proofs.DraftLaws.{all_added}
+use Rattle.digit_map.proofs.draft.drafts_of.Goals as goal
 
 pub returns : goal.returns
 returns c =

@@ -1,6 +1,6 @@
 use Rattle.std.proofs.Common.{arith, ◌∙◌, sym}
-use Rattle.digit_map_places.proofs.DraftLaws.{block_pushed, blocks_none}
-use Rattle.digit_map_places.proofs.draft.blocks_from.Goals as goal
+use Rattle.digit_map.proofs.DraftLaws.{block_pushed, blocks_none}
+use Rattle.digit_map.proofs.draft.blocks_from.Goals as goal
 
 pub loop-done-preserved : goal.loop-done-preserved
 loop-done-preserved c = record {

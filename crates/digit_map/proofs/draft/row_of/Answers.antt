@@ -1,8 +1,8 @@
 use Rattle.std.proofs.Common.{◌<◌, refl, arith, le_refl, length}
 use Rattle.std.proofs.lemmas.List.{drop_all}
-use Rattle.digit_map_places.specs.Drafts.{bits_by}
-use Rattle.digit_map_places.proofs.DraftLaws.{row_doubled, row_more}
-use Rattle.digit_map_places.proofs.draft.row_of.Goals as goal
+use Rattle.digit_map.specs.Drafts.{bits_by}
+use Rattle.digit_map.proofs.DraftLaws.{row_doubled, row_more}
+use Rattle.digit_map.proofs.draft.row_of.Goals as goal
 
 pub loop-place-init : goal.loop-place-init
 unfolding bits_by

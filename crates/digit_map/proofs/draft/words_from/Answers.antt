@@ -1,6 +1,6 @@
 use Rattle.std.proofs.Common.{arith, ◌∙◌, sym}
-use Rattle.digit_map_places.proofs.DraftLaws.{word_pushed, words_none}
-use Rattle.digit_map_places.proofs.draft.words_from.Goals as goal
+use Rattle.digit_map.proofs.DraftLaws.{word_pushed, words_none}
+use Rattle.digit_map.proofs.draft.words_from.Goals as goal
 
 pub loop-done-preserved : goal.loop-done-preserved
 loop-done-preserved c = record {

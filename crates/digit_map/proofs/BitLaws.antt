@@ -1,7 +1,7 @@
 -- Numbers of bits are small.
 use Rattle.std.proofs.Common.{◌≡◌, ℕ, ◌+◌, ◌*◌, ◌^◌, ◌<◌, Bool, true, false, List, [], ◌∷◌, length, suc, arith}
 use Rattle.std.proofs.Math.Nat.{pow-suc}
-use Rattle.digit_map_places.specs.Drafts.{bit, bits_by}
+use Rattle.digit_map.specs.Drafts.{bit, bits_by}
 
 pub bit_small : (b : Bool) → bit b < 2 ^ 1
 bit_small true = omega arith

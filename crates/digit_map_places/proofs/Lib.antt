@@ -1,2 +1,0 @@
-pub mod BitLaws
-pub mod DraftLaws
