@@ -11,7 +11,7 @@ ghost use Rattle.agent_texts.specs.Telling.{plain, line_of_pieces, Tells};
 use crate::noting::text_note;
 use crate::tally::{Tally, count};
 use crate::text::header_word;
-use event_values::{Observed, write_observed};
+use packages::{Observed, write_observed};
 use exchange_log::{
     Note, Packet, Stamp, Way, put_given_up, put_head, put_message, put_note, put_packet,
     write_shown,

@@ -15,7 +15,7 @@ use Rattle.mgcp_text.specs.Writing.{body_text, written}
 use Rattle.sdp_subset.specs.declared.session.Session.{Session}
 use Rattle.sdp_subset.specs.Writing.{session_lines, session_text}
 use Rattle.connections.specs.declared.answer.Audited.{Audited}
-use Rattle.event_values.proofs.JoinLemmas.{false_of_not}
+use Rattle.packages.proofs.JoinLemmas.{false_of_not}
 use Rattle.audits.specs.ConnectionReport.{remote_text, descriptions_text}
 use Rattle.audits.specs.Fitting.{fitting}
 use Rattle.audits.specs.Laws.{are_distinct, behind_a_line}

@@ -10,20 +10,20 @@ use Rattle.mg_bytes.specs.Lines.{cut, is_line_feed, crlf}
 use Rattle.mg_bytes.specs.Numbers.{is_hex_text}
 use Rattle.mg_bytes.proofs.DigitLemmas.{both_true}
 use Rattle.mg_bytes.proofs.HexLemmas.{hex_no_blanks, hex_one_line}
-use Rattle.mg_packages.specs.declared.hook.Hook.{Hook}
-use Rattle.mg_packages.specs.declared.hook.Hook.TheVariants.{OnHook, OffHook}
+use Rattle.packages.specs.declared.hook.Hook.{Hook}
+use Rattle.packages.specs.declared.hook.Hook.TheVariants.{OnHook, OffHook}
 use Rattle.mgcp_text.specs.declared.message.Param.{Param}
 use Rattle.mgcp_text.specs.Answer.{AnswerContent, response_of}
 use Rattle.mgcp_text.specs.Message.{has_code, param_at}
 use Rattle.mgcp_text.specs.Parameter.{is_code}
 use Rattle.mgcp_text.specs.Writing.{written, is_writable_param, is_writable_body}
 use Rattle.mgcp_text.proofs.ValueLaws.{word_writable}
-use Rattle.event_values.specs.declared.handling.Notifying.{Notifying}
-use Rattle.event_values.specs.declared.handling.Notifying.TheVariants.{Step, Loop}
-use Rattle.event_values.specs.declared.handling.Quarantined.{Quarantined}
-use Rattle.event_values.specs.declared.handling.Quarantined.TheVariants.{Process, Discard}
-use Rattle.event_values.specs.Handling.{handling_text}
-use Rattle.event_values.proofs.ObservedLaws.{observed_no_blanks, observed_one_line}
+use Rattle.packages.specs.declared.handling.Notifying.{Notifying}
+use Rattle.packages.specs.declared.handling.Notifying.TheVariants.{Step, Loop}
+use Rattle.packages.specs.declared.handling.Quarantined.{Quarantined}
+use Rattle.packages.specs.declared.handling.Quarantined.TheVariants.{Process, Discard}
+use Rattle.packages.specs.Handling.{handling_text}
+use Rattle.packages.proofs.ObservedLaws.{observed_no_blanks, observed_one_line}
 use Rattle.event_syntax.specs.Requested.{is_spelled_map, requested_text}
 use Rattle.event_syntax.proofs.WordLemmas.{map_word, detected_no_blanks, detected_one_line, requested_no_blanks, requested_one_line}
 use Rattle.sdp_subset.specs.declared.session.Session.{Session}

@@ -10,9 +10,9 @@ use Rattle.std.proofs.lemmas.Slice.Eq.{bytes_eq-Decides}
 use Rattle.mg_bytes.specs.Blanks.{is_blank}
 use Rattle.mg_bytes.specs.Lines.{is_line_feed}
 use Rattle.mg_bytes.proofs.TextLaws.{IsTrim, trimmed_same}
-use Rattle.mg_packages.specs.declared.signal.Signal.{Signal}
-use Rattle.mg_packages.specs.declared.signal.Signal.TheVariants.{DialTone}
-use Rattle.mg_packages.specs.Looking.{signal_name}
+use Rattle.packages.specs.declared.signal.Signal.{Signal}
+use Rattle.packages.specs.declared.signal.Signal.TheVariants.{DialTone}
+use Rattle.packages.specs.Looking.{signal_name}
 use Rattle.mgcp_text.specs.Writing.{is_writable_param}
 use Rattle.sdp_subset.proofs.DecimalLemmas.{decimal_some}
 use Rattle.signals.specs.declared.active.ActiveSignal.{ActiveSignal}

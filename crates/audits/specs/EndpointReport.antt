@@ -5,11 +5,11 @@ use Rattle.std.specs.List.{join_with_byte}
 use Rattle.mg_bytes.specs.Bytes.{comma}
 use Rattle.mgcp_text.specs.declared.message.Param.{Param}
 use Rattle.mgcp_text.specs.Answer.{AnswerContent}
-use Rattle.mg_packages.specs.declared.hook.Hook.{Hook}
-use Rattle.mg_packages.specs.declared.hook.Hook.TheVariants.{OnHook, OffHook}
-use Rattle.mg_packages.specs.Looking.{signal_name}
-use Rattle.event_values.specs.Handling.{handling_text}
-use Rattle.event_values.specs.Observed.{observed_text}
+use Rattle.packages.specs.declared.hook.Hook.{Hook}
+use Rattle.packages.specs.declared.hook.Hook.TheVariants.{OnHook, OffHook}
+use Rattle.packages.specs.Looking.{signal_name}
+use Rattle.packages.specs.Handling.{handling_text}
+use Rattle.packages.specs.Observed.{observed_text}
 use Rattle.event_syntax.specs.Detect.{detected_text}
 use Rattle.event_syntax.specs.Requested.{requested_text}
 use Rattle.signals.specs.declared.active.ActiveSignal.{ActiveSignal}

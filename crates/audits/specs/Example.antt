@@ -3,10 +3,10 @@ use Rattle.std.specs.Prelude.{ℕ, List, [], ◌∷◌, ◌++◌, replicate, cod
 use Rattle.mg_bytes.specs.Items.{items_of}
 use Rattle.mgcp_text.specs.Answer.{AnswerContent, response_of}
 use Rattle.mgcp_text.specs.Writing.{written}
-use Rattle.mg_packages.specs.declared.hook.Hook.TheVariants.{OffHook}
-use Rattle.mg_packages.specs.declared.signal.Signal.TheVariants.{DialTone, MessageWaiting}
-use Rattle.event_values.specs.declared.handling.Notifying.TheVariants.{Loop}
-use Rattle.event_values.specs.declared.handling.Quarantined.TheVariants.{Discard}
+use Rattle.packages.specs.declared.hook.Hook.TheVariants.{OffHook}
+use Rattle.packages.specs.declared.signal.Signal.TheVariants.{DialTone, MessageWaiting}
+use Rattle.packages.specs.declared.handling.Notifying.TheVariants.{Loop}
+use Rattle.packages.specs.declared.handling.Quarantined.TheVariants.{Discard}
 use Rattle.signals.specs.Example.{until, endless}
 use Rattle.endpoint_names.specs.declared.route.Route.TheVariants.{One}
 use Rattle.endpoint_names.specs.declared.entity.Entity.{Entity}

@@ -8,4 +8,4 @@ pub mod Writing
 pub mod Laws
 pub mod Showing
 pub mod Example
-pub use Rattle.event_values.specs.Observed
+pub use Rattle.packages.specs.Observed

@@ -5,8 +5,8 @@ ghost use Rattle.mg_bytes.specs.Blanks.{is_blank};
 ghost use Rattle.mg_bytes.specs.Lines.{is_line_feed};
 ghost use Rattle.mgcp_text.specs.Message.{param_at};
 ghost use Rattle.mgcp_text.specs.Writing.{is_writable_param};
-ghost use Rattle.event_values.specs.Handling.{handling_text};
-ghost use Rattle.event_values.specs.Observed.{observed_text};
+ghost use Rattle.packages.specs.Handling.{handling_text};
+ghost use Rattle.packages.specs.Observed.{observed_text};
 ghost use Rattle.event_syntax.specs.Detect.{detected_text};
 ghost use Rattle.event_syntax.specs.Requested.{requested_text};
 ghost use Rattle.audits.specs.EndpointReport.{active_text, map_text, event_params};
@@ -15,7 +15,7 @@ use crate::word::{of_copy, of_name, of_text};
 use event_syntax::{Handling, Notifying, Quarantined, write_observed};
 use mg_bytes::{OutOfMemory, Text, same_no_case};
 use mg_line::Line;
-use mg_packages::signal_name;
+use packages::signal_name;
 use mgcp_text::Param;
 use signals::ActiveSignal;
 use std::alloc::Global;
@@ -42,7 +42,7 @@ fn observed_param(alloc: Global, line: &Line) -> Result<Param<'static>, OutOfMem
 }
 
 // Q: how quarantined events are handled.
-#[tactic(auto, unfolding(event_values::specs::Handling::handling_text))]
+#[tactic(auto, unfolding(packages::specs::Handling::handling_text))]
 fn handling_param(handling: Handling) -> Param<'static>
     ensures value { result ≡ record { code = codes "Q"; value = handling_text handling } }
     ensures writable { is_writable_param result ≡ true }

@@ -3,7 +3,7 @@
 use Rattle.std.specs.Prelude.{ℕ, ◌-◌, ◌==◌, if◌then◌else◌, List, [], replicate, find, Option}
 use Rattle.std.specs.List.{slice_index_or}
 use Rattle.call_agent.specs.declared.setup.AgentSetup.{AgentSetup}
-use Rattle.event_values.specs.declared.observed.Observed.{Observed}
+use Rattle.packages.specs.declared.observed.Observed.{Observed}
 use Rattle.transmission.specs.declared.entry.Entry.{Entry}
 use Rattle.retransmission.specs.Flight.{InFlight}
 use Rattle.transmission.specs.declared.output.OutDatagram.{OutDatagram}

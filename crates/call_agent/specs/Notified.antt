@@ -2,8 +2,8 @@
 use Rattle.std.specs.Prelude.{ℕ, codes, List, [], Option, Some, None, Result, Ok, Err}
 use Rattle.mgcp_text.specs.Message.{param_at}
 use Rattle.mgcp_text.specs.declared.message.Param.{Param}
-use Rattle.event_values.specs.declared.observed.Observed.{Observed}
-use Rattle.event_values.specs.Observed.{observed_of}
+use Rattle.packages.specs.declared.observed.Observed.{Observed}
+use Rattle.packages.specs.Observed.{observed_of}
 
 abbrev pub observed_or_none : Result (List Observed) ℕ → List Observed
 observed_or_none (Ok observed) = observed

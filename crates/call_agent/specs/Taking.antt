@@ -9,7 +9,7 @@ use Rattle.mgcp_text.specs.Reading.{Outcome}
 use Rattle.mgcp_text.specs.Writing.{written}
 use Rattle.mgcp_text.specs.Answer.{plain_code, response_of}
 use Rattle.endpoint_names.specs.Name.{name_of}
-use Rattle.event_values.specs.declared.observed.Observed.{Observed}
+use Rattle.packages.specs.declared.observed.Observed.{Observed}
 use Rattle.transmission.specs.declared.span.IdSpan.{IdSpan}
 use Rattle.transmission.specs.declared.entry.Entry.TheVariants.{Confirmation}
 use Rattle.transmission.specs.Memory.{most_firsts}

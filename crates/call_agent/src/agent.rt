@@ -15,7 +15,7 @@ use crate::state::{Context, State};
 use crate::told::TakenEvents;
 use crate::working::step_state;
 use endpoint_names::Route;
-use event_values::Observed;
+use packages::Observed;
 use flights::{Flights, Growing};
 use transmission::History;
 use mg_bytes::{OutOfMemory, Text};

@@ -13,7 +13,7 @@ ghost use Rattle.call_agent.specs.State.{kept_in, Does};
 use crate::state::{Context, State};
 use crate::told::TakenEvents;
 use endpoint_names::{Pattern, read_name};
-use event_values::{Observed, read_observed};
+use packages::{Observed, read_observed};
 use transmission::IdSpan;
 use mg_bytes::{CodeFault, OutOfMemory, ReturnCode, Sequence};
 use mgcp_text::{AnswerContent, Message, Param, Verb, param_at, read_k};

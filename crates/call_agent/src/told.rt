@@ -4,7 +4,7 @@ ghost use Rattle.std.specs.List.{slice_index_or};
 ghost use Rattle.call_agent.specs.Growing.{Grown, grown_to, committed, rolled_back, all_in, told_at};
 ghost use Rattle.call_agent.specs.Taking.{with_taken};
 
-use event_values::Observed;
+use packages::Observed;
 use flights::Growing;
 use mg_bytes::{OutOfMemory, Sequence};
 use std::alloc::Global;
@@ -19,7 +19,7 @@ pub(crate) struct TakenEvents {
 
 impl Model for TakenEvents {
     ghost use Rattle.std.specs.Prelude.{List};
-    ghost use Rattle.event_values.specs.declared.observed.Observed.{Observed};
+    ghost use Rattle.packages.specs.declared.observed.Observed.{Observed};
     ghost use Rattle.call_agent.specs.Growing.{Grown, all_in};
 
     ghost Value = { Grown (List Observed) };

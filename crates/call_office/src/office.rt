@@ -27,7 +27,7 @@ use agent_texts::{
     Journal, Standing, Station, refusals_of, standing_of, tell_change, tell_refusals,
 };
 use call_routing::{Command, Exchange, NumberPlan, Outcome, Told, named_by, told_in};
-use event_values::Observed;
+use packages::Observed;
 use mg_bytes::{OutOfMemory, Text};
 use std::alloc::{AllocError, Global};
 

@@ -1,8 +1,8 @@
 -- The calls of an exchange: what telephones, and ends that can't be connected, make of the phases of its lines. The tones are
 -- this exchange's profile.
 use Rattle.std.specs.Prelude.{ℕ, ◌+◌, nat_lt, if◌then◌else◌, true, false, List, Option, Some, None, replicate, slice_get, slice_set}
-use Rattle.mg_packages.specs.declared.hook.Hook.{Hook}
-use Rattle.mg_packages.specs.declared.hook.Hook.TheVariants as hooks
+use Rattle.packages.specs.declared.hook.Hook.{Hook}
+use Rattle.packages.specs.declared.hook.Hook.TheVariants as hooks
 use Rattle.call_routing.specs.declared.phase.Side.TheVariants.{Caller}
 use Rattle.call_routing.specs.declared.phase.Part.{Part}
 use Rattle.call_routing.specs.declared.phase.Tone.{Tone}

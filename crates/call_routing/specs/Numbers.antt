@@ -7,9 +7,9 @@ use Rattle.std.specs.Str.{bytes_eq}
 use Rattle.mg_bytes.specs.declared.letter.Letter.{Letter}
 use Rattle.mg_bytes.specs.Letter.{byte_of}
 use Rattle.mg_bytes.specs.Lists.{is_empty}
-use Rattle.mg_packages.specs.declared.event.LineEvent.TheVariants as events
-use Rattle.event_values.specs.declared.observed.Observed.{Observed}
-use Rattle.event_values.specs.declared.observed.Observed.TheVariants.{Happened, Ended}
+use Rattle.packages.specs.declared.event.LineEvent.TheVariants as events
+use Rattle.packages.specs.declared.observed.Observed.{Observed}
+use Rattle.packages.specs.declared.observed.Observed.TheVariants.{Happened, Ended}
 use Rattle.call_routing.specs.declared.told.Told.{Told}
 use Rattle.call_routing.specs.declared.told.Told.TheVariants as told
 

@@ -5,7 +5,7 @@ ghost use Rattle.call_routing.specs.Calls.{all_resting, joined, parted, cut_off,
 use crate::phase::{Part, Phase, Side, Tone, is_free, is_in, left, other_end, ringing_in, waits};
 use crate::told::Told;
 use mg_bytes::OutOfMemory;
-use mg_packages::Hook;
+use packages::Hook;
 use std::alloc::Global;
 use std::marker::Model;
 

@@ -6,7 +6,7 @@ ghost use Rattle.call_routing.specs.Fates.{is_success, may_pass, passes, says_go
 use crate::asked::{Asked, is_asked, wanted_in};
 use crate::command::{Command, Outcome};
 use crate::phase::{Phase, is_in};
-use mg_packages::Hook;
+use packages::Hook;
 
 /// So many commands to a line are put off in a row, whichever they are; the next one that is refused is so for good.
 pub const MOST_PUT_OFF: u8 = 30;

@@ -10,7 +10,7 @@ use crate::fate::{
 };
 use crate::told::Told;
 use mg_bytes::{Identifier, Text};
-use mg_packages::Hook;
+use packages::Hook;
 
 /// The connection of a line.
 #[derive(Drop)]

@@ -3,9 +3,9 @@ ghost use Rattle.std.specs.Prelude.{◌≡◌, ◌++◌, true, IfOk, OnOk, OnErr
 ghost use Rattle.call_routing.specs.Numbers.{last_of, digits_in, digits_told, digits_of, any_digit, told_in, tells_digits};
 
 use crate::number_plan::NumberPlan;
-use event_values::Observed;
+use packages::Observed;
 use mg_bytes::{Letter, OutOfMemory, Text};
-use mg_packages::LineEvent;
+use packages::LineEvent;
 use std::alloc::Global;
 
 /// What a line told, or its owner knows of it.

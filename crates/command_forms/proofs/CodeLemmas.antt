@@ -10,7 +10,7 @@ use Rattle.endpoint_names.specs.declared.names.Names.{Names}
 use Rattle.endpoint_names.specs.declared.table.Host.{Host}
 use Rattle.event_syntax.specs.Requested.{requested_of}
 use Rattle.event_syntax.specs.Detect.{detected_of}
-use Rattle.event_values.specs.Signals.{signals_of}
+use Rattle.packages.specs.Signals.{signals_of}
 use Rattle.connections.specs.Options.{options_of}
 use Rattle.command_forms.specs.declared.refused.FaultyPart.{FaultyPart}
 use Rattle.command_forms.specs.declared.refused.FaultyPart.TheVariants.{Line, Value}

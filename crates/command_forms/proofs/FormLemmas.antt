@@ -17,8 +17,8 @@ use Rattle.event_syntax.specs.declared.request.RequestedEvent.{RequestedEvent}
 use Rattle.event_syntax.specs.RequestSpelling.{are_requested}
 use Rattle.event_syntax.specs.Requested.{requested_in as requested_entries, requested_of, are_writable_requested}
 use Rattle.event_syntax.specs.Detect.{detected_of, are_writable_events}
-use Rattle.event_values.specs.Signals.{signals_of}
-use Rattle.event_values.proofs.SignalReading.{read_is_writable}
+use Rattle.packages.specs.Signals.{signals_of}
+use Rattle.packages.proofs.SignalReading.{read_is_writable}
 use Rattle.event_requests.specs.declared.request.Request.{Request}
 use Rattle.event_requests.specs.Requests.{EventRequests}
 use Rattle.event_syntax.proofs.DetectLaws.{read_is_writable as detected_is_writable}

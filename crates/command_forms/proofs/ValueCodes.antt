@@ -3,22 +3,22 @@ use Rattle.std.proofs.Common.{◌≡◌, ℕ, Bool, true, false, cond, leb, List
 use Rattle.std.specs.Prelude.{Result, IfErr}
 use Rattle.mg_bytes.specs.Case.{same_but_case}
 use Rattle.mgcp_text.specs.declared.message.Param.{Param}
-use Rattle.mg_packages.specs.declared.signal.Kind.{Kind}
-use Rattle.mg_packages.specs.Looking.{in_package, event_in, signal_in, kind_of}
+use Rattle.packages.specs.declared.signal.Kind.{Kind}
+use Rattle.packages.specs.Looking.{in_package, event_in, signal_in, kind_of}
 use Rattle.digit_map.specs.declared.fault.MapFault.{MapFault}
 use Rattle.digit_map.specs.Reading.{map_of, or_code}
 use Rattle.event_syntax.specs.declared.events.Events.{Events}
 use Rattle.event_syntax.specs.declared.request.EmbeddedRequest.{EmbeddedRequest}
-use Rattle.event_values.specs.Cuts.{Form, form_of, items, entries}
+use Rattle.packages.specs.Cuts.{Form, form_of, items, entries}
 use Rattle.mg_bytes.specs.Steps.{◌>>=◌}
-use Rattle.event_values.specs.Faults.{each, each_up_to}
+use Rattle.packages.specs.Faults.{each, each_up_to}
 use Rattle.event_syntax.specs.EventSpelling.{are_detected}
-use Rattle.event_values.specs.SignalSpelling.{are_signals}
+use Rattle.packages.specs.SignalSpelling.{are_signals}
 use Rattle.event_syntax.specs.RequestSpelling.{are_requested}
 use Rattle.event_syntax.specs.Events.{events_called}
 use Rattle.event_syntax.specs.Detect.{most_events, without_parameters, detected_from, detected, detected_in, detected_of}
-use Rattle.event_values.specs.Handling.{handling_of}
-use Rattle.event_values.specs.Signals.{most_signals, setting_of, signal_called, signal_entry_from, signal_entry, signals_in, signals_of}
+use Rattle.packages.specs.Handling.{handling_of}
+use Rattle.packages.specs.Signals.{most_signals, setting_of, signal_called, signal_entry_from, signal_entry, signals_in, signals_of}
 use Rattle.event_syntax.specs.Actions.{Word, word_of, Joined, plain, embed, accumulate_and_embed, Said, said_by, said_of, Rule, ruled_by, said_in, rule_from, rule_of}
 use Rattle.event_syntax.specs.Embedding.{embedded_event_by, embedded_event, nothing_embedded, with_events, with_signals, with_map, with_part_named, with_part_in, with_part_from, with_part, with_parts, embedded_in}
 use Rattle.event_syntax.specs.Requested.{reaction_of, requested, requested_in, requested_of}

@@ -9,7 +9,7 @@ use Rattle.mgcp_text.specs.Message.{param_at}
 use Rattle.endpoint_names.specs.declared.table.Host.{Host}
 use Rattle.event_syntax.specs.Requested.{requested_of, are_writable_requested}
 use Rattle.event_syntax.specs.Detect.{detected_of, are_writable_events}
-use Rattle.event_values.specs.Signals.{signals_of, are_writable_signals}
+use Rattle.packages.specs.Signals.{signals_of, are_writable_signals}
 use Rattle.event_requests.specs.declared.request.Request.{Request}
 use Rattle.connections.specs.declared.connection.Change.{Change}
 use Rattle.connections.specs.declared.connection.Creation.{Creation}

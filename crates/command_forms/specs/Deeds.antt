@@ -7,7 +7,7 @@ use Rattle.mgcp_text.specs.Message.{param_at}
 use Rattle.endpoint_names.specs.declared.table.Host.{Host}
 use Rattle.event_syntax.specs.Requested.{requested_of}
 use Rattle.event_syntax.specs.Detect.{detected_of}
-use Rattle.event_values.specs.Signals.{signals_of}
+use Rattle.packages.specs.Signals.{signals_of}
 use Rattle.event_requests.specs.declared.request.Request.{Request}
 use Rattle.event_requests.specs.Requests.{EventRequests}
 use Rattle.sdp_subset.specs.declared.session.Session.{Session}

@@ -8,20 +8,20 @@ use Rattle.mgcp_text.specs.Message.{params_in}
 use Rattle.endpoint_names.specs.declared.route.Route.TheVariants.{One as OnlyOne}
 use Rattle.endpoint_names.specs.declared.entity.Entity.{Entity}
 use Rattle.endpoint_names.specs.declared.names.Names.{Names}
-use Rattle.mg_packages.specs.declared.signal.Signal.{Signal}
+use Rattle.packages.specs.declared.signal.Signal.{Signal}
 use Rattle.digit_map.specs.declared.change.MapChange.{MapChange}
 use Rattle.digit_map.specs.declared.change.MapChange.TheVariants.{Keep}
 use Rattle.event_syntax.specs.declared.events.Events.{Events}
-use Rattle.event_values.specs.declared.handling.Handling.{Handling}
-use Rattle.event_values.specs.declared.handling.Notifying.{Notifying}
-use Rattle.event_values.specs.declared.handling.Notifying.TheVariants.{Step}
-use Rattle.event_values.specs.declared.handling.Quarantined.{Quarantined}
-use Rattle.event_values.specs.declared.handling.Quarantined.TheVariants.{Process}
+use Rattle.packages.specs.declared.handling.Handling.{Handling}
+use Rattle.packages.specs.declared.handling.Notifying.{Notifying}
+use Rattle.packages.specs.declared.handling.Notifying.TheVariants.{Step}
+use Rattle.packages.specs.declared.handling.Quarantined.{Quarantined}
+use Rattle.packages.specs.declared.handling.Quarantined.TheVariants.{Process}
 use Rattle.event_syntax.specs.declared.request.Action.{Action}
 use Rattle.event_syntax.specs.declared.request.RequestedEvent.{RequestedEvent}
 use Rattle.event_syntax.specs.declared.request.Reaction.TheVariants.{Plain}
-use Rattle.event_values.specs.declared.signals.Setting.{Setting}
-use Rattle.event_values.specs.declared.signals.SignalRequest.{SignalRequest}
+use Rattle.packages.specs.declared.signals.Setting.{Setting}
+use Rattle.packages.specs.declared.signals.SignalRequest.{SignalRequest}
 use Rattle.event_requests.specs.declared.request.Request.{Request}
 use Rattle.event_requests.specs.Requests.{EventRequests, no_requests}
 use Rattle.sdp_subset.specs.declared.session.Session.{Session}

@@ -18,11 +18,11 @@ use Rattle.connections.specs.Modes.{mode_named}
 use Rattle.digit_map.specs.declared.change.MapChange.{MapChange}
 use Rattle.digit_map.specs.Reading.{or_code}
 use Rattle.digit_map.specs.Change.{change_of}
-use Rattle.event_values.specs.declared.handling.Handling.{Handling}
-use Rattle.event_values.specs.declared.handling.Notifying.TheVariants.{Step}
-use Rattle.event_values.specs.declared.handling.Quarantined.TheVariants.{Process}
+use Rattle.packages.specs.declared.handling.Handling.{Handling}
+use Rattle.packages.specs.declared.handling.Notifying.TheVariants.{Step}
+use Rattle.packages.specs.declared.handling.Quarantined.TheVariants.{Process}
 use Rattle.mg_bytes.specs.Steps.{◌>>=◌}
-use Rattle.event_values.specs.Handling.{handling_of}
+use Rattle.packages.specs.Handling.{handling_of}
 
 -- K, what is confirmed (RFC 3435, 3.2.2.1): whether it can be read
 abbrev pub is_readable : KValue → Bool

@@ -3,14 +3,14 @@
 
 ghost use Rattle.std.specs.Prelude.{◌≡◌, ◌++◌, true, false, codes, replicate, [], ◌∷◌, Some, None};
 ghost use Rattle.command_forms.specs.declared.forms.Target.TheVariants as targets;
-ghost use Rattle.mg_packages.specs.declared.event.LineEvent.TheVariants.{OffHook, OnHook};
-ghost use Rattle.mg_packages.specs.declared.signal.Signal.TheVariants.{DialTone};
+ghost use Rattle.packages.specs.declared.event.LineEvent.TheVariants.{OffHook, OnHook};
+ghost use Rattle.packages.specs.declared.signal.Signal.TheVariants.{DialTone};
 ghost use Rattle.digit_map.specs.declared.change.MapChange.TheVariants.{Replace};
 ghost use Rattle.event_syntax.specs.declared.events.Events.TheVariants.{One};
-ghost use Rattle.event_values.specs.declared.handling.Notifying.TheVariants.{Loop};
-ghost use Rattle.event_values.specs.declared.handling.Quarantined.TheVariants.{Process};
+ghost use Rattle.packages.specs.declared.handling.Notifying.TheVariants.{Loop};
+ghost use Rattle.packages.specs.declared.handling.Quarantined.TheVariants.{Process};
 ghost use Rattle.event_syntax.specs.declared.request.Action.TheVariants.{Notify};
-ghost use Rattle.event_values.specs.declared.signals.Setting.TheVariants.{Start};
+ghost use Rattle.packages.specs.declared.signals.Setting.TheVariants.{Start};
 ghost use Rattle.connections.specs.declared.codec.Codec.TheVariants.{Pcmu, Pcma};
 ghost use Rattle.connections.specs.declared.codec.Codecs.TheVariants.{Only, Both};
 ghost use Rattle.connections.specs.declared.codec.Encoding.TheVariants.{Mu, A};

@@ -1,8 +1,8 @@
 -- What is done at an event (RFC 3435, 2.3.3 and 4.4.1).
 use Rattle.std.specs.Prelude.{Bool, false, ◌||◌, if◌then◌else◌, List, Option, Some, None, find}
 use Rattle.std.specs.List.{list_any}
-use Rattle.mg_packages.specs.declared.event.LineEvent.{LineEvent}
-use Rattle.mg_packages.specs.Looking.{is_persistent}
+use Rattle.packages.specs.declared.event.LineEvent.{LineEvent}
+use Rattle.packages.specs.Looking.{is_persistent}
 use Rattle.event_syntax.specs.declared.events.Events.{Events}
 use Rattle.event_syntax.specs.Observed.{Observed}
 use Rattle.event_syntax.specs.declared.request.Action.TheVariants.{Notify, Ignore}

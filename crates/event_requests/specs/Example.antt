@@ -1,6 +1,6 @@
 -- What is asked for in the worked examples.
 use Rattle.std.specs.Prelude.{ℕ, Bool, true, false, List, [], ◌∷◌, Result, Ok, Err}
-use Rattle.mg_packages.specs.declared.event.LineEvent.{LineEvent}
+use Rattle.packages.specs.declared.event.LineEvent.{LineEvent}
 use Rattle.event_syntax.specs.declared.request.Action.{Action}
 use Rattle.event_syntax.specs.declared.request.RequestedEvent.{RequestedEvent}
 use Rattle.event_syntax.specs.declared.request.EmbeddedRequest.{EmbeddedRequest}

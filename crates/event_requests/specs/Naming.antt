@@ -4,10 +4,10 @@ use Rattle.std.specs.List.{list_any}
 use Rattle.std.specs.Option.{unwrap_or}
 use Rattle.mg_bytes.specs.declared.letter.Letter.{Letter}
 use Rattle.mg_bytes.specs.contracts.letter.LetterPartialEq.TheImpl as letters
-use Rattle.mg_packages.specs.declared.event.LineEvent.{LineEvent}
-use Rattle.mg_packages.specs.declared.event.LineEvent.TheVariants as events
-use Rattle.mg_packages.specs.declared.package.Package.TheVariants.{Line}
-use Rattle.mg_packages.specs.Looking.{is_same_package, is_same_event, event_row_of, package_of, completion_of}
+use Rattle.packages.specs.declared.event.LineEvent.{LineEvent}
+use Rattle.packages.specs.declared.event.LineEvent.TheVariants as events
+use Rattle.packages.specs.declared.package.Package.TheVariants.{Line}
+use Rattle.packages.specs.Looking.{is_same_package, is_same_event, event_row_of, package_of, completion_of}
 use Rattle.event_syntax.specs.declared.events.Events.{Events}
 use Rattle.event_syntax.specs.declared.events.Events.TheVariants.{AllOfLine, One, Letters}
 use Rattle.event_syntax.specs.Observed.{Observed}

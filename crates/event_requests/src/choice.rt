@@ -6,7 +6,7 @@ ghost use Rattle.event_requests.specs.Deciding.{reaction_of, seen};
 use crate::decision::{Decision, Doing};
 use crate::naming::names;
 use event_syntax::{Action, Events, Reaction, RequestedEvent};
-use mg_packages::{LineEvent, is_persistent};
+use packages::{LineEvent, is_persistent};
 
 /// Whether some entry of R names an event.
 pub(crate) fn is_requested(entries: &[RequestedEvent], event: LineEvent) -> bool

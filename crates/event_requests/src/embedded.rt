@@ -8,7 +8,7 @@ use crate::choice::unasked;
 use crate::decision::{Decision, Doing};
 use crate::naming::names;
 use event_syntax::EmbeddedEvent;
-use mg_packages::LineEvent;
+use packages::LineEvent;
 
 /// Whether some entry names an event.
 pub(crate) fn is_requested(entries: &[EmbeddedEvent], event: LineEvent) -> bool

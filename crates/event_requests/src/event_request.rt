@@ -16,7 +16,7 @@ use event_syntax::{
     write_events,
 };
 use mg_bytes::{OutOfMemory, Text};
-use mg_packages::{LineEvent, is_persistent};
+use packages::{LineEvent, is_persistent};
 use std::alloc::Global;
 use std::marker::Model;
 use std::rc::Rc;

@@ -9,7 +9,7 @@ ghost use Rattle.event_requests.specs.Example.{requested, asked, at, does, does_
 
 use event_syntax::{Action, Observed};
 use mg_bytes::Letter;
-use mg_packages::{LineEvent, Signal};
+use packages::{LineEvent, Signal};
 
 /// Each sentence at an example.
 pub fn each_sentence_has_an_example()

@@ -1,6 +1,6 @@
 //! Laws of requests. Each function has an empty body: its clauses are the theorems.
 ghost use Rattle.std.specs.Prelude.{◌≡◌, ◌++◌, ◌∷◌, List, true, false};
-ghost use Rattle.mg_packages.specs.declared.event.LineEvent.{LineEvent};
+ghost use Rattle.packages.specs.declared.event.LineEvent.{LineEvent};
 ghost use Rattle.event_syntax.specs.declared.request.RequestedEvent.{RequestedEvent};
 ghost use Rattle.event_requests.specs.Choice.{chosen, unasked, is_requested};
 ghost use Rattle.event_requests.specs.Naming.{names};

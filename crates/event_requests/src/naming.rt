@@ -4,7 +4,7 @@ ghost use Rattle.event_requests.specs.Naming.{has_letter, is_of_line, is_letter_
 
 use event_syntax::{Events, Observed};
 use mg_bytes::{LETTERS, Letter};
-use mg_packages::{LineEvent, Package, completion_of};
+use packages::{LineEvent, Package, completion_of};
 
 // Whether a letter is one of a set.
 fn has_letter(set: &[bool], letter: Letter) -> bool

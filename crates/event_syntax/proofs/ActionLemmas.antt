@@ -10,8 +10,8 @@ use Rattle.event_syntax.specs.declared.events.Events.TheVariants.{AllOfLine, One
 use Rattle.event_syntax.specs.declared.request.Action.{Action}
 use Rattle.event_syntax.specs.declared.request.Action.TheVariants.{Notify, Accumulate, Dial, Ignore}
 use Rattle.mg_bytes.specs.Steps.{◌>>=◌}
-use Rattle.event_values.specs.Faults.{each}
-use Rattle.event_values.specs.Cuts.{Form, form_of}
+use Rattle.packages.specs.Faults.{each}
+use Rattle.packages.specs.Cuts.{Form, form_of}
 use Rattle.event_syntax.specs.Actions.{Word, keeps, acts, embeds, word_named, word_with, word_from, word_of, Joined, plain, embed, accumulate_and_embed, by_two, joined_of, is_keeps, not_keeps, Said, saying, said_by, said_of, SoFar, nothing_said, with_joined, and_embed, and_action, and_word, joined_or_notify, takes}
 
 -- what words say behind those so far

@@ -5,12 +5,12 @@ use Rattle.std.specs.List.{list_all}
 use Rattle.std.proofs.lemmas.Bool.{cases_Bool}
 use Rattle.std.proofs.lemmas.Bool.Decides.{nat_tests}
 use Rattle.mg_bytes.proofs.DigitLemmas.{both_true}
-use Rattle.event_values.specs.declared.cut.Cut.{Cut}
-use Rattle.event_values.specs.declared.cut.Cut.TheVariants.{Commas, Parentheses}
-use Rattle.event_values.specs.Cuts.{deeper, is_cut, after, is_uncut, pieces}
-use Rattle.event_values.specs.Spelling.{is_parameter_byte}
-use Rattle.event_values.proofs.CutLemmas.{put_front}
-use Rattle.event_values.proofs.JoinLemmas.{is_flat, pieces_uncut, uncut_append, after_append}
+use Rattle.packages.specs.declared.cut.Cut.{Cut}
+use Rattle.packages.specs.declared.cut.Cut.TheVariants.{Commas, Parentheses}
+use Rattle.packages.specs.Cuts.{deeper, is_cut, after, is_uncut, pieces}
+use Rattle.packages.specs.Spelling.{is_parameter_byte}
+use Rattle.packages.proofs.CutLemmas.{put_front}
+use Rattle.packages.proofs.JoinLemmas.{is_flat, pieces_uncut, uncut_append, after_append}
 use Rattle.event_syntax.specs.Walking.{with_byte, closing}
 
 -- a name: no comma, and nothing opens in it

@@ -4,17 +4,17 @@ use Rattle.std.specs.Prelude.{Result, Ok, Err}
 use Rattle.std.specs.List.{list_all}
 use Rattle.std.proofs.lemmas.Bool.{and_parts, leb-true}
 use Rattle.event_syntax.specs.declared.events.Events.{Events}
-use Rattle.event_values.specs.Cuts.{Form, form_of, entries}
+use Rattle.packages.specs.Cuts.{Form, form_of, entries}
 use Rattle.mg_bytes.specs.Steps.{◌>>=◌}
-use Rattle.event_values.specs.Spelling.{with_parameters, are_parameters}
+use Rattle.packages.specs.Spelling.{with_parameters, are_parameters}
 use Rattle.event_syntax.specs.EventSpelling.{is_event, is_detected, is_detected_from, are_detected}
 use Rattle.event_syntax.specs.Events.{events_called, events_text, is_writable}
 use Rattle.event_syntax.specs.Detect.{most_events, without_parameters, detected_from, detected, detected_in, detected_of, detected_text, are_writable_events}
 use Rattle.event_syntax.proofs.EventLemmas.{Writable, called_passes}
 use Rattle.event_syntax.proofs.EventLaws.{events_again}
-use Rattle.event_values.proofs.JoinLemmas.{IsEntry, name_entry, name_form}
-use Rattle.event_values.proofs.PassLemmas.{Passes, passes_on, passes_up_to, passes_if, along}
-use Rattle.event_values.proofs.WriteLemmas.{listed_spelled, listed_up_to}
+use Rattle.packages.proofs.JoinLemmas.{IsEntry, name_entry, name_form}
+use Rattle.packages.proofs.PassLemmas.{Passes, passes_on, passes_up_to, passes_if, along}
+use Rattle.packages.proofs.WriteLemmas.{listed_spelled, listed_up_to}
 
 -- Reading
 

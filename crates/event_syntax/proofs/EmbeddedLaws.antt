@@ -17,20 +17,20 @@ use Rattle.event_syntax.specs.declared.request.Action.{Action}
 use Rattle.event_syntax.specs.declared.request.Action.TheVariants.{Notify, Accumulate, Dial, Ignore}
 use Rattle.event_syntax.specs.declared.request.EmbeddedEvent.{EmbeddedEvent}
 use Rattle.event_syntax.specs.declared.request.EmbeddedRequest.{EmbeddedRequest}
-use Rattle.event_values.specs.declared.signals.SignalRequest.{SignalRequest}
-use Rattle.event_values.specs.Cuts.{items, entries}
-use Rattle.event_values.specs.Faults.{each}
-use Rattle.event_values.specs.Spelling.{is_word}
-use Rattle.event_values.specs.SignalSpelling.{is_signal_entry, are_signals}
+use Rattle.packages.specs.declared.signals.SignalRequest.{SignalRequest}
+use Rattle.packages.specs.Cuts.{items, entries}
+use Rattle.packages.specs.Faults.{each}
+use Rattle.packages.specs.Spelling.{is_word}
+use Rattle.packages.specs.SignalSpelling.{is_signal_entry, are_signals}
 use Rattle.event_syntax.specs.RequestSpelling.{is_part_in, is_part, is_called, are_parts, is_embed, is_action, is_requested, are_requested_within}
-use Rattle.event_values.specs.Signals.{signals_text, is_writable_signal, are_writable_signals, signal_entry, signal_entry_text, signals_in, most_signals}
+use Rattle.packages.specs.Signals.{signals_text, is_writable_signal, are_writable_signals, signal_entry, signal_entry_text, signals_in, most_signals}
 use Rattle.event_syntax.specs.Events.{events_text, is_writable}
 use Rattle.event_syntax.specs.Actions.{Word, keeps, acts, embeds, word_named, word_of, plain, Said, said_by, said_of, takes, Rule, rule_of}
 use Rattle.event_syntax.specs.Embedding.{embedded_event, nothing_embedded, with_part_named, with_part, with_parts, embedded_in}
 use Rattle.event_syntax.specs.Requested.{action_text, keep_text, listed, embedded_event_text, events_part, signals_part, map_part, parts_text, embedded_text, is_writable_embedded_event, is_same_map, is_writable_map, is_something, is_writable_request}
-use Rattle.event_values.proofs.JoinLemmas.{name_entry, name_form, flat_is_calm, is_plain, is_flat, IsEntry, entries_join, items_join, plain_join, grouped}
-use Rattle.event_values.proofs.ClosedLemmas.{calm_closed, IsClosed, closed_group, closed_join, closed_entry, closed_form}
-use Rattle.event_values.proofs.SignalLaws as signals
+use Rattle.packages.proofs.JoinLemmas.{name_entry, name_form, flat_is_calm, is_plain, is_flat, IsEntry, entries_join, items_join, plain_join, grouped}
+use Rattle.packages.proofs.ClosedLemmas.{calm_closed, IsClosed, closed_group, closed_join, closed_entry, closed_form}
+use Rattle.packages.proofs.SignalLaws as signals
 use Rattle.event_syntax.proofs.EventLaws.{events_again}
 use Rattle.event_syntax.proofs.RequestMaps.{IsInner, map_inner}
 use Rattle.event_syntax.specs.Detect.{most_events}

@@ -3,13 +3,13 @@ use Rattle.std.proofs.Common.{◌≡◌, true, leb, eqb, length, arith, refl}
 use Rattle.std.specs.Prelude.{Ok}
 use Rattle.std.specs.List.{list_any}
 use Rattle.std.proofs.lemmas.Bool.{and_parts, le-leb, eqb-true}
-use Rattle.mg_packages.specs.declared.event.LineEvent.TheVariants.{OffHook, Letter}
+use Rattle.packages.specs.declared.event.LineEvent.TheVariants.{OffHook, Letter}
 use Rattle.event_syntax.specs.declared.events.Events.{Events}
 use Rattle.event_syntax.specs.declared.events.Events.TheVariants.{AllOfLine, One, Letters}
 use Rattle.event_syntax.specs.EventSpelling.{is_event}
 use Rattle.event_syntax.specs.Events.{events_called, events_text, is_writable}
 use Rattle.event_syntax.proofs.Computing.{on_examples}
-use Rattle.event_values.proofs.JoinLemmas.{is_plain, is_flat}
+use Rattle.packages.proofs.JoinLemmas.{is_plain, is_flat}
 use Rattle.event_syntax.proofs.LetterLaws.{set_reads}
 
 -- events that can be written are read again, with whatever stands behind them in parentheses

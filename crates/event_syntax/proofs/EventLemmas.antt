@@ -7,23 +7,23 @@ use Rattle.mg_bytes.specs.Bytes.{slash, at_sign}
 use Rattle.mg_bytes.specs.Case.{same_but_case}
 use Rattle.mg_bytes.specs.Words.{split_once, in_brackets}
 use Rattle.mg_bytes.specs.declared.letter.Letter.TheVariants.{Zero}
-use Rattle.mg_packages.specs.declared.event.LineEvent.{LineEvent}
-use Rattle.mg_packages.specs.declared.event.LineEvent.TheVariants.{OffHook, GenericComplete, Letter}
-use Rattle.mg_packages.specs.declared.package.Package.{Package}
-use Rattle.mg_packages.specs.declared.package.Package.TheVariants.{Line, Generic, Dtmf}
-use Rattle.mg_packages.specs.declared.signal.Signal.{Signal}
-use Rattle.mg_packages.specs.Looking.{in_package, in_package_from, package_named, no_event, event_in, event_named, signal_named}
+use Rattle.packages.specs.declared.event.LineEvent.{LineEvent}
+use Rattle.packages.specs.declared.event.LineEvent.TheVariants.{OffHook, GenericComplete, Letter}
+use Rattle.packages.specs.declared.package.Package.{Package}
+use Rattle.packages.specs.declared.package.Package.TheVariants.{Line, Generic, Dtmf}
+use Rattle.packages.specs.declared.signal.Signal.{Signal}
+use Rattle.packages.specs.Looking.{in_package, in_package_from, package_named, no_event, event_in, event_named, signal_named}
 use Rattle.digit_map.specs.Cuts.{parts_of}
 use Rattle.digit_map.specs.Spelling.{is_range}
 use Rattle.event_syntax.specs.declared.events.Events.{Events}
 use Rattle.event_syntax.specs.declared.events.Events.TheVariants.{AllOfLine, One, Letters}
 use Rattle.mg_bytes.specs.Steps.{◌>>=◌}
 use Rattle.event_syntax.specs.Ranges.{is_some_range, is_bracketed, letters_in}
-use Rattle.event_values.specs.Spelling.{is_word, is_name}
+use Rattle.packages.specs.Spelling.{is_word, is_name}
 use Rattle.event_syntax.specs.EventSpelling.{is_event, is_event_from}
 use Rattle.event_syntax.specs.Events.{one, one_in, is_all, keys, letters_from, events_from, events_at, events_called, is_writable}
 use Rattle.event_syntax.proofs.RangeLemmas.{range_has}
-use Rattle.event_values.proofs.PassLemmas.{Passes}
+use Rattle.packages.proofs.PassLemmas.{Passes}
 
 abbrev pub Writable : Events → Type 0
 Writable events = is_writable events ≡ true

@@ -6,15 +6,15 @@ use Rattle.event_syntax.specs.declared.events.Events.{Events}
 use Rattle.event_syntax.specs.declared.request.RequestedEvent.{RequestedEvent}
 use Rattle.event_syntax.specs.declared.request.Reaction.{Reaction}
 use Rattle.event_syntax.specs.Actions.{Joined, embed, accumulate_and_embed, Rule, rule_of}
-use Rattle.event_values.specs.Cuts.{entries}
+use Rattle.packages.specs.Cuts.{entries}
 use Rattle.event_syntax.specs.Detect.{most_events, detected, detected_in, detected_of}
 use Rattle.event_syntax.specs.Embedding.{embedded_in}
 use Rattle.mg_bytes.specs.Steps.{◌>>=◌}
-use Rattle.event_values.specs.Faults.{each_up_to}
+use Rattle.packages.specs.Faults.{each_up_to}
 use Rattle.event_syntax.specs.Requested.{requested, requested_by, reaction_of, requested_in, requested_of}
 use Rattle.event_syntax.specs.RequestSpelling.{are_requested}
 use Rattle.event_syntax.specs.EventSpelling.{are_detected}
-use Rattle.event_values.proofs.FaultLemmas.{misspelled, well_spelled, many_up_to, fault_up_to, whole_up_to}
+use Rattle.packages.proofs.FaultLemmas.{misspelled, well_spelled, many_up_to, fault_up_to, whole_up_to}
 
 -- R
 

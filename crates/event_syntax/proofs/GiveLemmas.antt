@@ -3,9 +3,9 @@ use Rattle.std.proofs.Common.{◌≡◌, ℕ, List, ◌∷◌, sym}
 use Rattle.std.specs.Prelude.{Result, Err}
 use Rattle.mg_bytes.specs.declared.code_fault.CodeFault.{CodeFault}
 use Rattle.mg_bytes.specs.declared.code_fault.CodeFault.TheVariants.{OutOfMemory, Code}
-use Rattle.event_values.specs.Faults.{each}
+use Rattle.packages.specs.Faults.{each}
 use Rattle.event_syntax.specs.Embedding.{Gives}
-use Rattle.event_values.proofs.EachLemmas.{put_before, each_stops}
+use Rattle.packages.proofs.EachLemmas.{put_before, each_stops}
 
 pub fault_stops : {A : Type 0} (read : List ℕ → Result A ℕ) (front : List A) (left texts : List (List ℕ)) (text : List ℕ)
     (fault : CodeFault) (all : Result (List A) ℕ)

@@ -10,17 +10,17 @@ use Rattle.mg_bytes.specs.Words.{split_once, in_brackets}
 use Rattle.mg_bytes.specs.declared.letter.Letter.{Letter}
 use Rattle.mg_bytes.specs.declared.letter.Letter.TheVariants.{Zero}
 use Rattle.mg_bytes.specs.Letter.{all_letters, byte_of}
-use Rattle.mg_packages.specs.Looking.{in_package}
+use Rattle.packages.specs.Looking.{in_package}
 use Rattle.digit_map.specs.Cuts.{parts_of}
 use Rattle.digit_map.specs.Spelling.{is_range}
 use Rattle.digit_map.specs.Words.{is_in_range}
 use Rattle.event_syntax.specs.declared.events.Events.TheVariants.{Letters}
 use Rattle.event_syntax.specs.Ranges.{chosen, letters_of, bracketed, letters_in, letters_text}
-use Rattle.event_values.specs.Spelling.{is_word, is_name, is_parameter_byte}
+use Rattle.packages.specs.Spelling.{is_word, is_name, is_parameter_byte}
 use Rattle.event_syntax.specs.EventSpelling.{is_event}
 use Rattle.event_syntax.specs.Events.{events_called}
 use Rattle.event_syntax.proofs.Computing.{on_examples}
-use Rattle.event_values.proofs.JoinLemmas.{is_solid, is_plain, is_flat, false_of_not}
+use Rattle.packages.proofs.JoinLemmas.{is_solid, is_plain, is_flat, false_of_not}
 use Rattle.event_syntax.proofs.RangeLemmas.{is_mark, marks}
 
 abbrev pub bytes : List Letter → List ℕ

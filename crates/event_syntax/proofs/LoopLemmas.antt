@@ -9,8 +9,8 @@ use Rattle.std.proofs.Math.Seq.{take-suc}
 use Rattle.mg_bytes.specs.Blanks.{trimmed}
 use Rattle.mg_bytes.specs.Case.{same_but_case}
 use Rattle.mg_bytes.specs.Lists.{is_empty}
-use Rattle.event_values.specs.Cuts.{deeper}
-use Rattle.event_values.specs.Spelling.{are_parameters}
+use Rattle.packages.specs.Cuts.{deeper}
+use Rattle.packages.specs.Spelling.{are_parameters}
 use Rattle.event_syntax.specs.EventSpelling.{is_event}
 use Rattle.event_syntax.specs.RequestSpelling.{is_embed}
 use Rattle.event_syntax.specs.declared.walk.Seen.{Seen}

@@ -3,11 +3,11 @@ use Rattle.std.proofs.Common.{◌≡◌, ℕ, Bool, true, false, ◌&&◌, List,
 use Rattle.std.specs.List.{list_all}
 use Rattle.std.proofs.lemmas.Bool.Decides.{nat_tests}
 use Rattle.mg_bytes.proofs.DigitLemmas.{both_true}
-use Rattle.event_values.specs.declared.cut.Cut.TheVariants.{Commas}
-use Rattle.event_values.specs.Cuts.{pieces}
-use Rattle.event_values.specs.Spelling.{is_parameter_byte}
-use Rattle.event_values.proofs.CutLemmas.{put_front, put_front-nil}
-use Rattle.event_values.proofs.JoinLemmas.{is_flat}
+use Rattle.packages.specs.declared.cut.Cut.TheVariants.{Commas}
+use Rattle.packages.specs.Cuts.{pieces}
+use Rattle.packages.specs.Spelling.{is_parameter_byte}
+use Rattle.packages.proofs.CutLemmas.{put_front, put_front-nil}
+use Rattle.packages.proofs.JoinLemmas.{is_flat}
 use Rattle.event_syntax.specs.Walking.{with_byte, closing, by_pieces, inside_is, by_closing, left, is_free_byte, is_inner}
 use Rattle.event_syntax.proofs.ClosingLemmas.{is_quiet, is_quiet_byte, with_front, and_then, closing_flat, closing_deeper, ClosesAt, closes_at, name_pieces, comma_pieces, open_pieces, group_pieces}
 

@@ -10,9 +10,9 @@ use Rattle.std.proofs.lemmas.List.Sums.{sum_by-cons}
 use Rattle.mg_bytes.specs.Blanks.{is_blank, trimmed_start, trimmed_end, trimmed}
 use Rattle.mg_bytes.specs.Case.{same_but_case}
 use Rattle.mg_bytes.specs.Words.{split_once}
-use Rattle.event_values.specs.Cuts.{form_of, items, entries, pieces}
-use Rattle.event_values.specs.Spelling.{is_name}
-use Rattle.event_values.specs.SignalSpelling.{are_signals}
+use Rattle.packages.specs.Cuts.{form_of, items, entries, pieces}
+use Rattle.packages.specs.Spelling.{is_name}
+use Rattle.packages.specs.SignalSpelling.{are_signals}
 use Rattle.event_syntax.specs.EventSpelling.{is_event}
 use Rattle.event_syntax.specs.RequestSpelling.{is_part, is_part_in, is_called, is_requested, are_requested_within}
 use Rattle.event_syntax.specs.declared.walk.Seen.{Seen}

@@ -10,13 +10,13 @@ use Rattle.event_syntax.specs.declared.request.Action.TheVariants.{Accumulate}
 use Rattle.event_syntax.specs.declared.request.Reaction.{Reaction}
 use Rattle.event_syntax.specs.declared.request.Reaction.TheVariants.{Plain, Embed, AccumulateAndEmbed}
 use Rattle.event_syntax.specs.declared.request.RequestedEvent.{RequestedEvent}
-use Rattle.event_values.specs.Cuts.{entries}
-use Rattle.event_values.specs.Faults.{each}
+use Rattle.packages.specs.Cuts.{entries}
+use Rattle.packages.specs.Faults.{each}
 use Rattle.event_syntax.specs.RequestSpelling.{is_requested, are_requested_within, are_requested}
 use Rattle.event_syntax.specs.Events.{is_writable}
 use Rattle.event_syntax.specs.Actions.{acts, embeds, plain, embed, accumulate_and_embed, said_by, takes}
 use Rattle.event_syntax.specs.Requested.{listed, parts_text, embedded_text, action_text, keep_text, requested, requested_in, requested_of, requested_entry_text, requested_text, joined_in, is_writable_reaction, is_writable_entry, are_writable_requested}
-use Rattle.event_values.proofs.JoinLemmas.{IsEntry, entries_join}
+use Rattle.packages.proofs.JoinLemmas.{IsEntry, entries_join}
 use Rattle.event_syntax.proofs.ActionLemmas.{embed_alike, both_alike}
 use Rattle.event_syntax.proofs.EmbeddedLaws.{join_some, plain_says, action_reads, embed_reads, and_action, keep_actions, keep_words, entry_reads, embedded_again}
 use Rattle.event_syntax.specs.Detect.{most_events}

@@ -10,9 +10,9 @@ use Rattle.mg_bytes.specs.Words.{split_once}
 use Rattle.mg_bytes.proofs.DigitLemmas.{both_true}
 use Rattle.digit_map.specs.Cuts.{is_bar, ends_in, strings_of, is_inside, begins, pieces, positions_of, parts_of}
 use Rattle.digit_map.specs.Spelling.{is_digit, is_wildcard, is_part, is_range, is_dot_or_end, is_bracketed, is_position, is_string, is_map}
-use Rattle.event_values.specs.Spelling.{is_parameter_byte}
-use Rattle.event_values.proofs.JoinLemmas.{is_solid, is_plain, is_flat, false_of_not, flat_is_calm, plain_grouped}
-use Rattle.event_values.proofs.ClosedLemmas.{IsClosed, calm_closed, closed_group}
+use Rattle.packages.specs.Spelling.{is_parameter_byte}
+use Rattle.packages.proofs.JoinLemmas.{is_solid, is_plain, is_flat, false_of_not, flat_is_calm, plain_grouped}
+use Rattle.packages.proofs.ClosedLemmas.{IsClosed, calm_closed, closed_group}
 
 -- what can stand in parentheses
 pub record IsInner (text : List ℕ) : Type 0 where

@@ -20,27 +20,27 @@ use Rattle.event_syntax.specs.declared.request.EmbeddedEvent.{EmbeddedEvent}
 use Rattle.event_syntax.specs.declared.request.EmbeddedRequest.{EmbeddedRequest}
 use Rattle.event_syntax.specs.declared.request.Reaction.TheVariants.{Embed, AccumulateAndEmbed}
 use Rattle.event_syntax.specs.declared.request.RequestedEvent.{RequestedEvent}
-use Rattle.event_values.specs.declared.signals.SignalRequest.{SignalRequest}
+use Rattle.packages.specs.declared.signals.SignalRequest.{SignalRequest}
 use Rattle.event_syntax.specs.declared.request.Action.TheVariants.{Notify, Accumulate, Dial, Ignore}
-use Rattle.event_values.specs.declared.cut.Cut.TheVariants.{Commas, Parentheses}
+use Rattle.packages.specs.declared.cut.Cut.TheVariants.{Commas, Parentheses}
 use Rattle.mg_bytes.specs.Lists.{is_empty}
-use Rattle.event_values.specs.Cuts.{Form, form_of, form_from, items, entries, pieces}
+use Rattle.packages.specs.Cuts.{Form, form_of, form_from, items, entries, pieces}
 use Rattle.mg_bytes.specs.Steps.{◌>>=◌}
-use Rattle.event_values.specs.Faults.{each, each_up_to}
+use Rattle.packages.specs.Faults.{each, each_up_to}
 use Rattle.event_syntax.specs.EventSpelling.{is_event}
-use Rattle.event_values.specs.SignalSpelling.{are_signals}
+use Rattle.packages.specs.SignalSpelling.{are_signals}
 use Rattle.event_syntax.specs.RequestSpelling.{is_part_in, is_part_with, is_part_from, is_part, are_parts, is_action_with, is_action_from, is_action, is_requested_with, is_requested_from, is_requested, are_requested_within, are_requested}
-use Rattle.event_values.specs.Signals.{most_signals, signal_entry, signals_in, is_writable_signal, are_writable_signals}
+use Rattle.packages.specs.Signals.{most_signals, signal_entry, signals_in, is_writable_signal, are_writable_signals}
 use Rattle.event_syntax.specs.Detect.{most_events}
 use Rattle.event_syntax.specs.Events.{events_called, is_writable}
 use Rattle.event_syntax.specs.Actions.{Word, keeps, acts, embeds, word_named, word_with, word_from, word_of, Joined, plain, embed, accumulate_and_embed, by_one, by_two, joined_of, not_keeps, Said, saying, said_by, said_of, said_in, takes, Rule, ruled_by, rule_from, rule_of}
 use Rattle.event_syntax.specs.Embedding.{embedded_event_by, embedded_event, nothing_embedded, with_events, with_signals, with_map, with_part_named, with_part_in, with_part_from, with_part, with_parts, embedded_in, Gives}
 use Rattle.event_syntax.specs.Requested.{requested_by, reaction_of, requested, requested_in, requested_of, events_part, signals_part, map_part, parts_text, is_writable_embedded_event, is_writable_map, is_something, is_writable_request, is_writable_entry, are_writable_requested}
 use Rattle.event_syntax.proofs.ActionLemmas.{embed_alike, both_alike}
-use Rattle.event_values.proofs.JoinLemmas.{false_of_not}
-use Rattle.event_values.proofs.PartLemmas.{some_pieces}
-use Rattle.event_values.proofs.PassLemmas.{Passes, passes_on, passes_more, passes_each, along}
-use Rattle.event_values.proofs.SignalReading.{entry_passes}
+use Rattle.packages.proofs.JoinLemmas.{false_of_not}
+use Rattle.packages.proofs.PartLemmas.{some_pieces}
+use Rattle.packages.proofs.PassLemmas.{Passes, passes_on, passes_more, passes_each, along}
+use Rattle.packages.proofs.SignalReading.{entry_passes}
 use Rattle.event_syntax.proofs.EventLemmas.{called_passes}
 
 -- texts that are spelled

@@ -4,11 +4,11 @@ use Rattle.std.specs.Prelude.{not, if◌then◌else◌}
 use Rattle.std.specs.List.{list_all}
 use Rattle.mg_bytes.specs.Blanks.{trimmed}
 use Rattle.mg_bytes.specs.Case.{same_but_case}
-use Rattle.event_values.specs.declared.cut.Cut.TheVariants.{Commas, Parentheses}
+use Rattle.packages.specs.declared.cut.Cut.TheVariants.{Commas, Parentheses}
 use Rattle.mg_bytes.specs.Lists.{is_empty}
-use Rattle.event_values.specs.Cuts.{Form, form_of, form_from, items, pieces}
-use Rattle.event_values.specs.Spelling.{is_word, are_parameters}
-use Rattle.event_values.proofs.CutLemmas.{put_front, put_front-nil}
+use Rattle.packages.specs.Cuts.{Form, form_of, form_from, items, pieces}
+use Rattle.packages.specs.Spelling.{is_word, are_parameters}
+use Rattle.packages.proofs.CutLemmas.{put_front, put_front-nil}
 use Rattle.event_syntax.specs.EventSpelling.{is_event}
 use Rattle.event_syntax.specs.RequestSpelling.{is_embed, is_part, is_part_in, is_part_from, is_called, is_called_from, are_parts, is_action, is_action_from, are_actions, is_requested, is_requested_from, are_requested_within}
 use Rattle.event_syntax.specs.declared.walk.Seen.{Seen}

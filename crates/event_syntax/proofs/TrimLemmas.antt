@@ -8,10 +8,10 @@ use Rattle.std.proofs.lemmas.List.{reverse-append, reverse-reverse, take-append-
 use Rattle.std.proofs.lemmas.List.Sums.{suffix_len-le-length}
 use Rattle.std.proofs.lemmas.Grind.{reverse_onto}
 use Rattle.mg_bytes.specs.Blanks.{is_blank, trimmed_start, trimmed_end, trimmed}
-use Rattle.event_values.specs.declared.cut.Cut.{Cut}
-use Rattle.event_values.specs.declared.cut.Cut.TheVariants.{Commas, Parentheses}
-use Rattle.event_values.specs.Cuts.{deeper, is_cut, pieces}
-use Rattle.event_values.proofs.CutLemmas.{put_front, put_front-nil}
+use Rattle.packages.specs.declared.cut.Cut.{Cut}
+use Rattle.packages.specs.declared.cut.Cut.TheVariants.{Commas, Parentheses}
+use Rattle.packages.specs.Cuts.{deeper, is_cut, pieces}
+use Rattle.packages.proofs.CutLemmas.{put_front, put_front-nil}
 
 blank_here : (cut : Cut) (d b : ℕ) → is_blank b ≡ true → (is_cut cut d b ≡ false) × (deeper d b ≡ d)
 blank_here Commas d b blank = (grind (arith, nat_tests), grind (arith, nat_tests))

@@ -6,9 +6,9 @@ use Rattle.std.proofs.lemmas.Bool.{cases_Bool}
 use Rattle.mg_bytes.specs.Blanks.{is_blank, trimmed}
 use Rattle.mg_bytes.specs.Case.{same_but_case}
 use Rattle.mg_bytes.specs.Lists.{is_empty}
-use Rattle.event_values.specs.Cuts.{items, entries}
-use Rattle.event_values.specs.Spelling.{is_word, are_parameters}
-use Rattle.event_values.specs.SignalSpelling.{are_signals}
+use Rattle.packages.specs.Cuts.{items, entries}
+use Rattle.packages.specs.Spelling.{is_word, are_parameters}
+use Rattle.packages.specs.SignalSpelling.{are_signals}
 use Rattle.event_syntax.specs.EventSpelling.{is_event}
 use Rattle.event_syntax.specs.RequestSpelling.{is_embed, is_action, is_requested, are_requested_within, are_requested}
 use Rattle.event_syntax.specs.declared.walk.Seen.{Seen}

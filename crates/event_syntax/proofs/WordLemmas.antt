@@ -13,18 +13,18 @@ use Rattle.mg_bytes.specs.Letter.{byte_of}
 use Rattle.mg_bytes.specs.declared.letter.Letter.{Letter}
 use Rattle.mg_bytes.specs.declared.letter.Letter.TheVariants.{Zero}
 use Rattle.mg_bytes.proofs.DigitLemmas.{both_true}
-use Rattle.mg_packages.specs.declared.event.LineEvent.{LineEvent}
-use Rattle.mg_packages.specs.declared.event.LineEvent.TheVariants.{OffHook, Letter as OfLetter}
-use Rattle.mg_packages.specs.declared.signal.Signal.{Signal}
-use Rattle.mg_packages.specs.declared.signal.Signal.TheVariants.{DialTone}
-use Rattle.mg_packages.specs.Looking.{event_name, signal_name}
+use Rattle.packages.specs.declared.event.LineEvent.{LineEvent}
+use Rattle.packages.specs.declared.event.LineEvent.TheVariants.{OffHook, Letter as OfLetter}
+use Rattle.packages.specs.declared.signal.Signal.{Signal}
+use Rattle.packages.specs.declared.signal.Signal.TheVariants.{DialTone}
+use Rattle.packages.specs.Looking.{event_name, signal_name}
 use Rattle.digit_map.specs.Spelling.{is_map}
-use Rattle.event_values.specs.Cuts.{in_parentheses}
-use Rattle.event_values.proofs.JoinLemmas.{is_solid, is_plain, false_of_not}
-use Rattle.event_values.specs.declared.signals.Setting.{Setting}
-use Rattle.event_values.specs.declared.signals.Setting.TheVariants.{Start, Stop, Lasting}
-use Rattle.event_values.specs.declared.signals.SignalRequest.{SignalRequest}
-use Rattle.event_values.specs.Signals.{setting_text, signal_entry_text, signals_text}
+use Rattle.packages.specs.Cuts.{in_parentheses}
+use Rattle.packages.proofs.JoinLemmas.{is_solid, is_plain, false_of_not}
+use Rattle.packages.specs.declared.signals.Setting.{Setting}
+use Rattle.packages.specs.declared.signals.Setting.TheVariants.{Start, Stop, Lasting}
+use Rattle.packages.specs.declared.signals.SignalRequest.{SignalRequest}
+use Rattle.packages.specs.Signals.{setting_text, signal_entry_text, signals_text}
 use Rattle.event_syntax.specs.declared.events.Events.{Events}
 use Rattle.event_syntax.specs.declared.events.Events.TheVariants.{AllOfLine, One, Letters}
 use Rattle.event_syntax.specs.declared.request.Action.{Action}

@@ -16,8 +16,8 @@ use Rattle.event_syntax.specs.declared.rule.SoFar.{SoFar as HeldSoFar}
 use Rattle.event_syntax.specs.declared.rule.Said.{Said as HeldSaid}
 use Rattle.event_syntax.specs.declared.rule.Rule.{Rule as HeldRule}
 use Rattle.mg_bytes.specs.Steps.{◌>>=◌}
-use Rattle.event_values.specs.Faults.{each}
-use Rattle.event_values.specs.Cuts.{Form, form_of, items}
+use Rattle.packages.specs.Faults.{each}
+use Rattle.packages.specs.Cuts.{Form, form_of, items}
 use Rattle.event_syntax.specs.Events.{events_called}
 
 -- an action: K keeps the signals, N, A, D and I do something by themselves, and E embeds what stands in its parentheses

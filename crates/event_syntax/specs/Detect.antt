@@ -4,8 +4,8 @@ use Rattle.std.specs.List.{list_all, join_with_byte}
 use Rattle.mg_bytes.specs.Bytes.{comma}
 use Rattle.event_syntax.specs.declared.events.Events.{Events}
 use Rattle.mg_bytes.specs.Steps.{◌>>=◌}
-use Rattle.event_values.specs.Faults.{each_up_to}
-use Rattle.event_values.specs.Cuts.{Form, form_of, entries}
+use Rattle.packages.specs.Faults.{each_up_to}
+use Rattle.packages.specs.Cuts.{Form, form_of, entries}
 use Rattle.event_syntax.specs.EventSpelling.{are_detected}
 use Rattle.event_syntax.specs.Events.{events_called, events_text, is_writable}
 

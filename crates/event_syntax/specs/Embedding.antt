@@ -8,9 +8,9 @@ use Rattle.digit_map.specs.Reading.{map_of, or_code}
 use Rattle.event_syntax.specs.declared.request.EmbeddedEvent.{EmbeddedEvent}
 use Rattle.event_syntax.specs.declared.request.EmbeddedRequest.{EmbeddedRequest}
 use Rattle.mg_bytes.specs.Steps.{◌>>=◌}
-use Rattle.event_values.specs.Faults.{each_up_to}
-use Rattle.event_values.specs.Cuts.{Form, form_of, items, entries}
-use Rattle.event_values.specs.Signals.{signals_in}
+use Rattle.packages.specs.Faults.{each_up_to}
+use Rattle.packages.specs.Cuts.{Form, form_of, items, entries}
+use Rattle.packages.specs.Signals.{signals_in}
 use Rattle.event_syntax.specs.Detect.{most_events}
 use Rattle.event_syntax.specs.Actions.{Joined, plain, embed, accumulate_and_embed, Rule, rule_of}
 

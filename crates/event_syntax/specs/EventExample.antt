@@ -2,7 +2,7 @@
 use Rattle.std.specs.Prelude.{ℕ, List, [], ◌∷◌, Result, Ok, codes, replicate}
 use Rattle.std.specs.List.{join_with_byte}
 use Rattle.mg_bytes.specs.Bytes.{comma}
-use Rattle.mg_packages.specs.declared.event.LineEvent.{LineEvent}
+use Rattle.packages.specs.declared.event.LineEvent.{LineEvent}
 use Rattle.event_syntax.specs.declared.events.Events.{Events}
 use Rattle.event_syntax.specs.declared.events.Events.TheVariants.{One, Letters}
 use Rattle.event_syntax.specs.Ranges.{letters_in}

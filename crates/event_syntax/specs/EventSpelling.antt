@@ -4,9 +4,9 @@ use Rattle.std.specs.List.{list_all}
 use Rattle.mg_bytes.specs.Bytes.{slash}
 use Rattle.mg_bytes.specs.Case.{same_but_case}
 use Rattle.mg_bytes.specs.Words.{split_once}
-use Rattle.event_values.specs.Cuts.{Form, form_of, entries}
+use Rattle.packages.specs.Cuts.{Form, form_of, entries}
 use Rattle.event_syntax.specs.Ranges.{is_bracketed}
-use Rattle.event_values.specs.Spelling.{is_word, is_name, with_parameters}
+use Rattle.packages.specs.Spelling.{is_word, is_name, with_parameters}
 
 abbrev pub is_event_from : List ℕ → Option (List ℕ × List ℕ) → Bool
 is_event_from text None = is_name text

@@ -5,11 +5,11 @@ use Rattle.mg_bytes.specs.Bytes.{at_sign}
 use Rattle.mg_bytes.specs.Case.{same_but_case}
 use Rattle.mg_bytes.specs.Letter.{byte_of}
 use Rattle.mg_bytes.specs.Words.{split_once, in_brackets}
-use Rattle.mg_packages.specs.declared.event.LineEvent.{LineEvent}
-use Rattle.mg_packages.specs.declared.event.LineEvent.TheVariants.{GenericComplete, Letter}
-use Rattle.mg_packages.specs.declared.package.Package.{Package}
-use Rattle.mg_packages.specs.declared.package.Package.TheVariants.{Line, Generic, Dtmf}
-use Rattle.mg_packages.specs.Looking.{in_package, event_in, event_name}
+use Rattle.packages.specs.declared.event.LineEvent.{LineEvent}
+use Rattle.packages.specs.declared.event.LineEvent.TheVariants.{GenericComplete, Letter}
+use Rattle.packages.specs.declared.package.Package.{Package}
+use Rattle.packages.specs.declared.package.Package.TheVariants.{Line, Generic, Dtmf}
+use Rattle.packages.specs.Looking.{in_package, event_in, event_name}
 use Rattle.event_syntax.specs.declared.events.Events.{Events}
 use Rattle.event_syntax.specs.declared.events.Events.TheVariants.{AllOfLine, One, Letters}
 use Rattle.mg_bytes.specs.Steps.{◌>>=◌}

@@ -9,4 +9,4 @@ pub mod Embedding
 pub mod Requested
 pub mod RequestExample
 pub mod Walking
-pub use Rattle.event_values.specs.declared.observed.Observed
+pub use Rattle.packages.specs.declared.observed.Observed

@@ -1,7 +1,7 @@
 -- What R is read as in the worked examples.
 use Rattle.std.specs.Prelude.{ℕ, Bool, true, false, List, [], ◌∷◌, Some, Result, Ok}
 use Rattle.event_syntax.specs.declared.events.Events.{Events}
-use Rattle.event_values.specs.declared.signals.SignalRequest.{SignalRequest}
+use Rattle.packages.specs.declared.signals.SignalRequest.{SignalRequest}
 use Rattle.event_syntax.specs.declared.request.Action.{Action}
 use Rattle.event_syntax.specs.declared.request.EmbeddedEvent.{EmbeddedEvent}
 use Rattle.event_syntax.specs.declared.request.EmbeddedRequest.{EmbeddedRequest}

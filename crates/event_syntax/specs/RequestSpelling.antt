@@ -2,10 +2,10 @@
 use Rattle.std.specs.Prelude.{ℕ, zero, suc, nat_le, Bool, false, ◌&&◌, not, if◌then◌else◌, List, [], ◌∷◌, length, codes, count_by, Option, Some, None}
 use Rattle.std.specs.List.{list_all}
 use Rattle.mg_bytes.specs.Case.{same_but_case}
-use Rattle.event_values.specs.Cuts.{Form, form_of, items, entries}
-use Rattle.event_values.specs.Spelling.{is_word, are_parameters}
+use Rattle.packages.specs.Cuts.{Form, form_of, items, entries}
+use Rattle.packages.specs.Spelling.{is_word, are_parameters}
 use Rattle.event_syntax.specs.EventSpelling.{is_event}
-use Rattle.event_values.specs.SignalSpelling.{are_signals}
+use Rattle.packages.specs.SignalSpelling.{are_signals}
 
 -- Parts of an embedded request. `is_value` says how a value of R is spelled that stands in it.
 

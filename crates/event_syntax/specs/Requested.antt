@@ -13,12 +13,12 @@ use Rattle.event_syntax.specs.declared.request.EmbeddedRequest.{EmbeddedRequest}
 use Rattle.event_syntax.specs.declared.request.Reaction.{Reaction}
 use Rattle.event_syntax.specs.declared.request.Reaction.TheVariants.{Plain, Embed, AccumulateAndEmbed}
 use Rattle.event_syntax.specs.declared.request.RequestedEvent.{RequestedEvent}
-use Rattle.event_values.specs.declared.signals.SignalRequest.{SignalRequest}
+use Rattle.packages.specs.declared.signals.SignalRequest.{SignalRequest}
 use Rattle.mg_bytes.specs.Steps.{◌>>=◌}
-use Rattle.event_values.specs.Faults.{each_up_to}
-use Rattle.event_values.specs.Cuts.{in_parentheses, entries}
+use Rattle.packages.specs.Faults.{each_up_to}
+use Rattle.packages.specs.Cuts.{in_parentheses, entries}
 use Rattle.event_syntax.specs.RequestSpelling.{are_requested}
-use Rattle.event_values.specs.Signals.{signals_text, are_writable_signals}
+use Rattle.packages.specs.Signals.{signals_text, are_writable_signals}
 use Rattle.event_syntax.specs.Events.{events_text, is_writable}
 use Rattle.event_syntax.specs.Detect.{most_events}
 use Rattle.event_syntax.specs.Actions.{Joined, plain, embed, accumulate_and_embed, Rule, rule_of, takes}

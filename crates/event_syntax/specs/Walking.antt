@@ -5,11 +5,11 @@ use Rattle.std.specs.Borrow.{Bor}
 use Rattle.mg_bytes.specs.Bytes.{comma, left_parenthesis, right_parenthesis}
 use Rattle.mg_bytes.specs.Case.{same_but_case}
 use Rattle.mg_bytes.specs.Blanks.{trimmed}
-use Rattle.event_values.specs.declared.cut.Cut.TheVariants.{Commas, Parentheses}
+use Rattle.packages.specs.declared.cut.Cut.TheVariants.{Commas, Parentheses}
 use Rattle.mg_bytes.specs.Lists.{is_empty}
-use Rattle.event_values.specs.Cuts.{deeper, pieces}
-use Rattle.event_values.specs.Spelling.{is_word, are_parameters}
-use Rattle.event_values.specs.SignalSpelling.{are_signals}
+use Rattle.packages.specs.Cuts.{deeper, pieces}
+use Rattle.packages.specs.Spelling.{is_word, are_parameters}
+use Rattle.packages.specs.SignalSpelling.{are_signals}
 use Rattle.event_syntax.specs.EventSpelling.{is_event}
 use Rattle.event_syntax.specs.RequestSpelling.{is_embed, is_part, is_called, is_action, is_requested, are_requested_within}
 use Rattle.event_syntax.specs.declared.walk.Seen.{Seen}

@@ -4,13 +4,13 @@ ghost use Rattle.std.specs.List.{list_any};
 ghost use Rattle.mg_bytes.specs.Blanks.{is_blank};
 ghost use Rattle.mg_bytes.specs.Lines.{is_line_feed};
 ghost use Rattle.mg_bytes.specs.CodeFault.{AnswersAs, answer_of};
-ghost use Rattle.event_values.specs.Cuts.{entries};
-ghost use Rattle.event_values.specs.Faults.{each};
+ghost use Rattle.packages.specs.Cuts.{entries};
+ghost use Rattle.packages.specs.Faults.{each};
 ghost use Rattle.event_syntax.specs.Detect.{detected, detected_in, detected_of, detected_text, are_writable_events, most_events};
 
 use crate::event_spelling::are_detected;
 use crate::events::{Events, events_called, put_events};
-use event_values::{Inside, entries, form_of, has_at_most};
+use packages::{Inside, entries, form_of, has_at_most};
 use mg_bytes::{CodeFault, Few, OutOfMemory, ReturnCode, Text};
 use std::alloc::Global;
 

@@ -1,7 +1,7 @@
 //! Embedded requests: what stands in the parentheses of E.
 ghost use Rattle.std.specs.Prelude.{◌≡◌};
-ghost use Rattle.event_values.specs.Cuts.{entries};
-ghost use Rattle.event_values.specs.Faults.{each, each_up_to};
+ghost use Rattle.packages.specs.Cuts.{entries};
+ghost use Rattle.packages.specs.Faults.{each, each_up_to};
 ghost use Rattle.event_syntax.specs.Detect.{most_events};
 ghost use Rattle.event_syntax.specs.Embedding.{embedded_event, with_part_named};
 ghost use Rattle.event_syntax.specs.Embedding.{with_part, embedded_in, Gives};
@@ -10,7 +10,7 @@ use crate::detect::MOST_EVENTS;
 use crate::request::{EmbeddedEvent, EmbeddedEvents, EmbeddedRequest};
 use crate::rule::{Joined, rule_of};
 use digit_map::read_map;
-use event_values::{Inside, SignalRequests, entries, form_of, has_at_most, items, signals_in};
+use packages::{Inside, SignalRequests, entries, form_of, has_at_most, items, signals_in};
 use mg_bytes::{CodeFault, ReturnCode, same_no_case};
 use std::alloc::Global;
 

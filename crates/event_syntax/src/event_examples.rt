@@ -8,7 +8,7 @@ ghost use Rattle.event_syntax.specs.EventExample.{names, names_one, hooks, range
 
 use crate::events::Events;
 use mg_bytes::Letter;
-use mg_packages::LineEvent;
+use packages::LineEvent;
 
 /// Each sentence at an example.
 pub fn each_sentence_has_an_example()

@@ -2,7 +2,7 @@
 ghost use Rattle.std.specs.Prelude.{◌≡◌, ◌<◌, ◌≤◌, ℕ, List, ◌∷◌, ◌++◌, length, map, Ok, Err, is_ok, true, false};
 ghost use Rattle.std.specs.List.{list_all};
 ghost use Rattle.event_syntax.specs.declared.events.Events.{Events};
-ghost use Rattle.event_values.specs.Cuts.{entries};
+ghost use Rattle.packages.specs.Cuts.{entries};
 ghost use Rattle.event_syntax.specs.Detect.{most_events, detected, detected_of, detected_text, are_writable_events};
 ghost use Rattle.event_syntax.specs.EventSpelling.{are_detected};
 

@@ -3,7 +3,7 @@ ghost use Rattle.std.specs.Prelude.{◌≡◌};
 ghost use Rattle.event_syntax.specs.EventSpelling.{is_event, is_detected, are_detected};
 
 use crate::range::is_bracketed;
-use event_values::{entries, form_of, is_name, is_word, with_parameters};
+use packages::{entries, form_of, is_name, is_word, with_parameters};
 use mg_bytes::{same_no_case, split_once};
 
 #[tactic(auto, unfolding(crate::specs::EventSpelling::is_event))]

@@ -5,7 +5,7 @@ ghost use Rattle.mg_bytes.specs.Words.{in_brackets};
 
 use crate::range::{letters_in, put_letters};
 use mg_bytes::{OutOfMemory, ReturnCode, in_brackets, same_no_case, split_once};
-use mg_packages::{LineEvent, Package, event_in, event_name, in_package};
+use packages::{LineEvent, Package, event_in, event_name, in_package};
 
 /// The events that an entry of R or T names (RFC 3435, 2.1.7).
 #[derive(Clone, Copy)]

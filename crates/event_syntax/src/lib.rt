@@ -1,5 +1,5 @@
 //! The values of parameters that name events and signals (RFC 3435, 3.2.2): R and T, and with them S, Q and O, which
-//! `event_values` reads.
+//! `packages` reads.
 //!
 //! The spelling of a value is judged as a whole, and then it is read entry by entry. Reading T takes no memory.
 #![tactic(auto)]
@@ -27,7 +27,7 @@ pub use crate::request::{
 };
 pub use crate::request_writing::{write_embedded_events, write_events};
 pub use crate::requested::read_events;
-pub use event_values::{
+pub use packages::{
     Handling, Notifying, Observed, Quarantined, Setting, SignalRequest, SignalRequests,
     read_handling, read_observed, read_signals, write_handling, write_observed, write_signals,
 };

@@ -1,7 +1,7 @@
 //! What R holds (RFC 3435, 2.3.3): events with what is done at them, and requests embedded in these.
 use crate::events::Events;
 use digit_map::MapText;
-use event_values::SignalRequests;
+use packages::SignalRequests;
 use mg_bytes::{OutOfMemory, Sequence};
 use std::alloc::Global;
 use std::marker::Model;

@@ -5,13 +5,12 @@ ghost use Rattle.std.specs.Prelude.{◌≡◌, codes, [], ◌∷◌, Some, None,
 ghost use Rattle.event_syntax.specs.Requested.{requested_of, takes_memory, requested_text, are_writable_requested};
 ghost use Rattle.event_syntax.specs.RequestExample.{does, keeps, embeds, one_entry, inside, with_events, with_signals};
 ghost use Rattle.event_syntax.specs.RequestExample.{with_map, nothing, embedded_does, as_written};
-ghost use Rattle.event_values.specs.Example.{asks};
+ghost use Rattle.packages.specs.Example.{asks};
 ghost use Rattle.event_syntax.specs.EventExample.{range_of};
 
 use crate::events::Events;
 use crate::request::Action;
-use event_values::Setting;
-use mg_packages::{LineEvent, Signal};
+use packages::{LineEvent, Setting, Signal};
 
 /// Each sentence at an example.
 pub fn each_sentence_has_an_example()

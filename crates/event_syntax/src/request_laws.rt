@@ -3,7 +3,7 @@ ghost use Rattle.std.specs.Prelude.{◌≡◌, ◌<◌, ◌≤◌, ℕ, List, �
 ghost use Rattle.std.specs.List.{list_all};
 ghost use Rattle.event_syntax.specs.declared.request.RequestedEvent.{RequestedEvent};
 ghost use Rattle.event_syntax.specs.Actions.{embed, accumulate_and_embed, Rule, rule_of};
-ghost use Rattle.event_values.specs.Cuts.{entries};
+ghost use Rattle.packages.specs.Cuts.{entries};
 ghost use Rattle.event_syntax.specs.Detect.{most_events};
 ghost use Rattle.event_syntax.specs.Embedding.{embedded_in};
 ghost use Rattle.event_syntax.specs.Requested.{requested, requested_of, requested_text, are_writable_requested};

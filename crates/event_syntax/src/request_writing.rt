@@ -11,7 +11,7 @@ ghost use Rattle.event_syntax.specs.Requested.{requested_text, is_spelled_map, h
 use crate::events::put_events;
 use crate::request::{Action, EmbeddedEvent, EmbeddedRequest, Reaction, RequestedEvent};
 use digit_map::MapText;
-use event_values::{SignalRequest, write_signals};
+use packages::{SignalRequest, write_signals};
 use mg_bytes::{OutOfMemory, Text};
 use std::alloc::Global;
 

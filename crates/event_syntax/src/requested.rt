@@ -1,8 +1,8 @@
 //! The events that are requested: the value of R (RFC 3435, 2.3.3).
 ghost use Rattle.std.specs.Prelude.{◌≡◌, ◌&&◌, true, IfOk, is_ok, length, nat_le};
 ghost use Rattle.mg_bytes.specs.CodeFault.{AnswersAs, FailsForMemory};
-ghost use Rattle.event_values.specs.Cuts.{entries};
-ghost use Rattle.event_values.specs.Faults.{each};
+ghost use Rattle.packages.specs.Cuts.{entries};
+ghost use Rattle.packages.specs.Faults.{each};
 ghost use Rattle.event_syntax.specs.Actions.{joined_seen};
 ghost use Rattle.event_syntax.specs.Embedding.{embedded_in, Gives};
 ghost use Rattle.event_syntax.specs.Actions.{rule_of};
@@ -15,7 +15,7 @@ use crate::embedded::embedded_in;
 use crate::request::{Embedding, Reaction, RequestedEvent, RequestedEvents};
 use crate::rule::{Joined, rule_of};
 use crate::walk::are_requested;
-use event_values::{entries, has_at_most};
+use packages::{entries, has_at_most};
 use mg_bytes::{CodeFault, ReturnCode};
 use std::alloc::Global;
 

@@ -1,13 +1,13 @@
 //! What an entry of R says by itself, up to the inside of E.
 ghost use Rattle.std.specs.Prelude.{◌≡◌, option_map};
-ghost use Rattle.event_values.specs.Cuts.{items, inside_seen};
+ghost use Rattle.packages.specs.Cuts.{items, inside_seen};
 ghost use Rattle.event_syntax.specs.Actions.{word_named, word_of, said_of, takes, ruled_by, said_in};
 ghost use Rattle.event_syntax.specs.Actions.{rule_of, and_embed, and_action, and_word, joined_or_notify};
 ghost use Rattle.event_syntax.specs.Actions.{word_seen, joined_seen, so_far_seen, said_seen, rule_seen, seen_as};
 
 use crate::events::{Events, events_called};
 use crate::request::Action;
-use event_values::{Inside, form_of, items};
+use packages::{Inside, form_of, items};
 use mg_bytes::{ReturnCode, same_no_case};
 
 /// What one action says.
@@ -152,7 +152,7 @@ fn said_of(actions: &[u8]) -> Result<Said<'_>, u16>
     })
 }
 
-#[tactic(auto, unfolding(crate::specs::Actions::said_of, event_values::specs::Faults::each))]
+#[tactic(auto, unfolding(crate::specs::Actions::said_of, packages::specs::Faults::each))]
 fn said_in(inside: Inside<'_>) -> Result<Said<'_>, u16>
     ensures { seen_as said_seen result ≡ said_in (inside_seen inside.entry) }
 {

@@ -4,7 +4,7 @@ ghost use Rattle.std.specs.Prelude.{◌≡◌, ◌+◌, ◌≤◌, ◌==◌, ◌
 ghost use Rattle.std.specs.List.{list_all};
 ghost use Rattle.event_syntax.specs.declared.walk.Stand.TheVariants.{Entry as AnEntry};
 ghost use Rattle.mg_bytes.specs.Bytes.{right_parenthesis};
-ghost use Rattle.event_values.specs.Cuts.{deeper};
+ghost use Rattle.packages.specs.Cuts.{deeper};
 ghost use Rattle.event_syntax.specs.RequestSpelling.{are_requested, is_embed};
 ghost use Rattle.event_syntax.specs.Walking.{closing, split_seen, mark_of, marked, is_mark, is_free_byte, nested_at};
 ghost use Rattle.event_syntax.specs.Walking.{step_seen, entry_stepped, behind_parameters, behind_actions_stepped};
@@ -13,7 +13,7 @@ ghost use Rattle.event_syntax.specs.Walking.{behind_signals, behind_map, part_op
 ghost use Rattle.event_syntax.specs.Walking.{nothing_seen, stepped, is_left, holds_events};
 
 use crate::event_spelling::is_event;
-use event_values::{are_parameters, are_signals, deeper, is_word};
+use packages::{are_parameters, are_signals, deeper, is_word};
 use mg_bytes::{OutOfMemory, all_blank, same_no_case, trimmed};
 use std::alloc::Global;
 

@@ -2,7 +2,7 @@
 use Rattle.std.specs.Prelude.{ℕ, ◌+◌, ◌-◌, ◌^◌, min, codes, decimal, List, [], ◌∷◌, ◌++◌, fold, Option, Some, None}
 use Rattle.std.specs.Net.Text.{socket_v4_text}
 use Rattle.std.specs.declared.net.socket_addr.SocketAddrV4.{SocketAddrV4}
-use Rattle.mg_packages.specs.Looking.{signal_name}
+use Rattle.packages.specs.Looking.{signal_name}
 use Rattle.connections.specs.Modes.{mode_text}
 use Rattle.connections.specs.Numbers.{number_text}
 use Rattle.rgw_scripts.specs.Printing.{hook_word, end_shown}

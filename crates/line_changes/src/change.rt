@@ -5,7 +5,7 @@ ghost use Rattle.line_changes.specs.Changes.{codec_text, is_same_hook, is_same_e
 use crate::address::{is_same_address, is_same_remote};
 use crate::seen::SeenConnection;
 use connections::{Codec, mode_text};
-use mg_packages::{Hook, Signal};
+use packages::{Hook, Signal};
 use signals::ActiveSignal;
 
 /// What changed at a line.

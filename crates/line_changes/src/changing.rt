@@ -1,14 +1,14 @@
 //! Finds what changed at a line.
 ghost use Rattle.std.specs.Prelude.{◌≡◌, ◌++◌, ◌==◌, OnOk};
 ghost use Rattle.std.specs.List.{flat_map};
-ghost use Rattle.mg_packages.specs.Looking.{is_same_signal};
+ghost use Rattle.packages.specs.Looking.{is_same_signal};
 ghost use Rattle.line_changes.specs.Changes.{has_signal, has_active, has_number, has_connection};
 ghost use Rattle.line_changes.specs.Changes.{hook_change, ended, begun, over, standing, changes_of};
 
 use crate::change::{Change, is_same_active, is_same_connection, is_same_hook};
 use crate::seen::{SeenConnection, SeenLine};
 use mg_bytes::OutOfMemory;
-use mg_packages::{Hook, Signal};
+use packages::{Hook, Signal};
 use signals::ActiveSignal;
 
 fn is_of(active: ActiveSignal, signal: Signal) -> bool

@@ -2,8 +2,8 @@
 #![tactic(auto, unfolding(crate::proofs::Computing::on_examples))]
 
 ghost use Rattle.std.specs.Prelude.{◌≡◌, codes, [], ◌∷◌, replicate, true, false, Some, None};
-ghost use Rattle.mg_packages.specs.declared.hook.Hook.TheVariants.{OnHook, OffHook};
-ghost use Rattle.mg_packages.specs.declared.signal.Signal.TheVariants.{DialTone, Busy, Ringing};
+ghost use Rattle.packages.specs.declared.hook.Hook.TheVariants.{OnHook, OffHook};
+ghost use Rattle.packages.specs.declared.signal.Signal.TheVariants.{DialTone, Busy, Ringing};
 ghost use Rattle.connections.specs.declared.codec.Codec.TheVariants.{Pcmu, Pcma};
 ghost use Rattle.connections.specs.declared.codec.Codecs.TheVariants.{Only, Both};
 ghost use Rattle.connections.specs.declared.mode.Mode.TheVariants.{ReceiveOnly};

@@ -5,7 +5,7 @@ ghost use Rattle.line_changes.specs.Seen.{leading, remote_of, seen_connection, n
 use arrayvec::ArrayVec;
 use connections::{Codec, Codecs, Connection, Mode};
 use mg_bytes::OutOfMemory;
-use mg_packages::Hook;
+use packages::Hook;
 use sdp_subset::Session;
 use signals::ActiveSignal;
 use std::alloc::Global;

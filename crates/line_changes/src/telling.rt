@@ -8,7 +8,7 @@ use crate::seen::SeenConnection;
 use connections::{mode_text, write_number};
 use exchange_log::put_peer;
 use mg_bytes::{Draft, OutOfMemory};
-use mg_packages::signal_name;
+use packages::signal_name;
 use rgw_scripts::{hook_word, put_end};
 use signals::ActiveSignal;
 use std::alloc::Global;

@@ -1,10 +1,10 @@
 -- Rules of a line (RFC 3435, 2.3.3 and 4.4.1), over which its definition is written.
 use Rattle.std.specs.Prelude.{ℕ, Bool, true, false, ◌||◌, List, [], Option, Some, None}
-use Rattle.event_values.specs.declared.handling.Notifying.{Notifying}
-use Rattle.event_values.specs.declared.handling.Notifying.TheVariants.{Step, Loop}
-use Rattle.event_values.specs.declared.handling.Quarantined.{Quarantined}
-use Rattle.event_values.specs.declared.handling.Quarantined.TheVariants.{Process, Discard}
-use Rattle.event_values.specs.declared.observed.Observed.{Observed}
+use Rattle.packages.specs.declared.handling.Notifying.{Notifying}
+use Rattle.packages.specs.declared.handling.Notifying.TheVariants.{Step, Loop}
+use Rattle.packages.specs.declared.handling.Quarantined.{Quarantined}
+use Rattle.packages.specs.declared.handling.Quarantined.TheVariants.{Process, Discard}
+use Rattle.packages.specs.declared.observed.Observed.{Observed}
 use Rattle.line_rules.specs.declared.state.State.{State}
 use Rattle.line_rules.specs.declared.state.State.TheVariants.{Normal, Notification, Lockstep}
 

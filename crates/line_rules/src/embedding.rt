@@ -3,7 +3,7 @@ ghost use Rattle.std.specs.Prelude.{◌≡◌};
 ghost use Rattle.line_rules.specs.Rules.{accumulated_after_embedding};
 
 use arrayvec::ArrayVec;
-use event_values::Observed;
+use packages::Observed;
 
 /// An embedded request without accumulation takes effect: what was accumulated is dropped.
 pub fn drop_accumulated<const N: usize>(events: &mut ArrayVec<Observed, N>)

@@ -2,7 +2,7 @@
 ghost use Rattle.std.specs.Prelude.{◌≡◌};
 ghost use Rattle.line_rules.specs.Rules.{discards, resumes_when_answered};
 
-use event_values::{Notifying, Quarantined};
+use packages::{Notifying, Quarantined};
 
 /// Whether a request drops the events that are quarantined when it comes.
 pub fn discards(quarantined: Quarantined) -> bool

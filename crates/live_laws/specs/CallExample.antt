@@ -1,10 +1,10 @@
 -- What the worked examples speak of.
 use Rattle.std.specs.Prelude.{ℕ, zero, suc, ◌+◌, List, [], ◌∷◌, ◌++◌, codes, Option, Some}
 use Rattle.std.specs.List.{flat_map}
-use Rattle.mg_packages.specs.declared.event.LineEvent.TheVariants as events
+use Rattle.packages.specs.declared.event.LineEvent.TheVariants as events
 use Rattle.mg_bytes.specs.declared.letter.Letter.{Letter}
-use Rattle.event_values.specs.declared.observed.Observed.{Observed}
-use Rattle.event_values.specs.declared.observed.Observed.TheVariants.{Happened}
+use Rattle.packages.specs.declared.observed.Observed.{Observed}
+use Rattle.packages.specs.declared.observed.Observed.TheVariants.{Happened}
 use Rattle.call_routing.specs.declared.phase.Phase.{Phase}
 use Rattle.call_routing.specs.declared.told.Told.TheVariants.{OffHook, OnHook, Dialled}
 use Rattle.call_routing.specs.declared.command.Command.{Command}

@@ -3,9 +3,9 @@
 
 ghost use Rattle.std.specs.Prelude.{◌≡◌, ◌++◌, ◌∷◌, [], true, false, codes, option_map, Some, None};
 ghost use Rattle.mg_bytes.specs.declared.letter.Letter.TheVariants as keys;
-ghost use Rattle.mg_packages.specs.declared.event.LineEvent.TheVariants as events;
-ghost use Rattle.mg_packages.specs.declared.signal.Signal.TheVariants.{DialTone};
-ghost use Rattle.event_values.specs.declared.observed.Observed.TheVariants as observed;
+ghost use Rattle.packages.specs.declared.event.LineEvent.TheVariants as events;
+ghost use Rattle.packages.specs.declared.signal.Signal.TheVariants.{DialTone};
+ghost use Rattle.packages.specs.declared.observed.Observed.TheVariants as observed;
 ghost use Rattle.call_routing.specs.Phases.{other_end, named_by};
 ghost use Rattle.call_routing.specs.Calls.{greatest_call, caller_of, put_through, all_resting};
 ghost use Rattle.call_routing.specs.declared.fate.Fate.TheVariants as fates;
@@ -18,7 +18,7 @@ ghost use Rattle.live_laws.specs.CallTurns.{tells, sends, clears, after, is_sent
 ghost use Rattle.live_laws.specs.CallExample.{opened, all_sent, driven, coded, accepted, given_up, created_first, created_second, ready, dial, ring, pick_up, connect, hang_up, then_is, phase_then, sent_at, key};
 
 use call_routing::{Asked, Cause, Command, Leg, Outcome, Phase, Side, Told, Tone};
-use mg_packages::Hook;
+use packages::Hook;
 
 /// Each sentence at an example.
 pub fn each_sentence_has_an_example()

@@ -1,6 +1,6 @@
 -- A line as the page is shown it in the worked examples.
 use Rattle.std.specs.Prelude.{true, codes, List, [], ◌∷◌, Option, Some, None}
-use Rattle.mg_packages.specs.declared.signal.Signal.TheVariants.{DialTone}
+use Rattle.packages.specs.declared.signal.Signal.TheVariants.{DialTone}
 use Rattle.connections.specs.declared.connection.Connection.{Connection}
 use Rattle.line_changes.specs.Example.{held, talking, lifted, until}
 use Rattle.line_changes.specs.Seen.{SeenLine}

@@ -2,9 +2,9 @@
 use Rattle.std.specs.Prelude.{ℕ, ◌+◌, ◌++◌, ◌==◌, if◌then◌else◌, zero, suc, Bool, true, false, List, [], ◌∷◌, map, Option, Some, None}
 use Rattle.std.specs.Net.Text.{socket_v4_text}
 use Rattle.std.specs.declared.net.socket_addr.SocketAddrV4.{SocketAddrV4}
-use Rattle.mg_packages.specs.declared.hook.Hook.{Hook}
-use Rattle.mg_packages.specs.declared.hook.Hook.TheVariants.{OnHook, OffHook}
-use Rattle.mg_packages.specs.Looking.{signal_name}
+use Rattle.packages.specs.declared.hook.Hook.{Hook}
+use Rattle.packages.specs.declared.hook.Hook.TheVariants.{OnHook, OffHook}
+use Rattle.packages.specs.Looking.{signal_name}
 use Rattle.signals.specs.declared.active.ActiveSignal.{ActiveSignal}
 use Rattle.connections.specs.declared.connection.Connection.{Connection}
 use Rattle.connections.specs.Modes.{mode_text}

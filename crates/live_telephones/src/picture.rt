@@ -21,7 +21,7 @@ use line_changes::{SeenConnection, SeenLine, codec_text};
 use live_journal::Journal;
 use message_counts::{Faults, MessageTally, place_of};
 use mg_bytes::{Draft, OutOfMemory};
-use mg_packages::{Hook, signal_name};
+use packages::{Hook, signal_name};
 use mgcp_text::Verb;
 use signals::ActiveSignal;
 use std::alloc::{AllocError, Global};

@@ -2,7 +2,7 @@
 #![tactic(auto, unfolding(crate::proofs::Computing::on_examples))]
 
 ghost use Rattle.std.specs.Prelude.{◌≡◌, None, Some, codes, false, [], ◌∷◌};
-ghost use Rattle.mg_packages.specs.declared.hook.Hook.TheVariants.{OnHook};
+ghost use Rattle.packages.specs.declared.hook.Hook.TheVariants.{OnHook};
 ghost use Rattle.plain_machine.specs.Example.{two_lines};
 ghost use Rattle.plain_machine.specs.Lists.{plain};
 ghost use Rattle.line_changes.specs.Example.{resting};

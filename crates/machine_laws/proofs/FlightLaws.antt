@@ -12,14 +12,14 @@ use Rattle.endpoint_names.specs.declared.route.Route.{Route}
 use Rattle.endpoint_names.specs.Route.{at}
 use Rattle.endpoint_names.specs.declared.entity.Entity.{Entity}
 use Rattle.mgcp_text.specs.Writing.{written}
-use Rattle.mg_packages.specs.declared.event.LineEvent.TheVariants as events
-use Rattle.mg_packages.specs.declared.signal.Kind.{Kind}
-use Rattle.mg_packages.specs.declared.signal.Kind.TheVariants.{TimeOut, Brief, OnOff}
-use Rattle.mg_packages.specs.declared.signal.Signal.{Signal}
-use Rattle.mg_packages.specs.Looking.{kind_of}
+use Rattle.packages.specs.declared.event.LineEvent.TheVariants as events
+use Rattle.packages.specs.declared.signal.Kind.{Kind}
+use Rattle.packages.specs.declared.signal.Kind.TheVariants.{TimeOut, Brief, OnOff}
+use Rattle.packages.specs.declared.signal.Signal.{Signal}
+use Rattle.packages.specs.Looking.{kind_of}
 use Rattle.mg_bytes.specs.declared.letter.Letter.TheVariants.{Timer}
-use Rattle.event_values.specs.declared.observed.Observed.{Observed}
-use Rattle.event_values.specs.declared.observed.Observed.TheVariants.{Happened, Ended}
+use Rattle.packages.specs.declared.observed.Observed.{Observed}
+use Rattle.packages.specs.declared.observed.Observed.TheVariants.{Happened, Ended}
 use Rattle.signals.specs.Stopping.{without}
 use Rattle.retransmission.specs.declared.repeat.Repeat.{Repeat}
 use Rattle.retransmission.specs.declared.repeat.Repeat.TheVariants.{Sent as SentAgain, GivenUp}

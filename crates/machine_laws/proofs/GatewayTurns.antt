@@ -8,7 +8,7 @@ use Rattle.mgcp_text.specs.declared.message.Verb.TheVariants.{Ntfy}
 use Rattle.endpoint_names.specs.declared.entity.Entity.{Entity}
 use Rattle.endpoint_names.specs.declared.name.Pattern.TheVariants.{One}
 use Rattle.endpoint_names.specs.Name.{name_text}
-use Rattle.event_values.specs.Observed.{observed_text}
+use Rattle.packages.specs.Observed.{observed_text}
 use Rattle.command_forms.specs.declared.forms.Asks.TheVariants.{Does}
 use Rattle.command_forms.specs.declared.forms.Deed.{Deed}
 use Rattle.command_forms.specs.declared.forms.Target.{Target}

@@ -8,7 +8,7 @@ use Rattle.std.proofs.lemmas.Bool.{and_parts}
 use Rattle.std.proofs.lemmas.Slice.Eq.{bytes_eq-Decides}
 use Rattle.mg_bytes.specs.declared.letter.Letter.{Letter}
 use Rattle.mg_bytes.specs.Blanks.{is_blank}
-use Rattle.mg_packages.specs.declared.event.LineEvent.{LineEvent}
+use Rattle.packages.specs.declared.event.LineEvent.{LineEvent}
 use Rattle.digit_map.specs.declared.change.MapChange.{MapChange}
 use Rattle.digit_map.specs.declared.change.MapChange.TheVariants.{Keep, Remove, Replace}
 use Rattle.digit_map.specs.declared.fault.MapFault.{MapFault}
@@ -18,7 +18,7 @@ use Rattle.digit_map.specs.Change.{change_of, replaced_by}
 use Rattle.digit_map.specs.Reading.{map_of, or_code}
 use Rattle.digit_map.specs.Spelling.{is_map}
 use Rattle.digit_map.proofs.ReadingLaws.{read_spelled}
-use Rattle.event_values.specs.declared.observed.Observed.{Observed}
+use Rattle.packages.specs.declared.observed.Observed.{Observed}
 use Rattle.event_syntax.specs.declared.request.EmbeddedEvent.{EmbeddedEvent}
 use Rattle.event_syntax.specs.declared.request.EmbeddedRequest.{EmbeddedRequest}
 use Rattle.event_syntax.specs.declared.request.RequestedEvent.{RequestedEvent}

@@ -13,10 +13,10 @@ use Rattle.mg_bytes.specs.Blanks.{is_blank}
 use Rattle.mg_bytes.specs.Lines.{is_line_feed, ended}
 use Rattle.mg_bytes.specs.Numbers.{is_hex_text}
 use Rattle.mg_bytes.specs.declared.letter.Letter.TheVariants as letters
-use Rattle.mg_packages.specs.declared.event.LineEvent.{LineEvent}
-use Rattle.mg_packages.specs.declared.event.LineEvent.TheVariants as events
-use Rattle.mg_packages.specs.declared.signal.Signal.TheVariants.{DialTone, Busy, Reorder, Ringing, RingSplash, MessageWaiting, Ringback, Congestion, Confirm}
-use Rattle.mg_packages.specs.Looking.{event_name, signal_name, package_of, completion_of, event_named}
+use Rattle.packages.specs.declared.event.LineEvent.{LineEvent}
+use Rattle.packages.specs.declared.event.LineEvent.TheVariants as events
+use Rattle.packages.specs.declared.signal.Signal.TheVariants.{DialTone, Busy, Reorder, Ringing, RingSplash, MessageWaiting, Ringback, Congestion, Confirm}
+use Rattle.packages.specs.Looking.{event_name, signal_name, package_of, completion_of, event_named}
 use Rattle.mgcp_text.specs.declared.message.Param.{Param}
 use Rattle.mgcp_text.specs.declared.message.Verb.{Verb}
 use Rattle.mgcp_text.specs.declared.message.Verb.TheVariants.{Epcf, Rqnt, Ntfy, Crcx, Mdcx, Dlcx, Auep, Aucx, Rsip, Other}
@@ -24,10 +24,10 @@ use Rattle.mgcp_text.specs.Writing.{verb_text, command_line, value_text, param_l
 use Rattle.mgcp_text.proofs.IdLemmas.{is_id_true}
 use Rattle.mgcp_text.proofs.ValueLaws.{word_writable}
 use Rattle.mgcp_text.proofs.WholeLemmas.{whole_written}
-use Rattle.event_values.specs.declared.observed.Observed.{Observed}
-use Rattle.event_values.specs.declared.observed.Observed.TheVariants.{Happened, Ended}
-use Rattle.event_values.specs.Observed.{observed_entry_text, observed_text}
-use Rattle.event_values.proofs.ObservedLaws.{observed_no_blanks, observed_one_line}
+use Rattle.packages.specs.declared.observed.Observed.{Observed}
+use Rattle.packages.specs.declared.observed.Observed.TheVariants.{Happened, Ended}
+use Rattle.packages.specs.Observed.{observed_entry_text, observed_text}
+use Rattle.packages.proofs.ObservedLaws.{observed_no_blanks, observed_one_line}
 use Rattle.endpoint_names.specs.declared.name.Pattern.TheVariants.{One, All}
 use Rattle.endpoint_names.specs.Name.{local_name, name_text}
 use Rattle.endpoint_names.specs.Table.{is_domain_byte, is_domain, longest_domain}

@@ -5,7 +5,7 @@ ghost use Rattle.std.specs.Prelude.{◌≡◌, ◌++◌, codes, [], ◌∷◌, r
 ghost use Rattle.std.specs.List.{list_all};
 ghost use Rattle.transmission.specs.HistoryExample.{comes, to};
 ghost use Rattle.mg_line.specs.declared.phone.Act.TheVariants as acts;
-ghost use Rattle.mg_packages.specs.declared.signal.Signal.TheVariants as tones;
+ghost use Rattle.packages.specs.declared.signal.Signal.TheVariants as tones;
 ghost use Rattle.mgcp_text.specs.declared.message.Message.TheVariants as messages;
 ghost use Rattle.mgcp_text.specs.Reading.{read_text};
 ghost use Rattle.plain_machine.specs.Event.{phone, tick, datagram};

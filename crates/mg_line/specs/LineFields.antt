@@ -3,10 +3,10 @@ use Rattle.std.specs.Prelude.{ℕ, if◌then◌else◌, Bool, true, false, List,
 use Rattle.std.specs.Borrow.{Bor}
 use Rattle.mg_bytes.specs.declared.letter.Letter.{Letter}
 use Rattle.digit_map.specs.Verdict.{Matching}
-use Rattle.mg_packages.specs.declared.signal.Signal.{Signal}
-use Rattle.mg_packages.specs.Looking.{kind_of}
+use Rattle.packages.specs.declared.signal.Signal.{Signal}
+use Rattle.packages.specs.Looking.{kind_of}
 use Rattle.signals.specs.Stopping.{without_time_outs, without}
-use Rattle.event_values.specs.declared.observed.Observed.{Observed}
+use Rattle.packages.specs.declared.observed.Observed.{Observed}
 use Rattle.mg_line.specs.declared.fields.LineFields.{LineFields}
 use Rattle.mg_line.specs.declared.phone.Act.{Act}
 use Rattle.line_rules.specs.declared.state.State.{State}

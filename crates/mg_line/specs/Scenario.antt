@@ -1,12 +1,12 @@
 -- What a line tells over a list of turns; for worked examples.
 use Rattle.std.specs.Prelude.{ℕ, zero, suc, nat_le, if◌then◌else◌, List, [], ◌∷◌, ◌++◌, Option, Some, None, Result, Ok, Err}
 use Rattle.digit_map.specs.declared.change.MapChange.TheVariants.{Keep, Remove, Replace}
-use Rattle.event_values.specs.declared.handling.Handling.{Handling}
+use Rattle.packages.specs.declared.handling.Handling.{Handling}
 use Rattle.event_syntax.specs.Detect.{detected_of}
-use Rattle.event_values.specs.Handling.{handling_of}
-use Rattle.event_values.specs.Observed.{observed_of}
+use Rattle.packages.specs.Handling.{handling_of}
+use Rattle.packages.specs.Observed.{observed_of}
 use Rattle.event_syntax.specs.Requested.{requested_of}
-use Rattle.event_values.specs.Signals.{signals_of}
+use Rattle.packages.specs.Signals.{signals_of}
 use Rattle.timers.specs.declared.kind.LineDue.{LineDue}
 use Rattle.mg_line.specs.declared.phone.Act.{Act}
 use Rattle.event_requests.specs.declared.request.Request.{Request}

@@ -12,7 +12,7 @@ use event_requests::EventRequest;
 use event_syntax::{Handling, Notifying, Observed, Quarantined};
 use line_rules::{State, quarantine_room};
 use mg_bytes::{Identifier, OutOfMemory};
-use mg_packages::Hook;
+use packages::Hook;
 use quarantine::Buffer;
 use signals::SignalSet;
 use std::alloc::Global;

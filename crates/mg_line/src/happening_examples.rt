@@ -3,10 +3,10 @@
 
 ghost use Rattle.std.specs.Prelude.{◌≡◌, ◌∷◌, [], codes, Some, None, true, false};
 ghost use Rattle.mg_bytes.specs.declared.letter.Letter.TheVariants as letter;
-ghost use Rattle.mg_packages.specs.declared.event.LineEvent.TheVariants as event;
-ghost use Rattle.event_values.specs.declared.handling.Notifying.TheVariants as notifying;
-ghost use Rattle.event_values.specs.declared.handling.Quarantined.TheVariants as quarantined;
-ghost use Rattle.event_values.specs.declared.observed.Observed.TheVariants.{Happened, Ended};
+ghost use Rattle.packages.specs.declared.event.LineEvent.TheVariants as event;
+ghost use Rattle.packages.specs.declared.handling.Notifying.TheVariants as notifying;
+ghost use Rattle.packages.specs.declared.handling.Quarantined.TheVariants as quarantined;
+ghost use Rattle.packages.specs.declared.observed.Observed.TheVariants.{Happened, Ended};
 ghost use Rattle.event_requests.specs.Example.{asked as in_force};
 ghost use Rattle.signals.specs.Example.{until, endless};
 ghost use Rattle.mg_line.specs.Line.{opening_line, still};
@@ -22,7 +22,7 @@ ghost use Rattle.mg_line.specs.Example.{flashed, put_back, lifted, one_pressed, 
 use crate::phone::{Act, Key};
 use digit_map::MapChange;
 use line_rules::State;
-use mg_packages::{Hook, Signal};
+use packages::{Hook, Signal};
 use timers::LineDue;
 
 /// Each sentence at an example.

@@ -9,7 +9,7 @@ ghost use Rattle.mg_line.specs.Example.{lifted, put_back, flashed, flashes};
 ghost use Rattle.mg_line.specs.Scenario.{does, asks, answers, opens, waits, requests, with_map, without_map, with_signals, with_detected, with_handling, tells, scenario, opening_scenario, repeated};
 
 use crate::phone::{Act, Key};
-use mg_packages::Signal;
+use packages::Signal;
 
 /// A perfect match is notified at once.
 pub fn a_perfect_match_is_notified()

@@ -14,7 +14,7 @@ use Rattle.command_forms.proofs.FormLemmas.{deed_has_values}
 use Rattle.endpoint_names.specs.declared.entity.Entity.{Entity}
 use Rattle.endpoint_names.specs.declared.name.Pattern.TheVariants.{One}
 use Rattle.endpoint_names.specs.Name.{name_text}
-use Rattle.event_values.specs.Observed.{observed_text}
+use Rattle.packages.specs.Observed.{observed_text}
 use Rattle.mg_line.specs.Line.{LineDone, Notice}
 use Rattle.mg_line.specs.Acting.{phoned}
 use Rattle.mg_line.specs.Answering.{answered}

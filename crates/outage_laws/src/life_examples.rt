@@ -2,8 +2,8 @@
 #![tactic(auto, unfolding(crate::proofs::Computing::on_examples))]
 
 ghost use Rattle.std.specs.Prelude.{◌≡◌, codes, [], ◌∷◌, map, true};
-ghost use Rattle.mg_packages.specs.declared.event.LineEvent.TheVariants as events;
-ghost use Rattle.event_values.specs.declared.observed.Observed.TheVariants.{Happened};
+ghost use Rattle.packages.specs.declared.event.LineEvent.TheVariants as events;
+ghost use Rattle.packages.specs.declared.observed.Observed.TheVariants.{Happened};
 ghost use Rattle.plain_machine.specs.Example.{two_lines};
 ghost use Rattle.outage_laws.specs.Lives.{lives_opening, lives_are_taken};
 ghost use Rattle.outage_laws.specs.Apart.{begun_of};

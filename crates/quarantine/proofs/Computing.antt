@@ -1,6 +1,6 @@
 -- The definitions opened, so that worked examples compute.
 use Rattle.std.specs.Prelude.{⊤}
-use Rattle.event_values.proofs.Computing.{on_examples as syntax_examples}
+use Rattle.packages.proofs.ValueComputing.{on_examples as syntax_examples}
 use Rattle.quarantine.specs.Held.{holding}
 use Rattle.quarantine.specs.Given.{held_after, given_back}
 

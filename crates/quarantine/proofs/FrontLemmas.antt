@@ -2,7 +2,7 @@
 use Rattle.std.proofs.Common.{◌≡◌, ℕ, ◌-◌, ◌≤◌, nat_le, Bool, true, false, List, length, drop, refl, sym, ap, ◌∙◌, arith}
 use Rattle.std.proofs.lemmas.Bool.{leb-true, leb-false}
 use Rattle.std.proofs.lemmas.List.{drop_all}
-use Rattle.event_values.specs.declared.observed.Observed.{Observed}
+use Rattle.packages.specs.declared.observed.Observed.{Observed}
 
 pub front_dropped : (events : List Observed) (count : ℕ) → drop (length events - (length events - count)) events ≡ drop count events
 front_dropped events count = by_test (nat_le count (length events)) refl where

@@ -1,8 +1,8 @@
 -- What is quarantined in the worked examples.
 use Rattle.std.specs.Prelude.{ℕ, List, map}
-use Rattle.mg_packages.specs.declared.event.LineEvent.{LineEvent}
-use Rattle.event_values.specs.declared.observed.Observed.{Observed}
-use Rattle.event_values.specs.declared.observed.Observed.TheVariants.{Happened}
+use Rattle.packages.specs.declared.event.LineEvent.{LineEvent}
+use Rattle.packages.specs.declared.observed.Observed.{Observed}
+use Rattle.packages.specs.declared.observed.Observed.TheVariants.{Happened}
 use Rattle.quarantine.specs.Held.{Held, nothing_held}
 use Rattle.quarantine.specs.Given.{Happening, comes, held_after, given_back}
 

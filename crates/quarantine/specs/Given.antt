@@ -1,6 +1,6 @@
 -- What a quarantine gives back, told by what comes and what is asked for.
 use Rattle.std.specs.Prelude.{ℕ, zero, suc, List, [], ◌∷◌, ◌++◌, take}
-use Rattle.event_values.specs.declared.observed.Observed.{Observed}
+use Rattle.packages.specs.declared.observed.Observed.{Observed}
 use Rattle.quarantine.specs.Held.{Held, holding, without_first}
 
 -- an event comes, or the first is taken

@@ -1,6 +1,6 @@
 -- The events that a line keeps while it can't process them (RFC 3435, 4.4.1), and how many found no room.
 use Rattle.std.specs.Prelude.{ℕ, nat_lt, ◌+◌, min, if◌then◌else◌, List, [], ◌∷◌, ◌++◌, length, drop, Option, Some, None}
-use Rattle.event_values.specs.declared.observed.Observed.{Observed}
+use Rattle.packages.specs.declared.observed.Observed.{Observed}
 
 -- the events in the order in which they came, for how many there is room in all, and the count of those that are lost
 pub record Held : Type 0 where

@@ -1,7 +1,7 @@
 //! The quarantined events of a line.
 
 use circular_buffer::{HeapCircularBuffer, Iter};
-use event_values::Observed;
+use packages::Observed;
 use mg_bytes::OutOfMemory;
 use std::alloc::Global;
 use std::marker::Model;
@@ -28,7 +28,7 @@ impl Model for Buffer {
 impl Buffer {
     ghost use Rattle.std.specs.Prelude.{◌≡◌, ◌≢◌, ◌<◌, ◌≤◌, ◌^◌, IfOk, IfErr, OnOk, OnErr, length, slice_get};
     ghost use Rattle.std.specs.Map.Iter.{ShowsInOrder, deref};
-    ghost use Rattle.event_values.specs.declared.observed.Observed.{Observed};
+    ghost use Rattle.packages.specs.declared.observed.Observed.{Observed};
     ghost use Rattle.quarantine.specs.Held.{nothing_held, holding, first_of, without_first, without_front, cleared};
 
     /// No events, and room for so many. An error is for want of memory only.

@@ -6,8 +6,7 @@ ghost use Rattle.quarantine.specs.Held.{most_lost, nothing_held, holding, first_
 ghost use Rattle.quarantine.specs.Given.{is_taken, coming};
 ghost use Rattle.quarantine.specs.Example.{happened, come, held_of, given_of, holds};
 
-use event_values::Observed;
-use mg_packages::{LineEvent, Signal};
+use packages::{LineEvent, Observed, Signal};
 
 /// Each sentence at an example.
 pub fn each_sentence_has_an_example()

@@ -1,6 +1,6 @@
 //! Laws of the quarantine. Each function has an empty body: its clauses are the theorems.
 ghost use Rattle.std.specs.Prelude.{◌≡◌, ◌+◌, ◌<◌, ◌≤◌, ℕ, List, ◌++◌, length};
-ghost use Rattle.event_values.specs.declared.observed.Observed.{Observed};
+ghost use Rattle.packages.specs.declared.observed.Observed.{Observed};
 ghost use Rattle.quarantine.specs.Held.{most_lost, nothing_held};
 ghost use Rattle.quarantine.specs.Given.{Happening, coming, held_after, given_back, InOrderBut};
 

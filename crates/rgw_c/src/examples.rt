@@ -4,8 +4,8 @@
 ghost use Rattle.std.specs.Prelude.{◌≡◌, ℕ, [], ◌∷◌, List, length, true, false, Some, None};
 ghost use Rattle.mg_line.specs.declared.phone.Act.TheVariants as acts;
 ghost use Rattle.mg_line.specs.declared.phone.Key.TheVariants as keys;
-ghost use Rattle.mg_packages.specs.declared.hook.Hook.TheVariants as hooks;
-ghost use Rattle.mg_packages.specs.declared.signal.Signal.TheVariants as signals;
+ghost use Rattle.packages.specs.declared.hook.Hook.TheVariants as hooks;
+ghost use Rattle.packages.specs.declared.signal.Signal.TheVariants as signals;
 ghost use Rattle.mgcp_text.specs.declared.message.Verb.TheVariants as verbs;
 ghost use Rattle.connections.specs.declared.codec.Codec.TheVariants.{Pcmu, Pcma};
 ghost use Rattle.connections.specs.declared.codec.Codecs.TheVariants.{Only, Both};

@@ -16,7 +16,7 @@ use crate::structs::{ConnectionTold, SignalTold};
 use connections::{Codec, Codecs, Connection, Mode};
 use gateway_core::Gateway;
 use mg_line::Hook;
-use mg_packages::Signal;
+use packages::Signal;
 use plain_machine::Setup;
 use sdp_subset::Session;
 use signals::ActiveSignal;

@@ -7,7 +7,7 @@ use Rattle.toml.specs.Data.{Data, string, integer, table, Members, no_members, m
 use Rattle.mg_bytes.specs.Lines.{lines_of}
 use Rattle.endpoint_names.specs.declared.route.Route.{Route}
 use Rattle.mg_bytes.specs.Words.{words}
-use Rattle.mg_packages.specs.declared.hook.Hook.{Hook}
+use Rattle.packages.specs.declared.hook.Hook.{Hook}
 use Rattle.connections.specs.declared.connection.Connection.{Connection}
 use Rattle.connections.specs.declared.mode.Mode.{Mode}
 use Rattle.plain_machine.specs.declared.config.Config.{Config}

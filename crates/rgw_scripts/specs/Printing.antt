@@ -3,9 +3,9 @@ use Rattle.std.specs.Prelude.{ℕ, codes, decimal, List, [], ◌∷◌, ◌++◌
 use Rattle.std.specs.List.{flat_map, filter_map}
 use Rattle.std.specs.Net.Text.{socket_v4_text}
 use Rattle.mg_bytes.specs.Lines.{lines_of}
-use Rattle.mg_packages.specs.declared.hook.Hook.{Hook}
-use Rattle.mg_packages.specs.declared.hook.Hook.TheVariants.{OffHook, OnHook}
-use Rattle.mg_packages.specs.Looking.{signal_name}
+use Rattle.packages.specs.declared.hook.Hook.{Hook}
+use Rattle.packages.specs.declared.hook.Hook.TheVariants.{OffHook, OnHook}
+use Rattle.packages.specs.Looking.{signal_name}
 use Rattle.signals.specs.declared.active.ActiveSignal.{ActiveSignal}
 use Rattle.connections.specs.declared.connection.Connection.{Connection}
 use Rattle.connections.specs.Modes.{mode_text}

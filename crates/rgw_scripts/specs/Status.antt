@@ -1,6 +1,6 @@
 -- What a line is when it is shown: what the gateway's readers tell of it.
 use Rattle.std.specs.Prelude.{ℕ, List, Option, Some, None}
-use Rattle.mg_packages.specs.declared.hook.Hook.{Hook}
+use Rattle.packages.specs.declared.hook.Hook.{Hook}
 use Rattle.signals.specs.declared.active.ActiveSignal.{ActiveSignal}
 use Rattle.connections.specs.declared.connection.Connection.{Connection}
 use Rattle.plain_machine.specs.Machine.{Machine}

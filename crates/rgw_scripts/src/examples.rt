@@ -5,7 +5,7 @@ ghost use Rattle.std.specs.Prelude.{◌≡◌, ℕ, codes, pos, negsuc, true, fa
 ghost use Rattle.toml.specs.Data.{string, integer, boolean, array, table, no_items, item, no_members, member};
 ghost use Rattle.endpoint_names.specs.declared.route.Route.TheVariants.{Two, Three, Four};
 ghost use Rattle.mg_line.specs.declared.phone.Act.TheVariants as acts;
-ghost use Rattle.mg_packages.specs.declared.hook.Hook.TheVariants as hooks;
+ghost use Rattle.packages.specs.declared.hook.Hook.TheVariants as hooks;
 ghost use Rattle.mg_line.specs.declared.phone.Key.TheVariants as keys;
 ghost use Rattle.gateway_rules.specs.declared.refusal.Refusal.TheVariants as refusals;
 ghost use Rattle.plain_machine.specs.Event.{datagram, phone, tick};
@@ -19,7 +19,7 @@ ghost use Rattle.rgw_scripts.specs.Script.{act_of};
 ghost use Rattle.rgw_scripts.specs.declared.played.LinkFault.TheVariants as link_faults;
 ghost use Rattle.rgw_scripts.specs.declared.played.PlayFault.TheVariants as play_faults;
 ghost use Rattle.rgw_scripts.specs.Fault.{play_fault_number, link_fault_number, name_of_config_fault};
-ghost use Rattle.mg_packages.specs.declared.signal.Signal.TheVariants as signals;
+ghost use Rattle.packages.specs.declared.signal.Signal.TheVariants as signals;
 ghost use Rattle.connections.specs.declared.mode.Mode.TheVariants as modes;
 ghost use Rattle.rgw_scripts.specs.Printing.{connections_shown};
 ghost use Rattle.rgw_scripts.specs.Moves.{give, pass, ask, sends, refuses, tells, moves_of, printed, is_refused};

@@ -13,7 +13,7 @@ use connections::{Connection, mode_text, write_number};
 use exchange_log::put_peer;
 use mg_bytes::{Draft, OutOfMemory, lines};
 use mg_line::Hook;
-use mg_packages::signal_name;
+use packages::signal_name;
 use plain_machine::{OutDatagram, Refusal};
 use signals::ActiveSignal;
 use std::alloc::Global;

@@ -9,7 +9,7 @@
 use crate::keeping::{Held, Kept};
 use crate::texts::{is_word, named};
 use mg_bytes::OutOfMemory;
-use mg_packages::SIGNALS;
+use packages::SIGNALS;
 use scenario_files::{Outcome, Row, Scenario, range_in};
 use std::alloc::Global;
 use timers::{Due, DueItem, DueKind, LineDue, comes_before};

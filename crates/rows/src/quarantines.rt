@@ -8,7 +8,7 @@
 use crate::events::observed_of;
 use crate::keeping::{Held, Kept};
 use event_syntax::write_observed;
-use event_values::Observed;
+use packages::Observed;
 use mg_bytes::OutOfMemory;
 use mg_line::MOST_QUARANTINED;
 use quarantine::Buffer;

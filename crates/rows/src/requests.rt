@@ -12,7 +12,7 @@ use crate::texts::{are_same, is_word};
 use event_requests::{Decision, Doing, EventRequest, decide};
 use event_syntax::{Action, Embedding, Observed, write_signals};
 use mg_bytes::OutOfMemory;
-use mg_packages::event_of;
+use packages::event_of;
 use scenario_files::{Outcome, Row, Scenario, parted};
 use std::alloc::Global;
 

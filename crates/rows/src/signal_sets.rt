@@ -8,7 +8,7 @@
 use crate::keeping::Held;
 use event_syntax::read_signals;
 use mg_bytes::OutOfMemory;
-use mg_packages::{Hook, signal_name, signal_of};
+use packages::{Hook, signal_name, signal_of};
 use scenario_files::{Outcome, Row, Scenario};
 use signals::{SignalSet, refused};
 use std::alloc::Global;

@@ -3,9 +3,9 @@ use Rattle.std.proofs.Common.{◌≡◌, ◌≢◌, Bool, true, false, ◌&&◌,
 use Rattle.std.specs.List.{list_any, filter_map, cons_option}
 use Rattle.std.specs.Option.{option_or}
 use Rattle.std.proofs.lemmas.List.Elements.{filter_agree}
-use Rattle.mg_packages.specs.declared.signal.Signal.{Signal}
-use Rattle.mg_packages.specs.declared.signal.Signal.TheVariants.{DialTone, Busy, Reorder, Ringing, RingSplash, MessageWaiting, Ringback, Congestion, Confirm}
-use Rattle.mg_packages.specs.Looking.{is_same_signal}
+use Rattle.packages.specs.declared.signal.Signal.{Signal}
+use Rattle.packages.specs.declared.signal.Signal.TheVariants.{DialTone, Busy, Reorder, Ringing, RingSplash, MessageWaiting, Ringback, Congestion, Confirm}
+use Rattle.packages.specs.Looking.{is_same_signal}
 use Rattle.signals.specs.declared.active.ActiveSignal.{ActiveSignal}
 use Rattle.signals.specs.Active.{table, among, IsInTableOrder}
 use Rattle.signals.specs.Fields.{is_apart, are_distinct}

@@ -1,6 +1,6 @@
 -- The definitions opened, so that worked examples compute.
 use Rattle.std.specs.Prelude.{⊤}
-use Rattle.mg_packages.specs.Looking.{kind_of, time_of, refused_in}
+use Rattle.packages.specs.Looking.{kind_of, time_of, refused_in}
 use Rattle.signals.specs.Stopping.{without_time_outs, allowed_in, without}
 use Rattle.signals.specs.Applying.{signals_refusal, after_start, after_entries, applied}
 use Rattle.signals.specs.Due.{due_first}

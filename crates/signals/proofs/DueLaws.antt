@@ -4,7 +4,7 @@ use Rattle.std.proofs.lemmas.Bool.{leb-true, leb-false}
 use Rattle.std.proofs.lemmas.Bool.Decides.{nat_tests}
 use Rattle.std.proofs.lemmas.List.Elements.{All-nil, All-cons, All-head, All-tail}
 use Rattle.std.proofs.lemmas.List.Sums.{fold-append}
-use Rattle.mg_packages.specs.declared.signal.Signal.{Signal}
+use Rattle.packages.specs.declared.signal.Signal.{Signal}
 use Rattle.signals.specs.declared.active.ActiveSignal.{ActiveSignal}
 use Rattle.signals.specs.Due.{end_of, earlier, due_first, IsDueFirst}
 

@@ -4,12 +4,12 @@ use Rattle.std.proofs.lemmas.Bool.Decides.{nat_tests}
 use Rattle.std.proofs.lemmas.List.Elements.{All-nil, All-cons, All-head, All-tail, All-weaker, filter_passes, filter-append}
 use Rattle.std.proofs.lemmas.List.Sums.{fold-append}
 use Rattle.mg_bytes.specs.Checks.{first_fault}
-use Rattle.mg_packages.specs.declared.hook.Hook.{Hook}
-use Rattle.mg_packages.specs.declared.signal.Signal.{Signal}
-use Rattle.mg_packages.specs.Looking.{is_same_signal, time_of, refused_in}
-use Rattle.event_values.specs.declared.signals.Setting.{Setting}
-use Rattle.event_values.specs.declared.signals.Setting.TheVariants.{Start, Stop, Lasting}
-use Rattle.event_values.specs.declared.signals.SignalRequest.{SignalRequest}
+use Rattle.packages.specs.declared.hook.Hook.{Hook}
+use Rattle.packages.specs.declared.signal.Signal.{Signal}
+use Rattle.packages.specs.Looking.{is_same_signal, time_of, refused_in}
+use Rattle.packages.specs.declared.signals.Setting.{Setting}
+use Rattle.packages.specs.declared.signals.Setting.TheVariants.{Start, Stop, Lasting}
+use Rattle.packages.specs.declared.signals.SignalRequest.{SignalRequest}
 use Rattle.signals.specs.declared.active.ActiveSignal.{ActiveSignal}
 use Rattle.signals.specs.Active.{among, is_time_out, is_forbidden, IsInTableOrder}
 use Rattle.signals.specs.Stopping.{without_time_outs, allowed_in, without}

@@ -1,13 +1,13 @@
 -- What S makes of a signal.
 use Rattle.std.proofs.Common.{◌≡◌, ◌≢◌, ℕ, Bool, true, false, ◌||◌, if◌then◌else◌, List, [], ◌∷◌, filter, fold, Option, Some, None, refl, sym, ap, ◌∙◌, IfSome}
 use Rattle.std.specs.List.{list_any}
-use Rattle.mg_packages.specs.declared.hook.Hook.{Hook}
-use Rattle.mg_packages.specs.declared.signal.Signal.{Signal}
-use Rattle.mg_packages.specs.declared.signal.Signal.TheVariants.{DialTone, Busy, Reorder, Ringing, RingSplash, MessageWaiting, Ringback, Congestion, Confirm}
-use Rattle.mg_packages.specs.Looking.{is_same_signal, time_of}
-use Rattle.event_values.specs.declared.signals.Setting.{Setting}
-use Rattle.event_values.specs.declared.signals.Setting.TheVariants.{Start, Stop, Lasting}
-use Rattle.event_values.specs.declared.signals.SignalRequest.{SignalRequest}
+use Rattle.packages.specs.declared.hook.Hook.{Hook}
+use Rattle.packages.specs.declared.signal.Signal.{Signal}
+use Rattle.packages.specs.declared.signal.Signal.TheVariants.{DialTone, Busy, Reorder, Ringing, RingSplash, MessageWaiting, Ringback, Congestion, Confirm}
+use Rattle.packages.specs.Looking.{is_same_signal, time_of}
+use Rattle.packages.specs.declared.signals.Setting.{Setting}
+use Rattle.packages.specs.declared.signals.Setting.TheVariants.{Start, Stop, Lasting}
+use Rattle.packages.specs.declared.signals.SignalRequest.{SignalRequest}
 use Rattle.signals.specs.declared.active.ActiveSignal.{ActiveSignal}
 use Rattle.signals.specs.declared.slot.Slot.{Slot}
 use Rattle.signals.specs.declared.slot.Slot.TheVariants.{Idle, Endless, Until}

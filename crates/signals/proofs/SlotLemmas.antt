@@ -1,9 +1,9 @@
 -- Slots for the signals of a table, and the active signals that they hold.
 use Rattle.std.proofs.Common.{◌≡◌, ℕ, zero, suc, ◌+◌, ◌<◌, ◌≤◌, Bool, true, false, ◌&&◌, ◌||◌, not, if◌then◌else◌, List, [], ◌∷◌, ◌++◌, length, take, set, get_or, map, filter, Option, Some, None, is_some, refl, sym, ap, ◌∙◌, arith, add-one, append-nil, option_to_list}
 use Rattle.std.specs.List.{list_any, filter_map, cons_option}
-use Rattle.mg_packages.specs.declared.signal.Signal.{Signal}
-use Rattle.mg_packages.specs.declared.signal.Signal.TheVariants.{DialTone, Busy, Reorder, Ringing, RingSplash, MessageWaiting, Ringback, Congestion, Confirm}
-use Rattle.mg_packages.specs.Looking.{is_same_signal}
+use Rattle.packages.specs.declared.signal.Signal.{Signal}
+use Rattle.packages.specs.declared.signal.Signal.TheVariants.{DialTone, Busy, Reorder, Ringing, RingSplash, MessageWaiting, Ringback, Congestion, Confirm}
+use Rattle.packages.specs.Looking.{is_same_signal}
 use Rattle.signals.specs.declared.active.ActiveSignal.{ActiveSignal}
 use Rattle.signals.specs.declared.slot.Slot.{Slot}
 use Rattle.signals.specs.declared.slot.Slot.TheVariants.{Idle, Endless, Until}

@@ -1,11 +1,11 @@
 -- The active signals of a line with their ends (RFC 3435, 2.1.7), as a list in the order of the table.
 use Rattle.std.specs.Prelude.{◌≡◌, Bool, true, false, List, map, filter, find, Option, is_some}
-use Rattle.mg_packages.specs.declared.hook.Hook.{Hook}
-use Rattle.mg_packages.specs.declared.signal.Kind.{Kind}
-use Rattle.mg_packages.specs.declared.signal.Kind.TheVariants.{TimeOut, Brief, OnOff}
-use Rattle.mg_packages.specs.declared.signal.Signal.{Signal}
-use Rattle.mg_packages.specs.Tables.{signal_rows}
-use Rattle.mg_packages.specs.Looking.{is_same_signal, kind_of, refused_in}
+use Rattle.packages.specs.declared.hook.Hook.{Hook}
+use Rattle.packages.specs.declared.signal.Kind.{Kind}
+use Rattle.packages.specs.declared.signal.Kind.TheVariants.{TimeOut, Brief, OnOff}
+use Rattle.packages.specs.declared.signal.Signal.{Signal}
+use Rattle.packages.specs.Tables.{signal_rows}
+use Rattle.packages.specs.Looking.{is_same_signal, kind_of, refused_in}
 use Rattle.signals.specs.declared.active.ActiveSignal.{ActiveSignal}
 
 -- the signals in the order of the table

@@ -2,12 +2,12 @@
 use Rattle.std.specs.Prelude.{ℕ, ◌+◌, ◌==◌, ◌&&◌, ◌||◌, Bool, if◌then◌else◌, List, [], ◌∷◌, map, filter, fold, Option, Some, None, is_some}
 use Rattle.std.specs.List.{filter_map}
 use Rattle.mg_bytes.specs.Checks.{first_fault}
-use Rattle.mg_packages.specs.declared.hook.Hook.{Hook}
-use Rattle.mg_packages.specs.declared.signal.Signal.{Signal}
-use Rattle.mg_packages.specs.Looking.{is_same_signal, time_of, refused_in}
-use Rattle.event_values.specs.declared.signals.Setting.{Setting}
-use Rattle.event_values.specs.declared.signals.Setting.TheVariants.{Start, Stop, Lasting}
-use Rattle.event_values.specs.declared.signals.SignalRequest.{SignalRequest}
+use Rattle.packages.specs.declared.hook.Hook.{Hook}
+use Rattle.packages.specs.declared.signal.Signal.{Signal}
+use Rattle.packages.specs.Looking.{is_same_signal, time_of, refused_in}
+use Rattle.packages.specs.declared.signals.Setting.{Setting}
+use Rattle.packages.specs.declared.signals.Setting.TheVariants.{Start, Stop, Lasting}
+use Rattle.packages.specs.declared.signals.SignalRequest.{SignalRequest}
 use Rattle.signals.specs.declared.active.ActiveSignal.{ActiveSignal}
 use Rattle.signals.specs.Active.{table, among, is_time_out, is_forbidden}
 

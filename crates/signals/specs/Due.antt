@@ -1,6 +1,6 @@
 -- Which active signal ends first (RFC 3435, 2.1.7).
 use Rattle.std.specs.Prelude.{◌≡◌, ℕ, ◌<◌, ◌≤◌, nat_le, if◌then◌else◌, List, ◌∷◌, ◌++◌, fold, All, Option, Some, None, option_map, IfSome}
-use Rattle.mg_packages.specs.declared.signal.Signal.{Signal}
+use Rattle.packages.specs.declared.signal.Signal.{Signal}
 use Rattle.signals.specs.declared.active.ActiveSignal.{ActiveSignal}
 
 -- the end of an active signal, where it has one, and the signal

@@ -1,10 +1,10 @@
 -- What the worked examples share.
 use Rattle.std.specs.Prelude.{ℕ, List, [], ◌∷◌, Some, None}
-use Rattle.mg_packages.specs.declared.hook.Hook.TheVariants.{OnHook, OffHook}
-use Rattle.mg_packages.specs.declared.signal.Signal.{Signal}
-use Rattle.mg_packages.specs.declared.signal.Signal.TheVariants.{DialTone, Busy, Reorder, Ringing, RingSplash, MessageWaiting, Ringback, Congestion, Confirm}
-use Rattle.event_values.specs.declared.signals.Setting.TheVariants.{Start, Stop, Lasting}
-use Rattle.event_values.specs.declared.signals.SignalRequest.{SignalRequest}
+use Rattle.packages.specs.declared.hook.Hook.TheVariants.{OnHook, OffHook}
+use Rattle.packages.specs.declared.signal.Signal.{Signal}
+use Rattle.packages.specs.declared.signal.Signal.TheVariants.{DialTone, Busy, Reorder, Ringing, RingSplash, MessageWaiting, Ringback, Congestion, Confirm}
+use Rattle.packages.specs.declared.signals.Setting.TheVariants.{Start, Stop, Lasting}
+use Rattle.packages.specs.declared.signals.SignalRequest.{SignalRequest}
 use Rattle.signals.specs.declared.active.ActiveSignal.{ActiveSignal}
 use Rattle.signals.specs.Applying.{applied}
 

@@ -5,5 +5,5 @@ pub mod Due
 pub mod Slots
 pub mod Fields
 pub mod Example
-pub use Rattle.event_values.specs.declared.signals.Setting
-pub use Rattle.event_values.specs.declared.signals.SignalRequest
+pub use Rattle.packages.specs.declared.signals.Setting
+pub use Rattle.packages.specs.declared.signals.SignalRequest

@@ -1,8 +1,8 @@
 -- How the active signals are kept: a slot for each signal of the table.
 use Rattle.std.specs.Prelude.{ℕ, List, [], ◌∷◌, Option, Some, None}
 use Rattle.std.specs.List.{cons_option, position_or_len}
-use Rattle.mg_packages.specs.declared.signal.Signal.{Signal}
-use Rattle.mg_packages.specs.Looking.{is_same_signal}
+use Rattle.packages.specs.declared.signal.Signal.{Signal}
+use Rattle.packages.specs.Looking.{is_same_signal}
 use Rattle.signals.specs.declared.active.ActiveSignal.{ActiveSignal}
 use Rattle.signals.specs.declared.slot.Slot.{Slot}
 use Rattle.signals.specs.declared.slot.Slot.TheVariants.{Idle, Endless, Until}

@@ -1,8 +1,8 @@
 -- What stops of the active signals. What goes on keeps its end.
 use Rattle.std.specs.Prelude.{not, List, filter}
-use Rattle.mg_packages.specs.declared.hook.Hook.{Hook}
-use Rattle.mg_packages.specs.declared.signal.Signal.{Signal}
-use Rattle.mg_packages.specs.Looking.{is_same_signal}
+use Rattle.packages.specs.declared.hook.Hook.{Hook}
+use Rattle.packages.specs.declared.signal.Signal.{Signal}
+use Rattle.packages.specs.Looking.{is_same_signal}
 use Rattle.signals.specs.declared.active.ActiveSignal.{ActiveSignal}
 use Rattle.signals.specs.Active.{is_time_out, is_forbidden}
 

@@ -2,7 +2,7 @@
 ghost use Rattle.std.specs.Prelude.{◌≡◌};
 ghost use Rattle.signals.specs.Active.{is_time_out, is_forbidden};
 
-use mg_packages::{Hook, Kind, Signal, kind_of, refused_in};
+use packages::{Hook, Kind, Signal, kind_of, refused_in};
 
 /// A signal that is active (RFC 3435, 2.1.7), and the moment in ms at which it ends; `None` where no time ends it.
 #[derive(Clone, Copy, PartialEq, Eq)]
@@ -14,7 +14,7 @@ pub struct ActiveSignal {
 // What stands in a place of a list that has no signal yet.
 impl Default for ActiveSignal {
     ghost use Rattle.std.specs.Prelude.{◌≡◌, None};
-    ghost use Rattle.mg_packages.specs.declared.signal.Signal.TheVariants.{DialTone};
+    ghost use Rattle.packages.specs.declared.signal.Signal.TheVariants.{DialTone};
 
     ghost is_default = { λ active. active ≡ record { signal = DialTone; end = None } };
 

@@ -3,7 +3,7 @@ ghost use Rattle.std.specs.Prelude.{◌≡◌};
 ghost use Rattle.signals.specs.Due.{end_of, earlier};
 
 use crate::active::ActiveSignal;
-use mg_packages::Signal;
+use packages::Signal;
 
 // The end of an active signal, where it has one, and the signal.
 pub(crate) fn end_of(active: ActiveSignal) -> Option<(u64, Signal)>

@@ -2,9 +2,9 @@
 #![tactic(auto, unfolding(crate::proofs::Computing::on_examples))]
 
 ghost use Rattle.std.specs.Prelude.{◌≡◌, [], ◌∷◌, map, replicate, Some, None};
-ghost use Rattle.mg_packages.specs.declared.hook.Hook.TheVariants.{OnHook, OffHook};
-ghost use Rattle.mg_packages.specs.declared.signal.Signal.TheVariants.{DialTone, Busy, Reorder, Ringing, RingSplash};
-ghost use Rattle.mg_packages.specs.declared.signal.Signal.TheVariants.{MessageWaiting, Ringback, Congestion, Confirm};
+ghost use Rattle.packages.specs.declared.hook.Hook.TheVariants.{OnHook, OffHook};
+ghost use Rattle.packages.specs.declared.signal.Signal.TheVariants.{DialTone, Busy, Reorder, Ringing, RingSplash};
+ghost use Rattle.packages.specs.declared.signal.Signal.TheVariants.{MessageWaiting, Ringback, Congestion, Confirm};
 ghost use Rattle.signals.specs.Active.{table};
 ghost use Rattle.signals.specs.Stopping.{without_time_outs, allowed_in, without};
 ghost use Rattle.signals.specs.Applying.{signals_refusal};

@@ -2,11 +2,11 @@
 //! active where it is found `among` the active ones, with its end.
 ghost use Rattle.std.specs.Prelude.{◌≡◌, ◌≢◌, ◌<◌, ◌⊎◌, ◌++◌, ◌∷◌, [], ℕ, true, false, List, if◌then◌else◌, All};
 ghost use Rattle.std.specs.Prelude.{Option, Some, None, IfSome, IsSome};
-ghost use Rattle.mg_packages.specs.declared.hook.Hook.{Hook};
-ghost use Rattle.mg_packages.specs.declared.signal.Signal.{Signal};
-ghost use Rattle.mg_packages.specs.Looking.{refused_in};
-ghost use Rattle.event_values.specs.declared.signals.Setting.TheVariants.{Stop};
-ghost use Rattle.event_values.specs.declared.signals.SignalRequest.{SignalRequest};
+ghost use Rattle.packages.specs.declared.hook.Hook.{Hook};
+ghost use Rattle.packages.specs.declared.signal.Signal.{Signal};
+ghost use Rattle.packages.specs.Looking.{refused_in};
+ghost use Rattle.packages.specs.declared.signals.Setting.TheVariants.{Stop};
+ghost use Rattle.packages.specs.declared.signals.SignalRequest.{SignalRequest};
 ghost use Rattle.signals.specs.declared.active.ActiveSignal.{ActiveSignal};
 ghost use Rattle.signals.specs.Active.{among, is_time_out, is_forbidden, IsInTableOrder};
 ghost use Rattle.signals.specs.Stopping.{without_time_outs, allowed_in, without};

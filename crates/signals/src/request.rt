@@ -1,12 +1,11 @@
 //! What is asked of signals (RFC 3435, 2.3.3).
 ghost use Rattle.std.specs.Prelude.{◌≡◌, ◌<◌, ◌^◌, fold};
 ghost use Rattle.std.specs.List.{list_any};
-ghost use Rattle.mg_packages.specs.Looking.{is_same_signal};
+ghost use Rattle.packages.specs.Looking.{is_same_signal};
 ghost use Rattle.signals.specs.Applying.{refused_entry, signals_refusal, end_after, goes_on, after_start, after_entry, entries_for, after_entries};
 
 use crate::active::{ActiveSignal, is_forbidden, is_time_out};
-use event_values::{Setting, SignalRequest};
-use mg_packages::{Hook, Signal, refused_in, time_of};
+use packages::{Hook, Setting, Signal, SignalRequest, refused_in, time_of};
 
 fn refused_entry(hook: Hook, request: SignalRequest) -> Option<u16>
     ensures { result ≡ refused_entry hook request }

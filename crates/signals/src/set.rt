@@ -10,8 +10,7 @@ use crate::due::{earlier, end_of};
 use crate::request::after_entries;
 use crate::slot::{Slot, held_in, place_of, slot_of};
 use arrayvec::ArrayVec;
-use event_values::SignalRequest;
-use mg_packages::{Hook, SIGNALS, Signal};
+use packages::{Hook, SIGNALS, Signal, SignalRequest};
 use std::marker::Model;
 
 /// The active signals of a line with their ends (RFC 3435, 2.1.7). Moments and times are in ms.

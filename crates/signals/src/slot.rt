@@ -3,7 +3,7 @@ ghost use Rattle.std.specs.Prelude.{◌≡◌, ◌<◌};
 ghost use Rattle.signals.specs.Slots.{place_of, held_in, slot_of};
 
 use crate::active::ActiveSignal;
-use mg_packages::Signal;
+use packages::Signal;
 
 /// Whether a signal is active, and when it ends.
 #[derive(Clone, Copy)]

@@ -2,7 +2,7 @@
 use Rattle.std.proofs.Common.{◌≡◌, ℕ, Bool, false, List, Option, Some, None, length, drop, refl, sym, ap, subst, ◌∙◌}
 use Rattle.std.specs.Prelude.{not, ◌==◌, slice_get, IfSome}
 use Rattle.std.specs.Global.{Box}
-use Rattle.event_values.specs.declared.observed.Observed.{Observed}
+use Rattle.packages.specs.declared.observed.Observed.{Observed}
 use Rattle.call_routing.specs.Numbers.{told_in, tells_digits}
 use Rattle.call_office.specs.declared.office.Office.{Office}
 use Rattle.call_office.specs.Steps.{HearsSome}

@@ -1,7 +1,7 @@
 -- What it is to a board that what a line told is taken.
 use Rattle.std.specs.Prelude.{◌≡◌, ◌==◌, ℕ, Bool, true, false, not, List, drop, length, Option, Some, None, IsSomeAnd, slice_get, slice_set}
 use Rattle.std.specs.Global.{Box}
-use Rattle.event_values.specs.declared.observed.Observed.{Observed}
+use Rattle.packages.specs.declared.observed.Observed.{Observed}
 use Rattle.call_agent.specs.Agent.{observed_on}
 use Rattle.call_agent.specs.AgentStands.{AgentStands}
 use Rattle.call_agent.specs.Hearing.{AgentEvent, plain_agent}

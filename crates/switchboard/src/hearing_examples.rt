@@ -7,7 +7,7 @@ ghost use Rattle.mgcp_text.specs.declared.message.Message.TheVariants as message
 ghost use Rattle.mgcp_text.specs.declared.message.Param.{Param};
 ghost use Rattle.mgcp_text.specs.Reading.{bad_body, bad_version, no_header, read_text, takes_memory};
 ghost use Rattle.endpoint_names.specs.declared.name.NameFault.TheVariants.{Unknown};
-ghost use Rattle.event_values.specs.declared.observed.Observed.{Observed};
+ghost use Rattle.packages.specs.declared.observed.Observed.{Observed};
 ghost use Rattle.agent_texts.specs.declared.journal.Journal.{Journal};
 ghost use Rattle.agent_texts.specs.declared.station.Station.{Station};
 ghost use Rattle.agent_texts.specs.declared.tally.Tally.{Tally};

@@ -10,7 +10,7 @@ use crate::gateway::Gateway;
 use agent_texts::{Journal, Station};
 use call_office::Office;
 use call_routing::NumberPlan;
-use event_values::Observed;
+use packages::Observed;
 use std::alloc::Global;
 
 // What was observed behind so many.

@@ -2,7 +2,7 @@
 #![tactic(auto, unfolding(crate::proofs::Computing::on_examples))]
 
 ghost use Rattle.std.specs.Prelude.{◌≡◌, [], ◌∷◌, Some, None};
-ghost use Rattle.mg_packages.specs.declared.signal.Signal.TheVariants.{DialTone, Busy, Reorder, Ringing, RingSplash, MessageWaiting, Ringback, Congestion, Confirm};
+ghost use Rattle.packages.specs.declared.signal.Signal.TheVariants.{DialTone, Busy, Reorder, Ringing, RingSplash, MessageWaiting, Ringback, Congestion, Confirm};
 ghost use Rattle.timers.specs.declared.kind.DueKind.TheVariants.{Resend, Announce};
 ghost use Rattle.timers.specs.Order.{earlier};
 ghost use Rattle.timers.specs.Table.{nothing_set, due, moment_of, with_moment, without, least_of, IsLeast};

@@ -2,7 +2,7 @@
 ghost use Rattle.std.specs.Prelude.{◌≡◌, ◌<◌};
 ghost use Rattle.timers.specs.Order.{place_of, signal_count, kind_number, kind_count};
 
-use mg_packages::Signal;
+use packages::Signal;
 
 /// What can fall due on a line, in the order in which it happens where several are due at one moment.
 #[derive(Clone, Copy, PartialEq, Eq)]

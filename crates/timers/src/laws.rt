@@ -1,6 +1,6 @@
 //! Laws of due moments, in the words of their subject: of every table, in whatever order it was set.
 ghost use Rattle.std.specs.Prelude.{◌≡◌, ◌≢◌, ◌<◌, ℕ, [], All, Any, true, false, Some, None};
-ghost use Rattle.mg_packages.specs.declared.signal.Signal.{Signal};
+ghost use Rattle.packages.specs.declared.signal.Signal.{Signal};
 ghost use Rattle.timers.specs.declared.kind.DueKind.{DueKind};
 ghost use Rattle.timers.specs.declared.kind.DueKind.TheVariants.{OfLine, Resend, Announce};
 ghost use Rattle.timers.specs.declared.kind.LineDue.TheVariants.{DigitTimer, SignalEnd};

@@ -12,7 +12,7 @@ use Rattle.transmission.specs.Looking.{Looked, new, repeat, confirmed, full, loo
 use Rattle.transmission.specs.Memory.{most_firsts}
 use Rattle.transmission.specs.Acknowledging.{asks_for_acknowledgement}
 use Rattle.transmission.specs.Texts.{texts_of}
-use Rattle.event_values.specs.declared.observed.Observed.{Observed}
+use Rattle.packages.specs.declared.observed.Observed.{Observed}
 use Rattle.event_requests.specs.declared.request.Request.{Request}
 use Rattle.mg_line.specs.declared.phone.Act.{Act}
 use Rattle.retransmission.specs.declared.repeat.Repeat.{Repeat}

@@ -1,7 +1,7 @@
 -- What lines tell, for whole courses from the opening on.
 use Rattle.std.proofs.Common.{◌≡◌, suc, ◌+◌, Bool, true, List, [], ◌∷◌, ◌++◌, length, refl, ap, ◌∙◌, arith, ℕ, ◌≤◌, min, Some, inl, inr, sym, subst}
 use Rattle.std.specs.Prelude.{filter, if◌then◌else◌, ◌⊎◌}
-use Rattle.event_values.specs.declared.observed.Observed.{Observed}
+use Rattle.packages.specs.declared.observed.Observed.{Observed}
 use Rattle.quarantine.proofs.GivenLaws.{counted_out}
 use Rattle.told_laws.specs.Among.{AreAmong, IsToldInOrder}
 use Rattle.event_requests.specs.declared.request.Request.{Request}

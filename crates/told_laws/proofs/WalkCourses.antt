@@ -3,15 +3,15 @@ use Rattle.std.proofs.Common.{◌≡◌, ◌≢◌, ℕ, Bool, true, false, List
 use Rattle.std.specs.Prelude.{not, ◌&&◌, ◌||◌, if◌then◌else◌}
 use Rattle.std.proofs.lemmas.Bool.{true≢false, not-true}
 use Rattle.mg_bytes.specs.declared.letter.Letter.TheVariants as letters
-use Rattle.mg_packages.specs.declared.event.LineEvent.TheVariants as events
-use Rattle.mg_packages.specs.declared.signal.Kind.{Kind}
-use Rattle.mg_packages.specs.declared.signal.Kind.TheVariants.{TimeOut, Brief, OnOff}
-use Rattle.mg_packages.specs.declared.signal.Signal.{Signal}
-use Rattle.mg_packages.specs.Looking.{kind_of}
-use Rattle.event_values.specs.declared.handling.Quarantined.{Quarantined}
-use Rattle.event_values.specs.declared.handling.Quarantined.TheVariants.{Process, Discard}
-use Rattle.event_values.specs.declared.observed.Observed.{Observed}
-use Rattle.event_values.specs.declared.observed.Observed.TheVariants.{Happened, Ended}
+use Rattle.packages.specs.declared.event.LineEvent.TheVariants as events
+use Rattle.packages.specs.declared.signal.Kind.{Kind}
+use Rattle.packages.specs.declared.signal.Kind.TheVariants.{TimeOut, Brief, OnOff}
+use Rattle.packages.specs.declared.signal.Signal.{Signal}
+use Rattle.packages.specs.Looking.{kind_of}
+use Rattle.packages.specs.declared.handling.Quarantined.{Quarantined}
+use Rattle.packages.specs.declared.handling.Quarantined.TheVariants.{Process, Discard}
+use Rattle.packages.specs.declared.observed.Observed.{Observed}
+use Rattle.packages.specs.declared.observed.Observed.TheVariants.{Happened, Ended}
 use Rattle.event_requests.specs.declared.request.Request.{Request}
 use Rattle.signals.specs.Stopping.{without}
 use Rattle.timers.specs.declared.kind.LineDue.{LineDue}

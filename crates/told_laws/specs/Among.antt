@@ -1,6 +1,6 @@
 -- What a line tells of what was done at its telephone, whatever is asked of it (RFC 3435, 4.4.1).
 use Rattle.std.specs.Prelude.{ℕ, List, ◌++◌}
-use Rattle.event_values.specs.declared.observed.Observed.{Observed}
+use Rattle.packages.specs.declared.observed.Observed.{Observed}
 use Rattle.quarantine.specs.Given.{InOrderBut}
 use Rattle.mg_line.specs.Line.{LineState}
 use Rattle.world_laws.specs.Course.{CourseStep}

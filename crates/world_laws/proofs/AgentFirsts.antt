@@ -31,7 +31,7 @@ use Rattle.call_agent.specs.declared.setup.AgentSetup.{AgentSetup}
 use Rattle.call_agent.specs.declared.taking.Taken.{Taken}
 use Rattle.call_agent.specs.Agent.{AgentMachine, nothing_taken}
 use Rattle.call_agent.specs.Taking.{GatewayCommand, answer_to, command_of, transacted_by, with_taken, faulty_command, read_command}
-use Rattle.event_values.specs.declared.observed.Observed.{Observed}
+use Rattle.packages.specs.declared.observed.Observed.{Observed}
 use Rattle.world_laws.specs.Reached.{Reached, added_by, as_arrival, executed_with, reached, reached_as, taken_with, executed_of, key_kept, key_reached}
 use Rattle.call_agent.specs.Responding.{replied, responded, responded_to}
 use Rattle.call_agent.specs.Flying.{has_id}

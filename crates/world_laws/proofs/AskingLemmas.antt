@@ -2,8 +2,8 @@
 use Rattle.std.proofs.Common.{◌≡◌, Bool, true, false, List, [], ◌∷◌, refl, ap}
 use Rattle.std.specs.List.{list_all}
 use Rattle.mg_bytes.specs.declared.letter.Letter.TheVariants as letters
-use Rattle.mg_packages.specs.declared.event.LineEvent.{LineEvent}
-use Rattle.mg_packages.specs.declared.event.LineEvent.TheVariants as events
+use Rattle.packages.specs.declared.event.LineEvent.{LineEvent}
+use Rattle.packages.specs.declared.event.LineEvent.TheVariants as events
 use Rattle.event_syntax.specs.declared.request.Action.TheVariants.{Notify, Accumulate, Dial, Ignore}
 use Rattle.event_syntax.specs.declared.request.RequestedEvent.{RequestedEvent}
 use Rattle.event_syntax.specs.declared.request.Reaction.{Reaction}

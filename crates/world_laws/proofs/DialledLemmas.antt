@@ -2,9 +2,9 @@
 use Rattle.std.proofs.Common.{◌≡◌, ℕ, ◌≤◌, Bool, true, false, List, [], ◌∷◌, ◌++◌, Option, Some, None, refl, sym, ap, subst, ◌∙◌, append-nil, append_assoc, arith}
 use Rattle.std.specs.Prelude.{IfSome}
 use Rattle.std.proofs.lemmas.Grind.{flat_map-append}
-use Rattle.event_values.specs.declared.handling.Handling.{Handling}
-use Rattle.event_values.specs.declared.handling.Notifying.TheVariants.{Step as InStep}
-use Rattle.event_values.specs.declared.observed.Observed.{Observed}
+use Rattle.packages.specs.declared.handling.Handling.{Handling}
+use Rattle.packages.specs.declared.handling.Notifying.TheVariants.{Step as InStep}
+use Rattle.packages.specs.declared.observed.Observed.{Observed}
 use Rattle.quarantine.specs.Held.{most_lost}
 use Rattle.mg_line.specs.declared.phone.Act.{Act}
 use Rattle.event_requests.specs.declared.request.Request.{Request}

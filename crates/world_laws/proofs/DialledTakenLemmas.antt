@@ -13,7 +13,7 @@ use Rattle.endpoint_names.specs.declared.name.Pattern.{Pattern}
 use Rattle.endpoint_names.specs.declared.name.Pattern.TheVariants.{One}
 use Rattle.endpoint_names.specs.Name.{name_text}
 use Rattle.endpoint_names.proofs.WrittenLemmas.{line_read}
-use Rattle.event_values.specs.declared.observed.Observed.{Observed}
+use Rattle.packages.specs.declared.observed.Observed.{Observed}
 use Rattle.plain_machine.specs.declared.setup.Setup.{Setup}
 use Rattle.plain_machine.specs.Answering.{line_meant}
 use Rattle.plain_machine.specs.Message.{Begun, Owner, Said, answer, again, command, resent, acknowledgement, Sent}

@@ -2,7 +2,7 @@
 use Rattle.std.proofs.Common.{◌≡◌, ℕ, Bool, true, false, List, [], ◌∷◌, ◌++◌, Option, Some, None, Result, inl, inr, refl, sym, ap, subst, ◌∙◌, append-nil}
 use Rattle.std.specs.Prelude.{◌⊎◌, flat_map, IfSome}
 use Rattle.endpoint_names.specs.declared.entity.Entity.{Entity}
-use Rattle.event_values.specs.declared.observed.Observed.{Observed}
+use Rattle.packages.specs.declared.observed.Observed.{Observed}
 use Rattle.timers.specs.declared.kind.LineDue.{LineDue}
 use Rattle.mg_line.specs.declared.phone.Act.{Act}
 use Rattle.event_requests.specs.declared.request.Request.{Request}

@@ -2,13 +2,13 @@
 use Rattle.std.proofs.Common.{rules, ℕ, ◌+◌, ◌≤◌, Bool, true, false, if◌then◌else◌, length, None, sym, subst, ◌≡◌, List, [], ◌∷◌, ◌++◌, Option, Some, inl, inr, refl, ap, ◌∙◌, arith, append-nil, append_assoc}
 use Rattle.std.specs.Prelude.{nat_lt, min, ◌⊎◌, ◌||◌, IfNone, IfSome}
 use Rattle.mg_bytes.specs.declared.letter.Letter.TheVariants as letters
-use Rattle.mg_packages.specs.declared.event.LineEvent.TheVariants as events
-use Rattle.mg_packages.specs.declared.signal.Kind.{Kind}
-use Rattle.mg_packages.specs.declared.signal.Kind.TheVariants.{TimeOut, Brief, OnOff}
-use Rattle.mg_packages.specs.declared.signal.Signal.{Signal}
-use Rattle.mg_packages.specs.Looking.{kind_of}
-use Rattle.event_values.specs.declared.observed.Observed.{Observed}
-use Rattle.event_values.specs.declared.observed.Observed.TheVariants.{Happened, Ended}
+use Rattle.packages.specs.declared.event.LineEvent.TheVariants as events
+use Rattle.packages.specs.declared.signal.Kind.{Kind}
+use Rattle.packages.specs.declared.signal.Kind.TheVariants.{TimeOut, Brief, OnOff}
+use Rattle.packages.specs.declared.signal.Signal.{Signal}
+use Rattle.packages.specs.Looking.{kind_of}
+use Rattle.packages.specs.declared.observed.Observed.{Observed}
+use Rattle.packages.specs.declared.observed.Observed.TheVariants.{Happened, Ended}
 use Rattle.event_requests.specs.Choice.{is_kept}
 use Rattle.quarantine.specs.Held.{Held, most_lost, one_lost, one_kept, holding}
 use Rattle.signals.specs.Stopping.{without}
@@ -26,8 +26,8 @@ use Rattle.mg_line.proofs.DrainLemmas.{occurred_keeps}
 use Rattle.std.proofs.lemmas.List.{length-append}
 use Rattle.std.proofs.lemmas.List.Elements.{filter-append}
 use Rattle.mg_bytes.specs.declared.letter.Letter.TheVariants.{Timer}
-use Rattle.event_values.specs.declared.handling.Quarantined.{Quarantined}
-use Rattle.event_values.specs.declared.handling.Quarantined.TheVariants.{Process, Discard}
+use Rattle.packages.specs.declared.handling.Quarantined.{Quarantined}
+use Rattle.packages.specs.declared.handling.Quarantined.TheVariants.{Process, Discard}
 use Rattle.event_requests.specs.declared.request.Request.{Request}
 use Rattle.mg_line.specs.Answering.{answered, is_loop}
 use Rattle.mg_line.specs.Laws.{Awaits, Drains, IsWaiting}

@@ -13,7 +13,7 @@ use Rattle.mgcp_text.specs.declared.message.Verb.TheVariants.{Epcf, Rqnt, Ntfy, 
 use Rattle.mgcp_text.specs.Writing.{written}
 use Rattle.endpoint_names.specs.declared.entity.Entity.{Entity}
 use Rattle.event_requests.specs.declared.request.Request.{Request}
-use Rattle.event_values.specs.declared.observed.Observed.{Observed}
+use Rattle.packages.specs.declared.observed.Observed.{Observed}
 use Rattle.mg_line.specs.declared.phone.Act.{Act}
 use Rattle.mg_line.specs.State.{State}
 use Rattle.mg_line.specs.State.TheVariants.{Normal, Notification, Lockstep}

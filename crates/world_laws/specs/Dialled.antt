@@ -1,6 +1,6 @@
 -- Nothing dialled is doubled or skipped (RFC 3435, 4.4.1).
 use Rattle.std.specs.Prelude.{◌≡◌, List, [], ◌∷◌, ◌++◌, flat_map, Option, None, Some}
-use Rattle.event_values.specs.declared.observed.Observed.{Observed}
+use Rattle.packages.specs.declared.observed.Observed.{Observed}
 use Rattle.event_requests.specs.declared.request.Request.{Request}
 use Rattle.mg_line.specs.Acting.{observed_at}
 use Rattle.mg_line.specs.Line.{LineState}

@@ -1,7 +1,7 @@
 -- The worlds of the worked examples: two lines, and the agent that they report to.
 use Rattle.std.specs.Prelude.{◌++◌, codes, List, [], ◌∷◌, drop, length}
 use Rattle.std.specs.Option.{unwrap_or}
-use Rattle.event_values.specs.declared.observed.Observed.{Observed}
+use Rattle.packages.specs.declared.observed.Observed.{Observed}
 use Rattle.mg_line.specs.declared.phone.Act.TheVariants.{OffHook, Key}
 use Rattle.mg_line.specs.declared.phone.Key.TheVariants.{Five}
 use Rattle.plain_machine.specs.declared.endpoint.Endpoint.{Endpoint}

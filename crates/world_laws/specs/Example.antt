@@ -1,7 +1,7 @@
 -- The worlds of the worked examples: two lines of rgw.example.net, and the agent that they report to.
 use Rattle.std.specs.Prelude.{ℕ, ◌+◌, ◌*◌, codes, decimal, List, [], ◌∷◌, ◌++◌, map, option_map, Option}
 use Rattle.std.specs.List.{range_with_len}
-use Rattle.event_values.specs.declared.observed.Observed.{Observed}
+use Rattle.packages.specs.declared.observed.Observed.{Observed}
 use Rattle.mg_line.specs.declared.phone.Act.TheVariants.{OffHook}
 use Rattle.plain_machine.specs.declared.setup.Setup.{Setup}
 use Rattle.plain_machine.specs.Event.{datagram, tick}

@@ -1,7 +1,7 @@
 -- Which request a notification follows, and that a line in step notifies once for each (RFC 3435, 2.3.4 and 4.4.1).
 use Rattle.std.specs.Prelude.{◌≡◌, ℕ, Bool, true, false, codes, List, [], ◌∷◌, None, IfSome}
-use Rattle.event_values.specs.declared.handling.Handling.{Handling}
-use Rattle.event_values.specs.declared.handling.Notifying.TheVariants.{Step as InStep}
+use Rattle.packages.specs.declared.handling.Handling.{Handling}
+use Rattle.packages.specs.declared.handling.Notifying.TheVariants.{Step as InStep}
 use Rattle.timers.specs.declared.kind.LineDue.{LineDue}
 use Rattle.mg_line.specs.declared.phone.Act.{Act}
 use Rattle.event_requests.specs.declared.request.Request.{Request}

@@ -12,7 +12,7 @@ use Rattle.plain_machine.specs.Lists.{sent_of}
 use Rattle.plain_machine.specs.Transactions.{Asked, asked}
 use Rattle.plain_machine.specs.Message.{Begun}
 use Rattle.machine_laws.specs.Saying.{begun_in}
-use Rattle.event_values.specs.declared.observed.Observed.{Observed}
+use Rattle.packages.specs.declared.observed.Observed.{Observed}
 use Rattle.call_agent.specs.declared.setup.AgentSetup.{AgentSetup}
 use Rattle.call_agent.specs.declared.taking.Taken.{Taken}
 use Rattle.call_agent.specs.Agent.{agent_opening}

@@ -2,7 +2,7 @@
 use Rattle.std.specs.Prelude.{List, [], ℕ, ◌==◌, if◌then◌else◌, Bool, Option, Some, None}
 use Rattle.mgcp_text.specs.declared.message.Message.TheVariants as messages
 use Rattle.mgcp_text.specs.Reading.{Outcome, message, no_header, bad_version, bad_body, read_text}
-use Rattle.event_values.specs.declared.observed.Observed.{Observed}
+use Rattle.packages.specs.declared.observed.Observed.{Observed}
 use Rattle.world_laws.specs.Course.{notified_with}
 use Rattle.world_laws.specs.Dialled.{told_along}
 use Rattle.std.specs.List.{list_any}

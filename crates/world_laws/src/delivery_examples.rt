@@ -8,9 +8,9 @@ ghost use Rattle.agent_core.specs.World.{delivering, now_in, steps_are_taken, ti
 ghost use Rattle.world_laws.specs.Reached.{key_reached, own_in, taken_in};
 ghost use Rattle.world_laws.specs.Example.{world, moments_in, code_in, announced};
 ghost use Rattle.mg_bytes.specs.declared.letter.Letter.TheVariants.{Timer};
-ghost use Rattle.mg_packages.specs.declared.event.LineEvent.TheVariants as events;
-ghost use Rattle.mg_packages.specs.declared.signal.Signal.TheVariants.{Ringing};
-ghost use Rattle.event_values.specs.declared.observed.Observed.TheVariants.{Happened, Ended};
+ghost use Rattle.packages.specs.declared.event.LineEvent.TheVariants as events;
+ghost use Rattle.packages.specs.declared.signal.Signal.TheVariants.{Ringing};
+ghost use Rattle.packages.specs.declared.observed.Observed.TheVariants.{Happened, Ended};
 ghost use Rattle.plain_machine.specs.Event.{tick};
 ghost use Rattle.plain_machine.specs.Lists.{plain};
 ghost use Rattle.world_laws.specs.OnceExample.{five, left_then as left_at, six};

@@ -16,7 +16,7 @@ ghost use Rattle.world_laws.specs.Dialled.{IsAskedForAll};
 ghost use Rattle.world_laws.specs.Keeping.{happened_in};
 ghost use Rattle.world_laws.specs.OnceExample.{lifted as off_hook, five, lifted, asks_for_all, dials, course_then, AskedForAll};
 ghost use Rattle.world_laws.specs.DialledExample.{answered, up_to_the_request, since_the_request, world, endpoint_then, done_then, told_then, untaken_then, left_then};
-ghost use Rattle.event_values.specs.declared.observed.Observed.TheVariants.{Happened};
+ghost use Rattle.packages.specs.declared.observed.Observed.TheVariants.{Happened};
 ghost use Rattle.mg_line.specs.declared.phone.Act.TheVariants as acts;
 ghost use Rattle.plain_machine.specs.Event.{phone};
 ghost use Rattle.world_laws.specs.Following.{OnceForEach, OnceFrom};

@@ -1,6 +1,6 @@
 //! Laws of what a telephone does and of what its line notifies.
 ghost use Rattle.std.specs.Prelude.{◌≡◌, ◌≢◌, ◌++◌, ◌∷◌, [], ℕ, List, Some, true, false};
-ghost use Rattle.event_values.specs.declared.observed.Observed.{Observed};
+ghost use Rattle.packages.specs.declared.observed.Observed.{Observed};
 ghost use Rattle.plain_machine.specs.declared.setup.Setup.{Setup};
 ghost use Rattle.plain_machine.specs.declared.endpoint.Endpoint.{Endpoint};
 ghost use Rattle.plain_machine.specs.Event.{GatewayEvent};

@@ -7,7 +7,7 @@ ghost use Rattle.std.specs.Prelude.{◌≡◌, ◌≢◌, ◌≤◌, ◌<◌, �
 ghost use Rattle.mgcp_text.specs.declared.message.Message.TheVariants as messages;
 ghost use Rattle.mgcp_text.specs.declared.message.Param.{Param};
 ghost use Rattle.mgcp_text.specs.Reading.{message, read_text};
-ghost use Rattle.mg_packages.specs.declared.signal.Signal.TheVariants.{DialTone};
+ghost use Rattle.packages.specs.declared.signal.Signal.TheVariants.{DialTone};
 ghost use Rattle.transmission.specs.HistoryExample.{comes, comes_with, to};
 ghost use Rattle.timers.specs.declared.kind.LineDue.TheVariants.{SignalEnd};
 ghost use Rattle.retransmission.specs.declared.reply.Reply.TheVariants.{Answered};

@@ -1,7 +1,7 @@
 //! What rows of several kinds have in common: refusals, commands that are issued, acts, addresses, and what an agent tells.
 use crate::gateways::agent_address;
 use agent_core::Agent;
-use event_values::write_observed;
+use packages::write_observed;
 use mg_bytes::{Draft, OutOfMemory, Text};
 use mg_line::Act;
 use rgw_scripts::{ScriptLine, ScriptStep, line_in};

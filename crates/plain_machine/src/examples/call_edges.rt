@@ -4,7 +4,7 @@
 
 ghost use Rattle.std.specs.Prelude.{◌≡◌, codes, [], ◌∷◌, ◌++◌, map, replicate, option_map, None, Some};
 ghost use Rattle.mg_line.specs.declared.phone.Act.TheVariants.{OffHook, OnHook};
-ghost use Rattle.mg_packages.specs.declared.signal.Signal.TheVariants as signal;
+ghost use Rattle.packages.specs.declared.signal.Signal.TheVariants as signal;
 ghost use Rattle.plain_machine.specs.Event.{phone};
 ghost use Rattle.connections.specs.Standing.{no_connections};
 ghost use Rattle.plain_machine.specs.Connecting.{id_param};

@@ -4,7 +4,7 @@
 
 ghost use Rattle.std.specs.Prelude.{◌≡◌, codes, [], ◌∷◌, ◌++◌, option_map, replicate, None, Some};
 ghost use Rattle.connections.specs.declared.codec.Encoding.TheVariants.{Mu, A};
-ghost use Rattle.mg_packages.specs.declared.signal.Signal.TheVariants as signal;
+ghost use Rattle.packages.specs.declared.signal.Signal.TheVariants as signal;
 ghost use Rattle.plain_machine.specs.Machine.{opening, opening_endpoint, endpoint_at};
 ghost use Rattle.plain_machine.specs.Requesting.{line_with_place};
 ghost use Rattle.plain_machine.specs.Lists.{machine_after, outputs_from, connections_of, signals_of};

@@ -2,7 +2,7 @@
 use event_syntax::{write_handling, write_observed};
 use mg_bytes::OutOfMemory;
 use mg_line::{Line, Notice};
-use mg_packages::{Hook, signal_name};
+use packages::{Hook, signal_name};
 use scenario_files::Outcome;
 use timers::LineDue;
 

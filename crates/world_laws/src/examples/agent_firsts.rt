@@ -2,8 +2,8 @@
 #![tactic(auto, unfolding(crate::proofs::Computing::on_examples))]
 
 ghost use Rattle.std.specs.Prelude.{◌≡◌, ◌++◌, codes, [], ◌∷◌, replicate};
-ghost use Rattle.mg_packages.specs.declared.event.LineEvent.TheVariants as events;
-ghost use Rattle.event_values.specs.declared.observed.Observed.TheVariants.{Happened};
+ghost use Rattle.packages.specs.declared.event.LineEvent.TheVariants as events;
+ghost use Rattle.packages.specs.declared.observed.Observed.TheVariants.{Happened};
 ghost use Rattle.transmission.specs.Looking.{full};
 ghost use Rattle.plain_machine.specs.Event.{tick};
 ghost use Rattle.plain_machine.specs.Example.{other_agent};

@@ -4,9 +4,9 @@
 
 ghost use Rattle.std.specs.Prelude.{◌≡◌, ◌++◌, codes, [], ◌∷◌, map, true, false, None, Some, ℕ, List};
 ghost use Rattle.std.specs.Borrow.{Bor};
-ghost use Rattle.mg_packages.specs.declared.event.LineEvent.TheVariants as events;
+ghost use Rattle.packages.specs.declared.event.LineEvent.TheVariants as events;
 ghost use Rattle.mg_line.specs.declared.phone.Act.TheVariants as acts;
-ghost use Rattle.event_values.specs.declared.observed.Observed.TheVariants.{Happened};
+ghost use Rattle.packages.specs.declared.observed.Observed.TheVariants.{Happened};
 ghost use Rattle.endpoint_names.specs.declared.route.Route.TheVariants.{One, Two, Four};
 ghost use Rattle.plain_machine.specs.Example.{two_lines, agent, local_host, other_host, other_agent, second_agent, third_agent, fourth_agent};
 ghost use Rattle.agent_core.specs.declared.packet.End.TheVariants.{GatewayEnd, AgentEnd};

@@ -2,12 +2,12 @@
 #![tactic(auto, unfolding(crate::proofs::Computing::on_examples))]
 
 ghost use Rattle.std.specs.Prelude.{◌≡◌, ◌++◌, codes, [], ◌∷◌, map, flat_map};
-ghost use Rattle.mg_packages.specs.declared.event.LineEvent.TheVariants as events;
+ghost use Rattle.packages.specs.declared.event.LineEvent.TheVariants as events;
 ghost use Rattle.mg_line.specs.declared.phone.Act.TheVariants as acts;
 ghost use Rattle.mgcp_text.specs.declared.message.Verb.TheVariants.{Auep};
 ghost use Rattle.mgcp_text.specs.declared.message.Message.TheVariants as messages;
 ghost use Rattle.mgcp_text.specs.Reading.{message, bad_version, bad_body};
-ghost use Rattle.event_values.specs.declared.observed.Observed.TheVariants.{Happened};
+ghost use Rattle.packages.specs.declared.observed.Observed.TheVariants.{Happened};
 ghost use Rattle.plain_machine.specs.Event.{datagram, tick};
 ghost use Rattle.plain_machine.specs.Arriving.{arrivals_of};
 ghost use Rattle.transmission.specs.Firsts.{lost};

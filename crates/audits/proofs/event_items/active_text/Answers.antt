@@ -1,5 +1,5 @@
 use Rattle.std.proofs.Common.{ap, ◌∙◌, ◌++◌}
-use Rattle.event_values.proofs.WriteLemmas.{first_listed, next_listed}
+use Rattle.packages.proofs.WriteLemmas.{first_listed, next_listed}
 use Rattle.audits.specs.EndpointReport.{active_name, active_text}
 use Rattle.audits.proofs.ValueLemmas.{active_no_blanks, active_one_line}
 use Rattle.audits.proofs.event_items.active_text.Goals as goal

@@ -1,6 +1,6 @@
 use Rattle.std.proofs.lemmas.Result.{err_from_is_err_and}
 use Rattle.event_syntax.specs.Detect.{detected}
-use Rattle.event_values.proofs.EachLemmas.{each_on, each_stops, each_done, room_on}
+use Rattle.packages.proofs.EachLemmas.{each_on, each_stops, each_done, room_on}
 use Rattle.event_syntax.proofs.detect.each_detected.Goals as goal
 
 pub loop-entry-preserved : goal.loop-entry-preserved

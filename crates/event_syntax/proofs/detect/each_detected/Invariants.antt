@@ -1,8 +1,8 @@
 use Rattle.std.proofs.Common.{◌≡◌, ◌+◌, ◌≤◌, length}
-use Rattle.event_values.specs.Cuts.{entries}
-use Rattle.event_values.specs.Faults.{each}
+use Rattle.packages.specs.Cuts.{entries}
+use Rattle.packages.specs.Faults.{each}
 use Rattle.event_syntax.specs.Detect.{detected, most_events}
-use Rattle.event_values.proofs.EachLemmas.{put_before}
+use Rattle.packages.proofs.EachLemmas.{put_before}
 use Rattle.event_syntax.proofs.detect.each_detected.Given as goal
 
 abbrev pub invariant-loop-entry : goal.invariant-loop-entry

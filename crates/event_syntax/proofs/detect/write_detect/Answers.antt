@@ -2,7 +2,7 @@ use Rattle.std.proofs.Common.{ap, ◌∙◌}
 use Rattle.event_syntax.specs.Detect.{detected_text}
 use Rattle.event_syntax.specs.Events.{events_text}
 use Rattle.event_syntax.proofs.WordLemmas.{detected_no_blanks, detected_one_line}
-use Rattle.event_values.proofs.WriteLemmas.{first_listed, next_listed}
+use Rattle.packages.proofs.WriteLemmas.{first_listed, next_listed}
 use Rattle.event_syntax.proofs.detect.write_detect.Goals as goal
 use Rattle.event_syntax.proofs.detect.write_detect.Goals.{then-place-gt0+in_ok-push, else-place-gt0}
 

@@ -1,6 +1,6 @@
 use Rattle.std.proofs.Common.{sym}
 use Rattle.event_syntax.specs.Embedding.{embedded_event}
-use Rattle.event_values.proofs.EachLemmas.{each_on, each_stops, each_done}
+use Rattle.packages.proofs.EachLemmas.{each_on, each_stops, each_done}
 use Rattle.event_syntax.proofs.embedded.each_event.Goals as goal
 
 pub loop-entry-preserved : goal.loop-entry-preserved

@@ -1,8 +1,8 @@
 use Rattle.std.proofs.Common.{◌≡◌}
-use Rattle.event_values.specs.Cuts.{entries}
-use Rattle.event_values.specs.Faults.{each}
+use Rattle.packages.specs.Cuts.{entries}
+use Rattle.packages.specs.Faults.{each}
 use Rattle.event_syntax.specs.Embedding.{embedded_event}
-use Rattle.event_values.proofs.EachLemmas.{put_before}
+use Rattle.packages.proofs.EachLemmas.{put_before}
 use Rattle.event_syntax.proofs.embedded.each_event.Given as goal
 
 abbrev pub invariant-loop-entry : goal.invariant-loop-entry

@@ -1,5 +1,5 @@
 use Rattle.std.proofs.Common.{◌≡◌}
-use Rattle.event_values.specs.Cuts.{items}
+use Rattle.packages.specs.Cuts.{items}
 use Rattle.event_syntax.specs.Embedding.{nothing_embedded, with_parts}
 use Rattle.event_syntax.proofs.embedded.embedded_in.Given as goal
 

@@ -1,6 +1,6 @@
 use Rattle.std.proofs.Common.{◌≡◌}
 use Rattle.std.specs.List.{list_all}
-use Rattle.event_values.specs.Cuts.{entries}
+use Rattle.packages.specs.Cuts.{entries}
 use Rattle.event_syntax.specs.EventSpelling.{is_detected}
 use Rattle.event_syntax.proofs.event_spelling.are_detected.Given as goal
 

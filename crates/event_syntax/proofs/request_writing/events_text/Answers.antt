@@ -1,6 +1,6 @@
 use Rattle.std.proofs.Common.{ap, ◌∙◌, [], ◌++◌}
 use Rattle.event_syntax.specs.Requested.{requested_entry_text, requested_text}
-use Rattle.event_values.proofs.PutLemmas.{put_next}
+use Rattle.packages.proofs.PutLemmas.{put_next}
 use Rattle.event_syntax.proofs.request_writing.events_text.Goals as goal
 
 pub loop-place-preserved : goal.loop-place-preserved

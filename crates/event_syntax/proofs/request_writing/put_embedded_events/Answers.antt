@@ -1,5 +1,5 @@
 use Rattle.event_syntax.specs.Requested.{embedded_event_text}
-use Rattle.event_values.proofs.PutLemmas.{put_next}
+use Rattle.packages.proofs.PutLemmas.{put_next}
 use Rattle.event_syntax.proofs.request_writing.put_embedded_events.Goals as goal
 
 pub loop-place-preserved : goal.loop-place-preserved

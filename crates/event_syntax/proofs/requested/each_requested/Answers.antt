@@ -1,7 +1,7 @@
 use Rattle.std.proofs.Common.{sym}
 use Rattle.std.proofs.lemmas.Result.{err_from_is_err_and}
 use Rattle.event_syntax.specs.Requested.{requested}
-use Rattle.event_values.proofs.EachLemmas.{each_on, each_done}
+use Rattle.packages.proofs.EachLemmas.{each_on, each_done}
 use Rattle.event_syntax.proofs.GiveLemmas.{fault_stops}
 use Rattle.event_syntax.proofs.TakeLemmas.{rule_is_read, takes_at_first, memory_stops, may_give_up}
 use Rattle.event_syntax.proofs.requested.each_requested.Goals as goal

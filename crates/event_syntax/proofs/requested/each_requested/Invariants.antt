@@ -1,8 +1,8 @@
 use Rattle.std.proofs.Common.{◌≡◌, true}
-use Rattle.event_values.specs.Cuts.{entries}
-use Rattle.event_values.specs.Faults.{each}
+use Rattle.packages.specs.Cuts.{entries}
+use Rattle.packages.specs.Faults.{each}
 use Rattle.event_syntax.specs.Requested.{requested, first_takes_memory}
-use Rattle.event_values.proofs.EachLemmas.{put_before}
+use Rattle.packages.proofs.EachLemmas.{put_before}
 use Rattle.event_syntax.proofs.requested.each_requested.Given as goal
 
 abbrev pub invariant-loop-entry : goal.invariant-loop-entry

@@ -1,5 +1,5 @@
 use Rattle.std.proofs.Common.{◌≡◌}
-use Rattle.event_values.specs.Cuts.{items}
+use Rattle.packages.specs.Cuts.{items}
 use Rattle.event_syntax.specs.Actions.{said_of, so_far_seen}
 use Rattle.event_syntax.proofs.ActionLemmas.{said_behind}
 use Rattle.event_syntax.proofs.rule.said_of.Given as goal

@@ -1,4 +1,4 @@
-use Rattle.mg_packages.specs.Looking.{is_same_signal}
+use Rattle.packages.specs.Looking.{is_same_signal}
 use Rattle.signals.specs.declared.active.ActiveSignal.{ActiveSignal}
 use Rattle.line_changes.proofs.PuttingLemmas.{is_there, is_not_here, is_nowhere}
 use Rattle.line_changes.proofs.changing.has_signal.Goals as goal

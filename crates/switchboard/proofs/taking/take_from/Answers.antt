@@ -1,7 +1,7 @@
 use Rattle.std.proofs.Common.{Bool, true, false, List, Some, refl, sym, ap, subst, rules}
 use Rattle.std.specs.Prelude.{not}
 use Rattle.std.specs.Box.{with_value}
-use Rattle.event_values.specs.declared.observed.Observed.{Observed}
+use Rattle.packages.specs.declared.observed.Observed.{Observed}
 use Rattle.switchboard.specs.Taking.{HearsTold}
 use Rattle.switchboard.proofs.TakingLemmas.{found_so, hears_some}
 use Rattle.switchboard.proofs.taking.take_from.Goals as goal

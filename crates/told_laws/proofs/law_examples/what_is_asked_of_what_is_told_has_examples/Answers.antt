@@ -1,7 +1,7 @@
 use Rattle.std.proofs.Common.{◌≡◌, [], ◌∷◌, ◌++◌, codes, inl, refl}
 use Rattle.std.proofs.lemmas.Bool.{leb-true}
 use Rattle.mg_bytes.specs.declared.letter.Letter.TheVariants as letters
-use Rattle.mg_packages.specs.declared.event.LineEvent.TheVariants as events
+use Rattle.packages.specs.declared.event.LineEvent.TheVariants as events
 use Rattle.plain_machine.specs.Example.{two_lines}
 use Rattle.plain_machine.specs.Message.{Begun}
 use Rattle.machine_laws.proofs.EachLemmas.{any_from_one}

@@ -1,9 +1,9 @@
 use Rattle.std.proofs.Common.{◌≡◌, true, false, refl}
 use Rattle.mg_bytes.specs.declared.letter.Letter.TheVariants as letters
-use Rattle.mg_packages.specs.declared.event.LineEvent.TheVariants as events
+use Rattle.packages.specs.declared.event.LineEvent.TheVariants as events
 use Rattle.event_syntax.specs.declared.request.Action.TheVariants.{Notify, Dial, Ignore}
 use Rattle.event_syntax.specs.declared.request.Reaction.TheVariants.{Plain}
-use Rattle.event_values.specs.declared.handling.Quarantined.TheVariants.{Process, Discard}
+use Rattle.packages.specs.declared.handling.Quarantined.TheVariants.{Process, Discard}
 use Rattle.world_laws.proofs.AskingLemmas.{notifies_each}
 use Rattle.world_laws.proofs.Computing.{on_examples}
 use Rattle.world_laws.proofs.dialled_examples.lines_are_asked_for_all.Goals as goal

@@ -1,6 +1,6 @@
 use Rattle.std.proofs.Common.{◌≡◌, List, length, refl, ap, arith}
-use Rattle.event_values.specs.declared.handling.Notifying.TheVariants.{Loop, Step}
-use Rattle.event_values.specs.declared.observed.Observed.{Observed}
+use Rattle.packages.specs.declared.handling.Notifying.TheVariants.{Loop, Step}
+use Rattle.packages.specs.declared.observed.Observed.{Observed}
 use Rattle.world_laws.proofs.AskingLemmas.{notifies_each}
 use Rattle.world_laws.proofs.Computing.{on_examples}
 use Rattle.world_laws.proofs.law_examples.what_is_asked_of_lines_has_examples.Goals as goal

@@ -1,6 +1,6 @@
 use Rattle.std.proofs.Common.{List, [], ◌∷◌, ◌++◌, replicate, ap, ◌∙◌, arith}
 use Rattle.std.proofs.lemmas.List.{replicate_more}
-use Rattle.event_values.specs.declared.observed.Observed.{Observed}
+use Rattle.packages.specs.declared.observed.Observed.{Observed}
 use Rattle.call_agent.specs.Growing.{Grown, grown_to}
 use Rattle.call_agent.proofs.TellingLemmas.{nothing_told}
 use Rattle.call_agent.proofs.told.TakenEvents.nothing.Goals as goal

@@ -1,3 +1,0 @@
-pub mod Computing
-pub mod LetterLemmas
-pub mod TableLaws

@@ -1,0 +1,18 @@
+use Rattle.std.proofs.lemmas.Result.{err_from_is_err_and}
+use Rattle.packages.specs.Signals.{signal_entry}
+use Rattle.packages.proofs.EachLemmas.{each_on, each_stops, each_done, room_on}
+use Rattle.packages.proofs.signals.each_signal.Goals as goal
+
+pub loop-entry-preserved : goal.loop-entry-preserved
+loop-entry-preserved c = record {
+  whole = each_on signal_entry _ _ _ _ _ _ _ c.in-Some.ensures.steps c.in_ok-signal_entry.ensures c.push.ensures c.loop-entry.invariant.whole;
+  room = room_on _ _ _ _ _ _ _ c.in-Some.ensures.steps c.push.ensures c.loop-entry.invariant.room;
+}
+
+pub returns-in_err-signal_entry : goal.returns-in_err-signal_entry
+returns-in_err-signal_entry c =
+    let p = err_from_is_err_and c.from_residual.result c.from_residual.ensures.1 in
+    rw (p.1, p.2) (each_stops signal_entry _ _ _ _ _ _ c.in-Some.ensures.steps c.in_err-signal_entry.ensures c.loop-entry.invariant.whole)
+
+pub returns : goal.returns
+returns c = each_done signal_entry _ _ _ c.in-None.ensures.steps.0 c.loop-entry.invariant.whole

@@ -1,0 +1,10 @@
+pub mod Tables
+pub mod Looking
+pub mod Faults
+pub mod Cuts
+pub mod Spelling
+pub mod SignalSpelling
+pub mod Signals
+pub mod Handling
+pub mod Observed
+pub mod Example
