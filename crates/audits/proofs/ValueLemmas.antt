@@ -15,7 +15,7 @@ use Rattle.packages.specs.declared.signal.Signal.TheVariants.{DialTone}
 use Rattle.packages.specs.Looking.{signal_name}
 use Rattle.mgcp_text.specs.Writing.{is_writable_param}
 use Rattle.sdp_subset.proofs.DecimalLemmas.{decimal_some}
-use Rattle.signals.specs.declared.active.ActiveSignal.{ActiveSignal}
+use Rattle.events_and_signals.specs.declared.active.ActiveSignal.{ActiveSignal}
 use Rattle.event_syntax.proofs.WordLemmas.{IsWord, word_joined, each_word, decimal_word, map_word}
 use Rattle.digit_map.specs.Spelling.{is_map}
 use Rattle.connections.specs.declared.codec.Codec.TheVariants.{Pcmu, Pcma}

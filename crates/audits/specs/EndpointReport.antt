@@ -12,7 +12,7 @@ use Rattle.packages.specs.Handling.{handling_text}
 use Rattle.packages.specs.Observed.{observed_text}
 use Rattle.event_syntax.specs.Detect.{detected_text}
 use Rattle.event_syntax.specs.Requested.{requested_text}
-use Rattle.signals.specs.declared.active.ActiveSignal.{ActiveSignal}
+use Rattle.events_and_signals.specs.declared.active.ActiveSignal.{ActiveSignal}
 use Rattle.connections.specs.declared.connection.Connection.{Connection}
 use Rattle.connections.specs.Codecs.{encoding_text}
 use Rattle.connections.specs.Numbers.{number_text}

@@ -7,7 +7,7 @@ use Rattle.packages.specs.declared.hook.Hook.TheVariants.{OffHook}
 use Rattle.packages.specs.declared.signal.Signal.TheVariants.{DialTone, MessageWaiting}
 use Rattle.packages.specs.declared.handling.Notifying.TheVariants.{Loop}
 use Rattle.packages.specs.declared.handling.Quarantined.TheVariants.{Discard}
-use Rattle.signals.specs.Example.{until, endless}
+use Rattle.events_and_signals.specs.SignalExample.{until, endless}
 use Rattle.endpoint_names.specs.declared.route.Route.TheVariants.{One}
 use Rattle.endpoint_names.specs.declared.entity.Entity.{Entity}
 use Rattle.endpoint_names.specs.RouteExample.{local_address}

@@ -17,7 +17,7 @@ use mg_bytes::{OutOfMemory, Text, same_no_case};
 use mg_line::Line;
 use packages::signal_name;
 use mgcp_text::Param;
-use signals::ActiveSignal;
+use events_and_signals::ActiveSignal;
 use std::alloc::Global;
 
 // D: the digit map.

@@ -19,8 +19,8 @@ use Rattle.event_syntax.specs.Requested.{requested_in as requested_entries, requ
 use Rattle.event_syntax.specs.Detect.{detected_of, are_writable_events}
 use Rattle.packages.specs.Signals.{signals_of}
 use Rattle.packages.proofs.SignalReading.{read_is_writable}
-use Rattle.event_requests.specs.declared.request.Request.{Request}
-use Rattle.event_requests.specs.Requests.{EventRequests}
+use Rattle.events_and_signals.specs.declared.request.Request.{Request}
+use Rattle.events_and_signals.specs.Requests.{EventRequests}
 use Rattle.event_syntax.proofs.DetectLaws.{read_is_writable as detected_is_writable}
 use Rattle.event_syntax.proofs.RequestReading.{read_is_writable as requested_is_writable}
 use Rattle.sdp_subset.specs.declared.session.Session.{Session}

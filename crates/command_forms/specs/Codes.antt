@@ -10,7 +10,7 @@ use Rattle.endpoint_names.specs.declared.table.Host.{Host}
 use Rattle.event_syntax.specs.Requested.{requested_of, are_writable_requested}
 use Rattle.event_syntax.specs.Detect.{detected_of, are_writable_events}
 use Rattle.packages.specs.Signals.{signals_of, are_writable_signals}
-use Rattle.event_requests.specs.declared.request.Request.{Request}
+use Rattle.events_and_signals.specs.declared.request.Request.{Request}
 use Rattle.connections.specs.declared.connection.Change.{Change}
 use Rattle.connections.specs.declared.connection.Creation.{Creation}
 use Rattle.connections.specs.declared.deletion.Deletion.{Deletion}

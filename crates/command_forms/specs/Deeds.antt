@@ -8,8 +8,8 @@ use Rattle.endpoint_names.specs.declared.table.Host.{Host}
 use Rattle.event_syntax.specs.Requested.{requested_of}
 use Rattle.event_syntax.specs.Detect.{detected_of}
 use Rattle.packages.specs.Signals.{signals_of}
-use Rattle.event_requests.specs.declared.request.Request.{Request}
-use Rattle.event_requests.specs.Requests.{EventRequests}
+use Rattle.events_and_signals.specs.declared.request.Request.{Request}
+use Rattle.events_and_signals.specs.Requests.{EventRequests}
 use Rattle.sdp_subset.specs.declared.session.Session.{Session}
 use Rattle.connections.specs.declared.connection.Creation.{Creation}
 use Rattle.connections.specs.declared.deletion.Deletion.{Deletion}

@@ -22,8 +22,8 @@ use Rattle.event_syntax.specs.declared.request.RequestedEvent.{RequestedEvent}
 use Rattle.event_syntax.specs.declared.request.Reaction.TheVariants.{Plain}
 use Rattle.packages.specs.declared.signals.Setting.{Setting}
 use Rattle.packages.specs.declared.signals.SignalRequest.{SignalRequest}
-use Rattle.event_requests.specs.declared.request.Request.{Request}
-use Rattle.event_requests.specs.Requests.{EventRequests, no_requests}
+use Rattle.events_and_signals.specs.declared.request.Request.{Request}
+use Rattle.events_and_signals.specs.Requests.{EventRequests, no_requests}
 use Rattle.sdp_subset.specs.declared.session.Session.{Session}
 use Rattle.connections.specs.declared.connection.Change.{Change}
 use Rattle.connections.specs.declared.connection.Creation.{Creation}

@@ -5,7 +5,7 @@ ghost use Rattle.command_forms.specs.Meaning.{is_for};
 use crate::boxed_deed::BoxedDeed;
 use connections::{Change, Creation, Deletion, Encoding};
 use endpoint_names::Entity;
-use event_requests::Request;
+use events_and_signals::Request;
 use mg_bytes::Identifier;
 use mgcp_text::Bytes;
 

@@ -19,7 +19,7 @@ use gateway_texts::{Outcomes, State, TextOutcome, opening_state};
 use transmission::MOST_FIRSTS;
 use mg_line::Hook;
 use plain_machine::{Config, ConfigFault, Event, GivenUpCommand, Outputs, Refusal, Setup};
-use signals::ActiveSignal;
+use events_and_signals::ActiveSignal;
 use std::alloc::Global;
 use std::marker::Model;
 use std::mem::swap;

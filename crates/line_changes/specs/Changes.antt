@@ -8,7 +8,7 @@ use Rattle.packages.specs.declared.hook.Hook.{Hook}
 use Rattle.packages.specs.declared.hook.Hook.TheVariants.{OnHook, OffHook}
 use Rattle.packages.specs.declared.signal.Signal.{Signal}
 use Rattle.packages.specs.Looking.{is_same_signal}
-use Rattle.signals.specs.declared.active.ActiveSignal.{ActiveSignal}
+use Rattle.events_and_signals.specs.declared.active.ActiveSignal.{ActiveSignal}
 use Rattle.connections.specs.declared.codec.Codec.{Codec}
 use Rattle.connections.specs.declared.codec.Codec.TheVariants.{Pcmu, Pcma}
 use Rattle.connections.specs.Modes.{mode_text}

@@ -4,7 +4,7 @@ use Rattle.std.specs.declared.net.ipv4_addr.Ipv4Addr.{Ipv4Addr}
 use Rattle.std.specs.declared.net.socket_addr.SocketAddrV4.{SocketAddrV4}
 use Rattle.packages.specs.declared.hook.Hook.TheVariants.{OnHook, OffHook}
 use Rattle.packages.specs.declared.signal.Signal.{Signal}
-use Rattle.signals.specs.declared.active.ActiveSignal.{ActiveSignal}
+use Rattle.events_and_signals.specs.declared.active.ActiveSignal.{ActiveSignal}
 use Rattle.connections.specs.declared.codec.Codec.TheVariants.{Pcmu}
 use Rattle.connections.specs.declared.codec.Codecs.TheVariants.{Only, Both}
 use Rattle.connections.specs.declared.connection.Connection.{Connection}

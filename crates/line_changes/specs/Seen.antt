@@ -4,7 +4,7 @@ use Rattle.std.specs.declared.net.ipv4_addr.Ipv4Addr.{Ipv4Addr}
 use Rattle.std.specs.declared.net.socket_addr.SocketAddrV4.{SocketAddrV4}
 use Rattle.packages.specs.declared.hook.Hook.{Hook}
 use Rattle.sdp_subset.specs.declared.session.Session.{Session}
-use Rattle.signals.specs.declared.active.ActiveSignal.{ActiveSignal}
+use Rattle.events_and_signals.specs.declared.active.ActiveSignal.{ActiveSignal}
 use Rattle.connections.specs.declared.codec.Codec.{Codec}
 use Rattle.connections.specs.declared.codec.Codecs.{Codecs}
 use Rattle.connections.specs.declared.codec.Codecs.TheVariants.{Only, Both}

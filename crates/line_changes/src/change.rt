@@ -6,7 +6,7 @@ use crate::address::{is_same_address, is_same_remote};
 use crate::seen::SeenConnection;
 use connections::{Codec, mode_text};
 use packages::{Hook, Signal};
-use signals::ActiveSignal;
+use events_and_signals::ActiveSignal;
 
 /// What changed at a line.
 #[derive(Clone, Copy)]

@@ -9,7 +9,7 @@ use crate::change::{Change, is_same_active, is_same_connection, is_same_hook};
 use crate::seen::{SeenConnection, SeenLine};
 use mg_bytes::OutOfMemory;
 use packages::{Hook, Signal};
-use signals::ActiveSignal;
+use events_and_signals::ActiveSignal;
 
 fn is_of(active: ActiveSignal, signal: Signal) -> bool
     ensures { result ≡ is_same_signal active.signal signal }

@@ -7,7 +7,7 @@ use connections::{Codec, Codecs, Connection, Mode};
 use mg_bytes::OutOfMemory;
 use packages::Hook;
 use sdp_subset::Session;
-use signals::ActiveSignal;
+use events_and_signals::ActiveSignal;
 use std::alloc::Global;
 use std::marker::Model;
 use std::net::{Ipv4Addr, SocketAddrV4};

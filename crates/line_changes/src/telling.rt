@@ -10,7 +10,7 @@ use exchange_log::put_peer;
 use mg_bytes::{Draft, OutOfMemory};
 use packages::signal_name;
 use rgw_scripts::{hook_word, put_end};
-use signals::ActiveSignal;
+use events_and_signals::ActiveSignal;
 use std::alloc::Global;
 use std::marker::Model;
 use std::net::SocketAddrV4;

@@ -1,7 +1,7 @@
 -- What is seen of a line of a gateway: what its readers tell, and at which ports its connections are received.
 use Rattle.std.specs.Prelude.{ℕ, List, Option, Some, None}
 use Rattle.packages.specs.declared.hook.Hook.{Hook}
-use Rattle.signals.specs.declared.active.ActiveSignal.{ActiveSignal}
+use Rattle.events_and_signals.specs.declared.active.ActiveSignal.{ActiveSignal}
 use Rattle.connections.specs.declared.connection.Connection.{Connection}
 use Rattle.plain_machine.specs.declared.setup.Setup.{Setup}
 use Rattle.plain_machine.specs.Machine.{Machine, port_of}

@@ -5,7 +5,7 @@ use Rattle.std.specs.declared.net.socket_addr.SocketAddrV4.{SocketAddrV4}
 use Rattle.packages.specs.declared.hook.Hook.{Hook}
 use Rattle.packages.specs.declared.hook.Hook.TheVariants.{OnHook, OffHook}
 use Rattle.packages.specs.Looking.{signal_name}
-use Rattle.signals.specs.declared.active.ActiveSignal.{ActiveSignal}
+use Rattle.events_and_signals.specs.declared.active.ActiveSignal.{ActiveSignal}
 use Rattle.connections.specs.declared.connection.Connection.{Connection}
 use Rattle.connections.specs.Modes.{mode_text}
 use Rattle.plain_machine.specs.declared.setup.Setup.{Setup}

@@ -23,7 +23,7 @@ use message_counts::{Faults, MessageTally, place_of};
 use mg_bytes::{Draft, OutOfMemory};
 use packages::{Hook, signal_name};
 use mgcp_text::Verb;
-use signals::ActiveSignal;
+use events_and_signals::ActiveSignal;
 use std::alloc::{AllocError, Global};
 use std::net::SocketAddrV4;
 

@@ -6,7 +6,7 @@ use Rattle.mgcp_text.specs.declared.confirmation.KValue.{KValue}
 use Rattle.mgcp_text.specs.declared.message.Param.{Param}
 use Rattle.command_forms.specs.declared.forms.Asks.TheVariants.{Does}
 use Rattle.command_forms.specs.declared.forms.Deed.{Deed}
-use Rattle.event_requests.specs.declared.request.Request.{Request}
+use Rattle.events_and_signals.specs.declared.request.Request.{Request}
 use Rattle.command_forms.specs.declared.forms.Target.{Target}
 use Rattle.command_forms.specs.Command.{Command}
 use Rattle.command_forms.specs.Codes.{HasValues}

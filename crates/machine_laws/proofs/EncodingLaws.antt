@@ -22,7 +22,7 @@ use Rattle.command_forms.specs.declared.forms.Asks.TheVariants.{Does}
 use Rattle.command_forms.specs.declared.forms.ConnectionDeed.{ConnectionDeed}
 use Rattle.command_forms.specs.declared.forms.ConnectionDeed.TheVariants.{Keep, Create, Modify, Delete}
 use Rattle.command_forms.specs.declared.forms.Deed.{Deed}
-use Rattle.event_requests.specs.declared.request.Request.{Request}
+use Rattle.events_and_signals.specs.declared.request.Request.{Request}
 use Rattle.command_forms.specs.declared.forms.Target.{Target}
 use Rattle.command_forms.specs.declared.refused.FaultyPart.{FaultyPart}
 use Rattle.command_forms.specs.declared.refused.FaultyPart.TheVariants.{Line}

@@ -20,7 +20,7 @@ use Rattle.packages.specs.Looking.{kind_of}
 use Rattle.mg_bytes.specs.declared.letter.Letter.TheVariants.{Timer}
 use Rattle.packages.specs.declared.observed.Observed.{Observed}
 use Rattle.packages.specs.declared.observed.Observed.TheVariants.{Happened, Ended}
-use Rattle.signals.specs.Stopping.{without}
+use Rattle.events_and_signals.specs.Stopping.{without}
 use Rattle.retransmission.specs.declared.repeat.Repeat.{Repeat}
 use Rattle.retransmission.specs.declared.repeat.Repeat.TheVariants.{Sent as SentAgain, GivenUp}
 use Rattle.retransmission.specs.declared.reply.Reply.{Reply}
@@ -36,7 +36,7 @@ use Rattle.timers.specs.declared.kind.LineDue.{LineDue}
 use Rattle.timers.specs.declared.kind.LineDue.TheVariants.{DigitTimer, SignalEnd}
 use Rattle.mg_line.specs.declared.phone.Act.{Act}
 use Rattle.mg_line.specs.declared.phone.Act.TheVariants.{OffHook, OnHook, Flash, Key}
-use Rattle.event_requests.specs.declared.request.Request.{Request}
+use Rattle.events_and_signals.specs.declared.request.Request.{Request}
 use Rattle.mg_line.specs.State.{State}
 use Rattle.mg_line.specs.State.TheVariants.{Notification}
 use Rattle.mg_line.specs.Line.{LineState, LineDone, Notice}

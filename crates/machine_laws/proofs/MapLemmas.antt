@@ -26,12 +26,12 @@ use Rattle.event_syntax.specs.declared.request.Action.TheVariants.{Ignore, Notif
 use Rattle.event_syntax.specs.declared.request.Reaction.{Reaction}
 use Rattle.event_syntax.specs.declared.request.Reaction.TheVariants.{Plain, Embed, AccumulateAndEmbed}
 use Rattle.event_syntax.specs.Requested.{is_spelled_map, has_spelled_map, all_maps_are_spelled, is_same_map, is_writable_map, is_writable_reaction, is_writable_entry, are_writable_requested}
-use Rattle.event_requests.specs.Choice.{Chosen, chosen_by, chosen}
-use Rattle.event_requests.specs.Naming.{names, event_of}
-use Rattle.event_requests.specs.Requests.{entry_in}
+use Rattle.events_and_signals.specs.Choice.{Chosen, chosen_by, chosen}
+use Rattle.events_and_signals.specs.Naming.{names, event_of}
+use Rattle.events_and_signals.specs.Requests.{entry_in}
 use Rattle.mgcp_text.specs.declared.message.Param.{Param}
 use Rattle.command_forms.specs.Values.{change_at}
-use Rattle.event_requests.specs.declared.request.Request.{Request}
+use Rattle.events_and_signals.specs.declared.request.Request.{Request}
 use Rattle.mg_line.specs.Line.{LineState, still}
 use Rattle.mg_line.specs.Occurring.{notified, notified_if_full, with_event, letter_of, timed, judged, with_letter, dialled_by, embedded, acted, signals_after, occurred}
 use Rattle.mg_line.specs.Requesting.{map_after, replaced}

@@ -16,14 +16,14 @@ use Rattle.packages.specs.declared.observed.Observed.TheVariants.{Happened, Ende
 use Rattle.event_syntax.specs.declared.request.Action.TheVariants.{Notify, Accumulate, Dial, Ignore}
 use Rattle.event_syntax.specs.declared.request.Reaction.{Reaction}
 use Rattle.event_syntax.specs.declared.request.Reaction.TheVariants.{Plain, Embed, AccumulateAndEmbed}
-use Rattle.event_requests.specs.Choice.{Chosen, chosen}
-use Rattle.event_requests.specs.Naming.{event_of}
-use Rattle.signals.specs.Stopping.{without}
+use Rattle.events_and_signals.specs.Choice.{Chosen, chosen}
+use Rattle.events_and_signals.specs.Naming.{event_of}
+use Rattle.events_and_signals.specs.Stopping.{without}
 use Rattle.timers.specs.declared.kind.LineDue.{LineDue}
 use Rattle.timers.specs.declared.kind.LineDue.TheVariants.{DigitTimer, SignalEnd}
 use Rattle.mg_line.specs.declared.phone.Act.{Act}
 use Rattle.mg_line.specs.declared.phone.Act.TheVariants.{OffHook, OnHook, Flash, Key}
-use Rattle.event_requests.specs.declared.request.Request.{Request}
+use Rattle.events_and_signals.specs.declared.request.Request.{Request}
 use Rattle.mg_line.specs.State.{State}
 use Rattle.mg_line.specs.State.TheVariants.{Normal, Notification, Lockstep}
 use Rattle.mg_line.specs.Line.{LineState, LineDone, Notice, still, opening_line, most_accumulated}

@@ -2,7 +2,7 @@
 use Rattle.std.specs.Prelude.{ℕ, List, [], ◌∷◌, ◌++◌, codes, decimal, Option, option_map}
 use Rattle.connections.specs.Life.{numbers_in}
 use Rattle.transmission.specs.declared.span.IdSpan.{IdSpan}
-use Rattle.signals.specs.declared.active.ActiveSignal.{ActiveSignal}
+use Rattle.events_and_signals.specs.declared.active.ActiveSignal.{ActiveSignal}
 use Rattle.mg_line.specs.declared.phone.Act.TheVariants.{OffHook, Key}
 use Rattle.mg_line.specs.declared.phone.Key.TheVariants.{Five, Six, Seven, Eight}
 use Rattle.plain_machine.specs.Event.{GatewayEvent, phone, tick}

@@ -9,10 +9,10 @@ use Rattle.packages.specs.declared.observed.Observed.{Observed}
 use Rattle.event_syntax.specs.declared.request.Action.TheVariants.{Notify, Accumulate, Dial, Ignore}
 use Rattle.event_syntax.specs.declared.request.Reaction.{Reaction}
 use Rattle.event_syntax.specs.declared.request.Reaction.TheVariants.{Plain, Embed, AccumulateAndEmbed}
-use Rattle.event_requests.specs.Choice.{Chosen, chosen}
-use Rattle.event_requests.specs.Naming.{event_of}
-use Rattle.quarantine.specs.Held.{Held, without_front, nothing_held, cleared}
-use Rattle.event_requests.specs.declared.request.Request.{Request}
+use Rattle.events_and_signals.specs.Choice.{Chosen, chosen}
+use Rattle.events_and_signals.specs.Naming.{event_of}
+use Rattle.events_and_signals.specs.Held.{Held, without_front, nothing_held, cleared}
+use Rattle.events_and_signals.specs.declared.request.Request.{Request}
 use Rattle.line_rules.specs.declared.state.State.TheVariants.{Normal}
 use Rattle.line_rules.specs.Rules.{ends_drain, discards}
 use Rattle.mg_line.specs.Line.{LineState, Notice, LineDone, still, most_accumulated}

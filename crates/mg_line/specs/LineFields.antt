@@ -5,7 +5,7 @@ use Rattle.mg_bytes.specs.declared.letter.Letter.{Letter}
 use Rattle.digit_map.specs.Verdict.{Matching}
 use Rattle.packages.specs.declared.signal.Signal.{Signal}
 use Rattle.packages.specs.Looking.{kind_of}
-use Rattle.signals.specs.Stopping.{without_time_outs, without}
+use Rattle.events_and_signals.specs.Stopping.{without_time_outs, without}
 use Rattle.packages.specs.declared.observed.Observed.{Observed}
 use Rattle.mg_line.specs.declared.fields.LineFields.{LineFields}
 use Rattle.mg_line.specs.declared.phone.Act.{Act}

@@ -9,7 +9,7 @@ use Rattle.event_syntax.specs.Requested.{requested_of}
 use Rattle.packages.specs.Signals.{signals_of}
 use Rattle.timers.specs.declared.kind.LineDue.{LineDue}
 use Rattle.mg_line.specs.declared.phone.Act.{Act}
-use Rattle.event_requests.specs.declared.request.Request.{Request}
+use Rattle.events_and_signals.specs.declared.request.Request.{Request}
 use Rattle.mg_line.specs.Line.{LineState, LineDone, Notice, by_default, opening_line}
 use Rattle.mg_line.specs.Acting.{phoned}
 use Rattle.mg_line.specs.Requesting.{asked}

@@ -1,6 +1,6 @@
 //! The fields of a line.
 ghost use Rattle.std.specs.Prelude.{◌≡◌, IfOk, OnOk, OnErr};
-ghost use Rattle.quarantine.specs.Held.{nothing_held, without_front};
+ghost use Rattle.events_and_signals.specs.Held.{nothing_held, without_front};
 ghost use Rattle.mg_line.specs.Line.{opening_line};
 ghost use Rattle.mg_line.specs.LineFields.{line_in};
 ghost use Rattle.mg_line.specs.Detecting.{with_held};
@@ -8,13 +8,12 @@ ghost use Rattle.mg_line.specs.Detecting.{with_held};
 use crate::notice::MOST_ACCUMULATED;
 use arrayvec::ArrayVec;
 use digit_map_bits::Dialling;
-use event_requests::EventRequest;
+use events_and_signals::EventRequest;
 use event_syntax::{Handling, Notifying, Observed, Quarantined};
 use line_rules::{State, quarantine_room};
 use mg_bytes::{Identifier, OutOfMemory};
 use packages::Hook;
-use quarantine::Buffer;
-use signals::SignalSet;
+use events_and_signals::{Buffer, SignalSet};
 use std::alloc::Global;
 use std::mem;
 

@@ -5,7 +5,7 @@ use Rattle.packages.specs.declared.hook.Hook.{Hook}
 use Rattle.packages.specs.declared.hook.Hook.TheVariants.{OnHook, OffHook}
 use Rattle.packages.specs.declared.signal.Signal.{Signal}
 use Rattle.packages.specs.declared.signal.Signal.TheVariants.{DialTone, Busy, Reorder, Ringing, RingSplash, MessageWaiting, Ringback, Congestion, Confirm}
-use Rattle.signals.specs.declared.active.ActiveSignal.{ActiveSignal}
+use Rattle.events_and_signals.specs.declared.active.ActiveSignal.{ActiveSignal}
 use Rattle.sdp_subset.specs.declared.session.Session.{Session}
 use Rattle.connections.specs.declared.codec.Codecs.{Codecs}
 use Rattle.connections.specs.declared.codec.Codecs.TheVariants.{Only, Both}

@@ -19,7 +19,7 @@ use mg_line::Hook;
 use packages::Signal;
 use plain_machine::Setup;
 use sdp_subset::Session;
-use signals::ActiveSignal;
+use events_and_signals::ActiveSignal;
 use std::alloc::Global;
 
 /// How many lines a gateway has.

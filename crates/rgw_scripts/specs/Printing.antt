@@ -6,7 +6,7 @@ use Rattle.mg_bytes.specs.Lines.{lines_of}
 use Rattle.packages.specs.declared.hook.Hook.{Hook}
 use Rattle.packages.specs.declared.hook.Hook.TheVariants.{OffHook, OnHook}
 use Rattle.packages.specs.Looking.{signal_name}
-use Rattle.signals.specs.declared.active.ActiveSignal.{ActiveSignal}
+use Rattle.events_and_signals.specs.declared.active.ActiveSignal.{ActiveSignal}
 use Rattle.connections.specs.declared.connection.Connection.{Connection}
 use Rattle.connections.specs.Modes.{mode_text}
 use Rattle.connections.specs.Numbers.{number_text}

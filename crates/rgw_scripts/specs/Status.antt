@@ -1,7 +1,7 @@
 -- What a line is when it is shown: what the gateway's readers tell of it.
 use Rattle.std.specs.Prelude.{ℕ, List, Option, Some, None}
 use Rattle.packages.specs.declared.hook.Hook.{Hook}
-use Rattle.signals.specs.declared.active.ActiveSignal.{ActiveSignal}
+use Rattle.events_and_signals.specs.declared.active.ActiveSignal.{ActiveSignal}
 use Rattle.connections.specs.declared.connection.Connection.{Connection}
 use Rattle.plain_machine.specs.Machine.{Machine}
 use Rattle.plain_machine.specs.Lists.{hook_of, signals_of, connections_of, lost_of}

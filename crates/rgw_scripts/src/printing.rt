@@ -15,7 +15,7 @@ use mg_bytes::{Draft, OutOfMemory, lines};
 use mg_line::Hook;
 use packages::signal_name;
 use plain_machine::{OutDatagram, Refusal};
-use signals::ActiveSignal;
+use events_and_signals::ActiveSignal;
 use std::alloc::Global;
 
 // The room, in bytes, that the text of datagrams begins with: most are shorter.

@@ -2,7 +2,7 @@
 use arrayvec::ArrayVec;
 use connections::Connection;
 use mg_line::Hook;
-use signals::ActiveSignal;
+use events_and_signals::ActiveSignal;
 use std::marker::Model;
 
 /// What a line is, as the gateway's readers tell it. A contract sees its lists.

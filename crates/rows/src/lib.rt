@@ -28,9 +28,9 @@ use crate::restarts::RestartScenario;
 use crate::values::Values;
 use transmission::History;
 use mg_line::Line;
-use quarantine::Buffer;
+use events_and_signals::Buffer;
 use scenario_files::{Kinds, Report, told};
-use signals::SignalSet;
+use events_and_signals::SignalSet;
 use std::net::Net;
 use timers::Due;
 

@@ -11,7 +11,7 @@ use event_syntax::write_observed;
 use packages::Observed;
 use mg_bytes::OutOfMemory;
 use mg_line::MOST_QUARANTINED;
-use quarantine::Buffer;
+use events_and_signals::Buffer;
 use scenario_files::{Outcome, Row, Scenario};
 use std::alloc::Global;
 

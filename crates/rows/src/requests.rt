@@ -9,7 +9,7 @@
 use crate::events::observed_of;
 use crate::line::parameters::events_of;
 use crate::texts::{are_same, is_word};
-use event_requests::{Decision, Doing, EventRequest, decide};
+use events_and_signals::{Decision, Doing, EventRequest, decide};
 use event_syntax::{Action, Embedding, Observed, write_signals};
 use mg_bytes::OutOfMemory;
 use packages::event_of;

@@ -10,7 +10,7 @@ use event_syntax::read_signals;
 use mg_bytes::OutOfMemory;
 use packages::{Hook, signal_name, signal_of};
 use scenario_files::{Outcome, Row, Scenario};
-use signals::{SignalSet, refused};
+use events_and_signals::{SignalSet, refused};
 use std::alloc::Global;
 
 // `on` or `off`, up to the next field.

@@ -19,12 +19,12 @@ use Rattle.event_syntax.specs.declared.request.Action.TheVariants.{Notify, Accum
 use Rattle.event_syntax.specs.declared.request.EmbeddedRequest.{EmbeddedRequest}
 use Rattle.event_syntax.specs.declared.request.Reaction.{Reaction}
 use Rattle.event_syntax.specs.declared.request.Reaction.TheVariants.{Plain, Embed, AccumulateAndEmbed}
-use Rattle.event_requests.specs.Choice.{chosen, is_kept}
-use Rattle.event_requests.specs.Naming.{event_of}
-use Rattle.event_requests.specs.declared.request.Request.{Request}
-use Rattle.quarantine.specs.Held.{Held, one_lost, one_kept, holding}
-use Rattle.quarantine.specs.Given.{InOrderBut, none, kept, left_out}
-use Rattle.signals.specs.Stopping.{without}
+use Rattle.events_and_signals.specs.Choice.{chosen, is_kept}
+use Rattle.events_and_signals.specs.Naming.{event_of}
+use Rattle.events_and_signals.specs.declared.request.Request.{Request}
+use Rattle.events_and_signals.specs.Held.{Held, one_lost, one_kept, holding}
+use Rattle.events_and_signals.specs.Given.{InOrderBut, none, kept, left_out}
+use Rattle.events_and_signals.specs.Stopping.{without}
 use Rattle.timers.specs.declared.kind.LineDue.{LineDue}
 use Rattle.timers.specs.declared.kind.LineDue.TheVariants.{DigitTimer, SignalEnd}
 use Rattle.mg_line.specs.declared.phone.Act.{Act}

@@ -10,7 +10,7 @@ use Rattle.mg_line.specs.Requesting.{asked}
 use Rattle.mg_line.specs.Answering.{answered}
 use Rattle.mg_line.specs.Opening.{opened}
 use Rattle.mg_line.specs.Falling.{fired}
-use Rattle.event_requests.specs.declared.request.Request.{Request}
+use Rattle.events_and_signals.specs.declared.request.Request.{Request}
 use Rattle.retransmission.specs.Flight.{InFlight}
 use Rattle.retransmission.specs.declared.heard.Heard.{Heard}
 use Rattle.retransmission.specs.declared.heard.Heard.TheVariants.{Nothing, PutOff, Redirected, Answered}

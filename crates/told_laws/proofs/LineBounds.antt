@@ -13,7 +13,7 @@ use Rattle.transmission.specs.Memory.{most_firsts}
 use Rattle.transmission.specs.Acknowledging.{asks_for_acknowledgement}
 use Rattle.transmission.specs.Texts.{texts_of}
 use Rattle.packages.specs.declared.observed.Observed.{Observed}
-use Rattle.event_requests.specs.declared.request.Request.{Request}
+use Rattle.events_and_signals.specs.declared.request.Request.{Request}
 use Rattle.mg_line.specs.declared.phone.Act.{Act}
 use Rattle.retransmission.specs.declared.repeat.Repeat.{Repeat}
 use Rattle.retransmission.specs.declared.repeat.Repeat.TheVariants.{Sent as SentAgain, GivenUp}

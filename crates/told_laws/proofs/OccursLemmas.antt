@@ -13,9 +13,9 @@ use Rattle.event_syntax.specs.declared.request.Action.TheVariants.{Notify, Accum
 use Rattle.event_syntax.specs.declared.request.EmbeddedRequest.{EmbeddedRequest}
 use Rattle.event_syntax.specs.declared.request.Reaction.{Reaction}
 use Rattle.event_syntax.specs.declared.request.Reaction.TheVariants.{Plain, Embed, AccumulateAndEmbed}
-use Rattle.event_requests.specs.Choice.{Chosen, chosen}
-use Rattle.event_requests.specs.Naming.{event_of}
-use Rattle.event_requests.specs.Requests.{EventRequests, with_embedded}
+use Rattle.events_and_signals.specs.Choice.{Chosen, chosen}
+use Rattle.events_and_signals.specs.Naming.{event_of}
+use Rattle.events_and_signals.specs.Requests.{EventRequests, with_embedded}
 use Rattle.mg_line.specs.State.TheVariants.{Notification}
 use Rattle.mg_line.specs.Line.{LineState, Notice, LineDone, still, most_accumulated}
 use Rattle.mg_line.specs.Occurring.{notified, notified_if_full, with_event, letter_of, verdict_by, judged, timed, with_letter, dialled_by, embedded, acted, signals_after, occurred}

@@ -2,10 +2,10 @@
 use Rattle.std.proofs.Common.{◌≡◌, suc, ◌+◌, Bool, true, List, [], ◌∷◌, ◌++◌, length, refl, ap, ◌∙◌, arith, ℕ, ◌≤◌, min, Some, inl, inr, sym, subst}
 use Rattle.std.specs.Prelude.{filter, if◌then◌else◌, ◌⊎◌}
 use Rattle.packages.specs.declared.observed.Observed.{Observed}
-use Rattle.quarantine.proofs.GivenLaws.{counted_out}
+use Rattle.events_and_signals.proofs.GivenLaws.{counted_out}
 use Rattle.told_laws.specs.Among.{AreAmong, IsToldInOrder}
-use Rattle.event_requests.specs.declared.request.Request.{Request}
-use Rattle.quarantine.specs.Held.{most_lost}
+use Rattle.events_and_signals.specs.declared.request.Request.{Request}
+use Rattle.events_and_signals.specs.Held.{most_lost}
 use Rattle.plain_machine.specs.declared.setup.Setup.{Setup}
 use Rattle.plain_machine.specs.declared.endpoint.Endpoint.{Endpoint}
 use Rattle.plain_machine.specs.Event.{GatewayEvent}

@@ -12,8 +12,8 @@ use Rattle.packages.specs.declared.handling.Quarantined.{Quarantined}
 use Rattle.packages.specs.declared.handling.Quarantined.TheVariants.{Process, Discard}
 use Rattle.packages.specs.declared.observed.Observed.{Observed}
 use Rattle.packages.specs.declared.observed.Observed.TheVariants.{Happened, Ended}
-use Rattle.event_requests.specs.declared.request.Request.{Request}
-use Rattle.signals.specs.Stopping.{without}
+use Rattle.events_and_signals.specs.declared.request.Request.{Request}
+use Rattle.events_and_signals.specs.Stopping.{without}
 use Rattle.timers.specs.declared.kind.LineDue.{LineDue}
 use Rattle.timers.specs.declared.kind.LineDue.TheVariants.{DigitTimer, SignalEnd}
 use Rattle.mg_line.specs.declared.phone.Act.{Act}
@@ -33,7 +33,7 @@ use Rattle.world_laws.proofs.EndpointLemmas.{steps_of}
 use Rattle.told_laws.specs.Walking.{left_by, Place, behind_request, no_more, Walks, is_waiting, nothing_asked, End, Then, with_act, Stays, AllButLost, no_step, a_step, a_lost_act, awaits_request}
 use Rattle.told_laws.proofs.AmongLemmas.{IsDrained, act_of_phone, phoned_moves, asked_moves, answered_moves, opened_moves, fired_moves}
 use Rattle.told_laws.proofs.WalkLemmas.{ActWalks, At, Has, Loses, WalksOn, act_walks, at_resumes, end_walks, from_hooked, has_at, here, keeps_same, open_by, other_at, renewed_open, resumes, embeds_keeps, walks_both, walks_map}
-use Rattle.quarantine.specs.Held.{most_lost}
+use Rattle.events_and_signals.specs.Held.{most_lost}
 use Rattle.mg_line.proofs.LoseLemmas.{lost_only_grows}
 use Rattle.world_laws.proofs.OutLemmas.{acts_count, fires_count}
 use Rattle.told_laws.proofs.InTurn.{CallsInTurn}

@@ -7,9 +7,9 @@ use Rattle.packages.specs.declared.observed.Observed.{Observed}
 use Rattle.event_syntax.specs.declared.request.EmbeddedRequest.{EmbeddedRequest}
 use Rattle.event_syntax.specs.declared.request.Reaction.{Reaction}
 use Rattle.event_syntax.specs.declared.request.Reaction.TheVariants.{Embed, AccumulateAndEmbed}
-use Rattle.event_requests.specs.Choice.{is_kept}
-use Rattle.event_requests.specs.Requests.{EventRequests, with_embedded}
-use Rattle.quarantine.specs.Held.{Held, one_lost, one_kept, holding, most_lost}
+use Rattle.events_and_signals.specs.Choice.{is_kept}
+use Rattle.events_and_signals.specs.Requests.{EventRequests, with_embedded}
+use Rattle.events_and_signals.specs.Held.{Held, one_lost, one_kept, holding, most_lost}
 use Rattle.mg_line.specs.State.{State}
 use Rattle.mg_line.specs.State.TheVariants.{Normal, Notification, Lockstep}
 use Rattle.mg_line.specs.Line.{LineState, Notice, LineDone, still}

@@ -1,7 +1,7 @@
 -- What a line tells of what was done at its telephone, whatever is asked of it (RFC 3435, 4.4.1).
 use Rattle.std.specs.Prelude.{ℕ, List, ◌++◌}
 use Rattle.packages.specs.declared.observed.Observed.{Observed}
-use Rattle.quarantine.specs.Given.{InOrderBut}
+use Rattle.events_and_signals.specs.Given.{InOrderBut}
 use Rattle.mg_line.specs.Line.{LineState}
 use Rattle.world_laws.specs.Course.{CourseStep}
 use Rattle.world_laws.specs.Dialled.{done_in, told_along}

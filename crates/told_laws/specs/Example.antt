@@ -1,6 +1,6 @@
 -- What comes to the gateway of the worked examples, which has two lines; and requests of which walks begin.
 use Rattle.std.specs.Prelude.{List, [], ◌∷◌, ◌++◌, codes}
-use Rattle.event_requests.specs.declared.request.Request.{Request}
+use Rattle.events_and_signals.specs.declared.request.Request.{Request}
 use Rattle.mg_line.specs.declared.phone.Act.TheVariants.{OffHook, Key}
 use Rattle.mg_line.specs.declared.phone.Key.TheVariants.{Five, Six}
 use Rattle.mg_line.specs.Scenario.{requests, with_map}

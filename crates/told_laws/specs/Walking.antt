@@ -11,11 +11,11 @@ use Rattle.event_syntax.specs.declared.request.Action.TheVariants.{Notify, Accum
 use Rattle.event_syntax.specs.declared.request.EmbeddedRequest.{EmbeddedRequest}
 use Rattle.event_syntax.specs.declared.request.Reaction.{Reaction}
 use Rattle.event_syntax.specs.declared.request.Reaction.TheVariants.{Plain, Embed, AccumulateAndEmbed}
-use Rattle.event_requests.specs.Choice.{chosen, is_kept}
-use Rattle.event_requests.specs.Naming.{event_of}
-use Rattle.event_requests.specs.Requests.{EventRequests, no_requests, with_embedded}
-use Rattle.event_requests.specs.declared.request.Request.{Request}
-use Rattle.quarantine.specs.Held.{most_lost}
+use Rattle.events_and_signals.specs.Choice.{chosen, is_kept}
+use Rattle.events_and_signals.specs.Naming.{event_of}
+use Rattle.events_and_signals.specs.Requests.{EventRequests, no_requests, with_embedded}
+use Rattle.events_and_signals.specs.declared.request.Request.{Request}
+use Rattle.events_and_signals.specs.Held.{most_lost}
 use Rattle.mg_line.specs.declared.phone.Act.{Act}
 use Rattle.mg_line.specs.Acting.{observed_at}
 use Rattle.mg_line.specs.Answering.{is_loop}

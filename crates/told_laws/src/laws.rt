@@ -1,7 +1,7 @@
 //! Laws of what a line tells, whatever is asked of it, over every list of events.
 ghost use Rattle.std.specs.Prelude.{◌≡◌, ◌++◌, ◌∷◌, ℕ, ◌+◌, true, false, List, Some};
 ghost use Rattle.packages.specs.declared.observed.Observed.{Observed};
-ghost use Rattle.event_requests.specs.declared.request.Request.{Request};
+ghost use Rattle.events_and_signals.specs.declared.request.Request.{Request};
 ghost use Rattle.plain_machine.specs.declared.setup.Setup.{Setup};
 ghost use Rattle.plain_machine.specs.declared.endpoint.Endpoint.{Endpoint};
 ghost use Rattle.plain_machine.specs.Event.{GatewayEvent};

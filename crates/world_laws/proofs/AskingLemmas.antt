@@ -8,7 +8,7 @@ use Rattle.event_syntax.specs.declared.request.Action.TheVariants.{Notify, Accum
 use Rattle.event_syntax.specs.declared.request.RequestedEvent.{RequestedEvent}
 use Rattle.event_syntax.specs.declared.request.Reaction.{Reaction}
 use Rattle.event_syntax.specs.declared.request.Reaction.TheVariants.{Plain, Embed, AccumulateAndEmbed}
-use Rattle.event_requests.specs.Choice.{chosen}
+use Rattle.events_and_signals.specs.Choice.{chosen}
 use Rattle.machine_laws.proofs.FitLemmas.{each_passes}
 use Rattle.machine_laws.proofs.EachLemmas.{Each}
 use Rattle.world_laws.specs.Keeping.{is_of_phone, is_bare, NotifiesAll}

@@ -5,9 +5,9 @@ use Rattle.std.proofs.lemmas.Grind.{flat_map-append}
 use Rattle.packages.specs.declared.handling.Handling.{Handling}
 use Rattle.packages.specs.declared.handling.Notifying.TheVariants.{Step as InStep}
 use Rattle.packages.specs.declared.observed.Observed.{Observed}
-use Rattle.quarantine.specs.Held.{most_lost}
+use Rattle.events_and_signals.specs.Held.{most_lost}
 use Rattle.mg_line.specs.declared.phone.Act.{Act}
-use Rattle.event_requests.specs.declared.request.Request.{Request}
+use Rattle.events_and_signals.specs.declared.request.Request.{Request}
 use Rattle.mg_line.specs.Acting.{observed_at, phoned}
 use Rattle.mg_line.specs.Answering.{answered}
 use Rattle.mg_line.specs.Falling.{fired}

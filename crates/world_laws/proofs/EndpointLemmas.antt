@@ -5,7 +5,7 @@ use Rattle.endpoint_names.specs.declared.entity.Entity.{Entity}
 use Rattle.packages.specs.declared.observed.Observed.{Observed}
 use Rattle.timers.specs.declared.kind.LineDue.{LineDue}
 use Rattle.mg_line.specs.declared.phone.Act.{Act}
-use Rattle.event_requests.specs.declared.request.Request.{Request}
+use Rattle.events_and_signals.specs.declared.request.Request.{Request}
 use Rattle.mg_line.specs.Line.{LineState, Notice, LineDone}
 use Rattle.mg_line.specs.Acting.{phoned}
 use Rattle.mg_line.specs.Requesting.{asked}

@@ -6,7 +6,7 @@ use Rattle.std.proofs.lemmas.Bool.Decides.{Decides-ltb, nat_tests}
 use Rattle.transmission.specs.Firsts.{young_of}
 use Rattle.transmission.specs.Kept.{young_firsts}
 use Rattle.transmission.specs.Memory.{most_firsts}
-use Rattle.event_requests.specs.declared.request.Request.{Request}
+use Rattle.events_and_signals.specs.declared.request.Request.{Request}
 use Rattle.mg_line.specs.State.{State}
 use Rattle.mg_line.specs.State.TheVariants.{Normal, Notification, Lockstep}
 use Rattle.retransmission.specs.Flight.{InFlight}

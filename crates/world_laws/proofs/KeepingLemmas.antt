@@ -15,18 +15,18 @@ use Rattle.packages.specs.declared.observed.Observed.TheVariants.{Happened, Ende
 use Rattle.event_syntax.specs.declared.request.Action.TheVariants.{Notify, Accumulate, Dial, Ignore}
 use Rattle.event_syntax.specs.declared.request.Reaction.{Reaction}
 use Rattle.event_syntax.specs.declared.request.Reaction.TheVariants.{Plain, Embed, AccumulateAndEmbed}
-use Rattle.event_requests.specs.Choice.{Chosen, chosen, is_requested, is_detected, is_kept}
-use Rattle.event_requests.specs.Naming.{event_of}
-use Rattle.quarantine.specs.Held.{Held, one_lost, one_kept, holding}
-use Rattle.signals.specs.Due.{due_first}
-use Rattle.signals.specs.Stopping.{without}
+use Rattle.events_and_signals.specs.Choice.{Chosen, chosen, is_requested, is_detected, is_kept}
+use Rattle.events_and_signals.specs.Naming.{event_of}
+use Rattle.events_and_signals.specs.Held.{Held, one_lost, one_kept, holding}
+use Rattle.events_and_signals.specs.Due.{due_first}
+use Rattle.events_and_signals.specs.Stopping.{without}
 use Rattle.timers.specs.declared.kind.LineDue.{LineDue}
 use Rattle.timers.specs.declared.kind.LineDue.TheVariants.{DigitTimer, SignalEnd}
 use Rattle.mg_line.specs.declared.phone.Act.{Act}
 use Rattle.mg_line.specs.declared.phone.Act.TheVariants.{OffHook, OnHook, Flash, Key}
 use Rattle.mg_line.specs.declared.phone.Key.{Key as OneKey}
 use Rattle.mg_line.specs.declared.phone.Key.TheVariants as keys
-use Rattle.event_requests.specs.declared.request.Request.{Request}
+use Rattle.events_and_signals.specs.declared.request.Request.{Request}
 use Rattle.mg_line.specs.State.{State}
 use Rattle.mg_line.specs.State.TheVariants.{Normal, Notification, Lockstep}
 use Rattle.mg_line.specs.Line.{LineState, Notice, LineDone, still}

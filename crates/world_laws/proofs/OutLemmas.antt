@@ -9,9 +9,9 @@ use Rattle.packages.specs.declared.signal.Signal.{Signal}
 use Rattle.packages.specs.Looking.{kind_of}
 use Rattle.packages.specs.declared.observed.Observed.{Observed}
 use Rattle.packages.specs.declared.observed.Observed.TheVariants.{Happened, Ended}
-use Rattle.event_requests.specs.Choice.{is_kept}
-use Rattle.quarantine.specs.Held.{Held, most_lost, one_lost, one_kept, holding}
-use Rattle.signals.specs.Stopping.{without}
+use Rattle.events_and_signals.specs.Choice.{is_kept}
+use Rattle.events_and_signals.specs.Held.{Held, most_lost, one_lost, one_kept, holding}
+use Rattle.events_and_signals.specs.Stopping.{without}
 use Rattle.timers.specs.declared.kind.LineDue.{LineDue}
 use Rattle.timers.specs.declared.kind.LineDue.TheVariants.{DigitTimer, SignalEnd}
 use Rattle.mg_line.specs.declared.phone.Act.{Act}
@@ -28,7 +28,7 @@ use Rattle.std.proofs.lemmas.List.Elements.{filter-append}
 use Rattle.mg_bytes.specs.declared.letter.Letter.TheVariants.{Timer}
 use Rattle.packages.specs.declared.handling.Quarantined.{Quarantined}
 use Rattle.packages.specs.declared.handling.Quarantined.TheVariants.{Process, Discard}
-use Rattle.event_requests.specs.declared.request.Request.{Request}
+use Rattle.events_and_signals.specs.declared.request.Request.{Request}
 use Rattle.mg_line.specs.Answering.{answered, is_loop}
 use Rattle.mg_line.specs.Laws.{Awaits, Drains, IsWaiting}
 use Rattle.mg_line.specs.Occurring.{occurred}

@@ -54,13 +54,13 @@ use Rattle.event_syntax.specs.declared.request.Action.TheVariants.{Notify, Accum
 use Rattle.event_syntax.specs.declared.request.EmbeddedRequest.{EmbeddedRequest}
 use Rattle.event_syntax.specs.declared.request.Reaction.{Reaction}
 use Rattle.event_syntax.specs.declared.request.Reaction.TheVariants.{Plain, Embed, AccumulateAndEmbed}
-use Rattle.event_requests.specs.Choice.{Chosen, chosen}
-use Rattle.event_requests.specs.Naming.{event_of}
-use Rattle.signals.specs.Stopping.{without}
+use Rattle.events_and_signals.specs.Choice.{Chosen, chosen}
+use Rattle.events_and_signals.specs.Naming.{event_of}
+use Rattle.events_and_signals.specs.Stopping.{without}
 use Rattle.timers.specs.declared.kind.LineDue.{LineDue}
 use Rattle.timers.specs.declared.kind.LineDue.TheVariants.{DigitTimer, SignalEnd}
 use Rattle.mg_line.specs.declared.phone.Act.{Act}
-use Rattle.event_requests.specs.declared.request.Request.{Request}
+use Rattle.events_and_signals.specs.declared.request.Request.{Request}
 use Rattle.mg_line.specs.State.{State}
 use Rattle.mg_line.specs.State.TheVariants.{Normal, Notification, Lockstep}
 use Rattle.mg_line.specs.Occurring.{notified, notified_if_full, with_event, letter_of, timed, judged, with_letter, dialled_by, embedded, acted, signals_after, occurred}

@@ -1,7 +1,7 @@
 -- Nothing dialled is doubled or skipped (RFC 3435, 4.4.1).
 use Rattle.std.specs.Prelude.{◌≡◌, List, [], ◌∷◌, ◌++◌, flat_map, Option, None, Some}
 use Rattle.packages.specs.declared.observed.Observed.{Observed}
-use Rattle.event_requests.specs.declared.request.Request.{Request}
+use Rattle.events_and_signals.specs.declared.request.Request.{Request}
 use Rattle.mg_line.specs.Acting.{observed_at}
 use Rattle.mg_line.specs.Line.{LineState}
 use Rattle.world_laws.specs.Course.{CourseStep, acts, accepts, notifies}

@@ -4,7 +4,7 @@ use Rattle.packages.specs.declared.handling.Handling.{Handling}
 use Rattle.packages.specs.declared.handling.Notifying.TheVariants.{Step as InStep}
 use Rattle.timers.specs.declared.kind.LineDue.{LineDue}
 use Rattle.mg_line.specs.declared.phone.Act.{Act}
-use Rattle.event_requests.specs.declared.request.Request.{Request}
+use Rattle.events_and_signals.specs.declared.request.Request.{Request}
 use Rattle.mg_line.specs.Line.{LineState, LineDone}
 use Rattle.mg_line.specs.Laws.{IsWaiting}
 use Rattle.mg_line.specs.Acting.{phoned}

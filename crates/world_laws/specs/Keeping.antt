@@ -9,10 +9,10 @@ use Rattle.event_syntax.specs.declared.request.Action.TheVariants.{Notify}
 use Rattle.event_syntax.specs.declared.request.RequestedEvent.{RequestedEvent}
 use Rattle.event_syntax.specs.declared.request.Reaction.{Reaction}
 use Rattle.event_syntax.specs.declared.request.Reaction.TheVariants.{Plain, Embed, AccumulateAndEmbed}
-use Rattle.event_requests.specs.Choice.{chosen}
+use Rattle.events_and_signals.specs.Choice.{chosen}
 use Rattle.timers.specs.declared.kind.LineDue.{LineDue}
 use Rattle.mg_line.specs.declared.phone.Act.{Act}
-use Rattle.event_requests.specs.declared.request.Request.{Request}
+use Rattle.events_and_signals.specs.declared.request.Request.{Request}
 use Rattle.mg_line.specs.State.TheVariants.{Normal}
 use Rattle.mg_line.specs.Line.{LineState, Notice, LineDone}
 use Rattle.mg_line.specs.Acting.{observed_at, phoned}

@@ -3,7 +3,7 @@ use Rattle.std.specs.Prelude.{ℕ, codes, false, List, [], ◌∷◌, ◌++◌}
 use Rattle.std.specs.Option.{unwrap_or}
 use Rattle.endpoint_names.specs.declared.route.Route.TheVariants.{One}
 use Rattle.packages.specs.declared.signal.Signal.TheVariants.{DialTone}
-use Rattle.event_requests.specs.declared.request.Request.{Request}
+use Rattle.events_and_signals.specs.declared.request.Request.{Request}
 use Rattle.retransmission.specs.Flight.{InFlight, sent_first}
 use Rattle.mg_line.specs.declared.phone.Act.TheVariants.{OffHook, Key}
 use Rattle.mg_line.specs.declared.phone.Key.TheVariants.{Five}

@@ -5,7 +5,7 @@ use command_forms::{Asks, AuditTarget, ConnectionDeed, Deed, Target, form};
 use connections::{CodecChoice, Deletion, Mode, Options, encoding_text, mode_text, write_options};
 use digit_map::MapChange;
 use endpoint_names::{Names, Pattern, Table};
-use event_requests::Request;
+use events_and_signals::Request;
 use event_syntax::{write_handling, write_signals};
 use mg_bytes::{CodeFault, Identifier, OutOfMemory, Text};
 use mgcp_text::{Message, read_k};

@@ -1,5 +1,5 @@
 use Rattle.line_changes.specs.Changes.{is_same_active}
-use Rattle.signals.specs.declared.active.ActiveSignal.{ActiveSignal}
+use Rattle.events_and_signals.specs.declared.active.ActiveSignal.{ActiveSignal}
 use Rattle.line_changes.proofs.PuttingLemmas.{is_there, is_not_here, is_nowhere}
 use Rattle.line_changes.proofs.changing.has_active.Goals as goal
 

@@ -1,6 +1,6 @@
 use Rattle.std.proofs.Common.{◌≡◌, List, [], ◌∷◌, ◌++◌, refl, sym, ap, ◌∙◌}
 use Rattle.packages.specs.declared.observed.Observed.{Observed}
-use Rattle.quarantine.specs.Given.{none, kept}
+use Rattle.events_and_signals.specs.Given.{none, kept}
 use Rattle.world_laws.specs.OnceExample.{five, lifted, six}
 use Rattle.told_laws.specs.Example.{has_keys_collected}
 use Rattle.told_laws.specs.Walking.{collects}

@@ -1,5 +1,5 @@
 use Rattle.std.proofs.Common.{◌≡◌, sym, subst, refl, ◌∙◌, arith, IfOk}
-use Rattle.quarantine.specs.Held.{without_front}
+use Rattle.events_and_signals.specs.Held.{without_front}
 use Rattle.mg_line.specs.Line.{LineDone}
 use Rattle.mg_line.specs.LineFields.{line_in, done_in}
 use Rattle.mg_line.specs.Detecting.{beside}

@@ -1,5 +1,5 @@
 use Rattle.std.proofs.Common.{sym, ap, ◌∙◌}
-use Rattle.quarantine.specs.Held.{nothing_held}
+use Rattle.events_and_signals.specs.Held.{nothing_held}
 use Rattle.mg_line.specs.Line.{LineState}
 use Rattle.mg_line.specs.Step.{step_of}
 use Rattle.mg_line.specs.LineFields.{line_in}

@@ -1,3 +1,0 @@
-pub mod Computing
-pub mod ChoiceLaws
-pub mod WritingLemmas

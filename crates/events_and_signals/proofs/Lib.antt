@@ -1,0 +1,12 @@
+pub mod RequestComputing
+pub mod ChoiceLaws
+pub mod WritingLemmas
+pub mod SlotLemmas
+pub mod RequestLemmas
+pub mod AmongLaws
+pub mod RequestLaws
+pub mod DueLaws
+pub mod SignalComputing
+pub mod QuarantineComputing
+pub mod GivenLaws
+pub mod FrontLemmas

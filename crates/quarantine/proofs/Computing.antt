@@ -1,9 +1,0 @@
--- The definitions opened, so that worked examples compute.
-use Rattle.std.specs.Prelude.{⊤}
-use Rattle.packages.proofs.ValueComputing.{on_examples as syntax_examples}
-use Rattle.quarantine.specs.Held.{holding}
-use Rattle.quarantine.specs.Given.{held_after, given_back}
-
-unfoldable pub on_examples : ⊤
-unfolding syntax_examples holding held_after given_back
-on_examples = tt

@@ -1,3 +1,0 @@
-pub mod Computing
-pub mod GivenLaws
-pub mod FrontLemmas

@@ -1,5 +1,0 @@
-use Rattle.quarantine.proofs.GivenLaws.{none_lost_from}
-use Rattle.quarantine.proofs.laws.nothing_is_lost_while_there_is_room.Goals as goal
-
-pub returns : goal.returns
-returns c = none_lost_from

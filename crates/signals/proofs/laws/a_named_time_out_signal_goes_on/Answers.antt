@@ -1,5 +1,0 @@
-use Rattle.signals.proofs.RequestLaws.{among-goes_on}
-use Rattle.signals.proofs.laws.a_named_time_out_signal_goes_on.Goals as goal
-
-pub returns : goal.returns
-returns c = among-goes_on

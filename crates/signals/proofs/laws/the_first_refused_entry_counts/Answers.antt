@@ -1,8 +1,0 @@
-use Rattle.signals.proofs.RequestLaws.{first_refused, none_refused}
-use Rattle.signals.proofs.laws.the_first_refused_entry_counts.Goals as goal
-
-pub returns-clause-some : goal.returns-clause-some
-returns-clause-some c = first_refused
-
-pub returns-clause-none : goal.returns-clause-none
-returns-clause-none c = none_refused

@@ -1,8 +1,0 @@
-use Rattle.signals.proofs.RequestLaws.{among-without_time_outs, among-no_entries}
-use Rattle.signals.proofs.laws.time_out_signals_alone_stop.Goals as goal
-
-pub returns-clause-at_once : goal.returns-clause-at_once
-returns-clause-at_once c = among-without_time_outs
-
-pub returns-clause-by_no_entries : goal.returns-clause-by_no_entries
-returns-clause-by_no_entries c = among-no_entries

@@ -1,7 +1,0 @@
-use Rattle.std.proofs.Common.{◌≡◌, ◌≤◌, length, take}
-use Rattle.signals.specs.Active.{table}
-use Rattle.signals.specs.Slots.{held_by}
-use Rattle.signals.proofs.set.SignalSet.list.Given as goal
-
-abbrev pub invariant-loop-place : goal.invariant-loop-place
-invariant-loop-place l = record { held : l.list.items ≡ held_by (take l.place table) l.self-inside.slots; few : length l.list.items ≤ l.place }

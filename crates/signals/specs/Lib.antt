@@ -1,9 +1,0 @@
-pub mod Active
-pub mod Stopping
-pub mod Applying
-pub mod Due
-pub mod Slots
-pub mod Fields
-pub mod Example
-pub use Rattle.packages.specs.declared.signals.Setting
-pub use Rattle.packages.specs.declared.signals.SignalRequest
