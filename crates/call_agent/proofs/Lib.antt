@@ -5,3 +5,4 @@ pub mod PassLemmas
 pub mod WorkLemmas
 pub mod HearingLemmas
 pub mod StandLemmas
+pub mod FlightTable

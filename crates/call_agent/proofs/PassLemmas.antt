@@ -13,7 +13,7 @@ use Rattle.retransmission.proofs.LifeLaws.{repeat_same}
 use Rattle.transmission.specs.declared.output.OutDatagram.{OutDatagram}
 use Rattle.transmission.specs.Transacting.{message_to}
 use Rattle.call_agent.specs.Flying.{Flown, flown, flown_on, if_due, first_flight, passed, pass, ticked, with_flight, without_flight}
-use Rattle.flights.specs.Flights.{Commands, flight_in, flights_in}
+use Rattle.call_agent.specs.Flights.{Commands, flight_in, flights_in}
 use Rattle.call_agent.specs.declared.state.State.{State}
 use Rattle.call_agent.specs.State.{FlewOn, StillFound, Went, kept_in}
 

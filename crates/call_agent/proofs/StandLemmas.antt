@@ -6,7 +6,7 @@ use Rattle.std.proofs.lemmas.Bool.{leb-false}
 use Rattle.mg_bytes.specs.Bytes.{space}
 use Rattle.endpoint_names.specs.declared.route.Route.TheVariants.{One}
 use Rattle.retransmission.specs.Flight.{InFlight, sent_first}
-use Rattle.flights.specs.Flights.{Commands, begun, settled}
+use Rattle.call_agent.specs.Flights.{Commands, begun, settled}
 use Rattle.transmission.proofs.RecallLaws.{recalls_itself, recalls_purged}
 use Rattle.gateway_rules.specs.declared.refusal.Refusal.{Refusal}
 use Rattle.gateway_rules.specs.declared.refusal.Refusal.TheVariants.{TickTooFar, ClockBack}

@@ -5,8 +5,8 @@ use Rattle.retransmission.specs.declared.repeat.Repeat.TheVariants.{Sent, GivenU
 use Rattle.retransmission.specs.Flight.{InFlight, sent_to, repeat_of, repeated}
 use Rattle.transmission.specs.declared.output.OutDatagram.{OutDatagram}
 use Rattle.transmission.specs.Transacting.{message_to}
-pub use Rattle.flights.specs.Choosing.{has_id, sooner, if_due}
-unfoldable pub use Rattle.flights.specs.Choosing.{first_flight, with_flight, without_flight}
+pub use Rattle.call_agent.specs.Choosing.{has_id, sooner, if_due}
+unfoldable pub use Rattle.call_agent.specs.Choosing.{first_flight, with_flight, without_flight}
 use Rattle.call_agent.specs.Agent.{AgentMachine, AgentEffect}
 
 -- flights, and what was sent of them

@@ -8,5 +8,6 @@ pub mod Hearing
 pub mod AgentAlike
 pub mod State
 pub mod AgentStands
-pub use Rattle.flights.specs.Growing
-pub use Rattle.flights.specs.Choosing
+pub mod Growing
+pub mod Choosing
+pub mod Flights

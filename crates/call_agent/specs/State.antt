@@ -12,7 +12,7 @@ use Rattle.gateway_rules.specs.declared.refusal.Refusal.{Refusal}
 use Rattle.retransmission.specs.declared.issued.Answer.{Answer}
 use Rattle.retransmission.specs.declared.issued.Answered.{Answered}
 use Rattle.call_agent.specs.declared.state.State.{State}
-use Rattle.flights.specs.Flights.{Commands}
+use Rattle.call_agent.specs.Flights.{Commands}
 use Rattle.call_agent.specs.Flying.{Flown}
 use Rattle.call_agent.specs.Agent.{FinalAnswer, AgentMachine, AgentEffect}
 use Rattle.call_agent.specs.AgentAlike.{AgentAlike}

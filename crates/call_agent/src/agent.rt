@@ -3,7 +3,7 @@ ghost use Rattle.std.specs.Prelude.{◌≡◌, ◌≤◌, ◌∷◌, [], List, o
 ghost use Rattle.std.specs.Result.{result_err};
 ghost use Rattle.plain_machine.specs.Event.{event_of};
 ghost use Rattle.call_agent.specs.Agent.{answer_for, observed_on};
-ghost use Rattle.flights.specs.Choosing.{first_flight};
+ghost use Rattle.call_agent.specs.Choosing.{first_flight};
 ghost use Rattle.call_agent.specs.Issuing.{issue_refusal};
 ghost use Rattle.call_agent.specs.Hearing.{AgentEvent, AgentEnds, issues, hears, plain_agent};
 ghost use Rattle.call_agent.specs.State.{answer_in};
@@ -16,7 +16,8 @@ use crate::told::TakenEvents;
 use crate::working::step_state;
 use endpoint_names::Route;
 use packages::Observed;
-use flights::{Flights, Growing};
+use crate::flights::Flights;
+use crate::growing::Growing;
 use transmission::History;
 use mg_bytes::{OutOfMemory, Text};
 use retransmission::{Answer, answer_with};

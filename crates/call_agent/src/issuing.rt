@@ -5,13 +5,13 @@ ghost use Rattle.mgcp_text.specs.Reading.{read_text};
 ghost use Rattle.endpoint_names.specs.declared.route.Route.TheVariants.{One};
 ghost use Rattle.retransmission.specs.Flight.{sent_first};
 ghost use Rattle.retransmission.specs.Issued.{is_command_as};
-ghost use Rattle.flights.specs.Flights.{begun, settled};
+ghost use Rattle.call_agent.specs.Flights.{begun, settled};
 ghost use Rattle.transmission.specs.Transacting.{message_to};
 ghost use Rattle.call_agent.specs.Issuing.{command_text, is_good, refusal_under};
 ghost use Rattle.call_agent.specs.AgentStands.{GoodEnds, IssueEnds};
 
 use endpoint_names::Route;
-use flights::Flights;
+use crate::flights::Flights;
 use mg_bytes::{Draft, OutOfMemory, Text};
 use mgcp_text::{TextFault, TransactionId, read_message};
 use retransmission::{Pending, is_command_with};

@@ -1,9 +1,14 @@
-//! A call agent (RFC 3435, 3.5): what it means, and its code.
+//! A call agent (RFC 3435, 3.5): what it means, and its code; its commands in flight (`flights`), and its next transaction id.
 //!
-//! It knows nothing of a gateway's code; `agent_core` has it in one world with a gateway.
+//! It is fully deterministic, with no network and no clock inside, and knows nothing of a gateway's code; `agent_core` has it in one world
+//! with a gateway. After an error it is as it was before the event.
+//!
+//! `rgca` stands on it, by `switchboard`.
 #![tactic(auto)]
 
 mod agent;
+mod flights;
+mod growing;
 mod hearing;
 mod issuing;
 mod responding;

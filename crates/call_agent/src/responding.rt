@@ -2,7 +2,7 @@
 ghost use Rattle.std.specs.Prelude.{◌≡◌, ◌<◌, ◌^◌, find, OnOk};
 ghost use Rattle.retransmission.specs.declared.reply.Reply.TheVariants as replies;
 ghost use Rattle.retransmission.specs.Flight.{InFlight};
-ghost use Rattle.flights.specs.Choosing.{has_id};
+ghost use Rattle.call_agent.specs.Choosing.{has_id};
 ghost use Rattle.call_agent.specs.Responding.{replied, responded_to};
 ghost use Rattle.call_agent.specs.State.{kept_in, found_in};
 

@@ -2,7 +2,8 @@
 
 use crate::setup::AgentSetup;
 use crate::told::TakenEvents;
-use flights::{Flights, Growing};
+use crate::flights::Flights;
+use crate::growing::Growing;
 use transmission::History;
 use retransmission::Answered;
 use std::alloc::Global;

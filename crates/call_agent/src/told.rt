@@ -5,7 +5,7 @@ ghost use Rattle.call_agent.specs.Growing.{Grown, grown_to, committed, rolled_ba
 ghost use Rattle.call_agent.specs.Taking.{with_taken};
 
 use packages::Observed;
-use flights::Growing;
+use crate::growing::Growing;
 use mg_bytes::{OutOfMemory, Sequence};
 use std::alloc::Global;
 use std::marker::Model;

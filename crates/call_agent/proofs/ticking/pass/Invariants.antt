@@ -1,6 +1,6 @@
 use Rattle.std.proofs.Common.{◌-◌, ◌*◌, List, length}
 use Rattle.transmission.specs.declared.output.OutDatagram.{OutDatagram}
-use Rattle.flights.specs.Flights.{Commands}
+use Rattle.call_agent.specs.Flights.{Commands}
 use Rattle.call_agent.specs.Flying.{passed, pass}
 use Rattle.call_agent.specs.State.{FlewOn, StillFound}
 use Rattle.call_agent.proofs.ticking.pass.Given as goal

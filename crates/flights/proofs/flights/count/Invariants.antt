@@ -1,9 +1,0 @@
-use Rattle.std.proofs.Common.{◌≡◌, ◌+◌, ◌≤◌, length, drop}
-use Rattle.flights.specs.Flights.{flights_in}
-use Rattle.flights.proofs.flights.count.Given as goal
-
-abbrev pub invariant-loop-place : goal.invariant-loop-place
-invariant-loop-place l = record {
-  value : l.count + length (flights_in (drop l.place-index l.places)) ≡ length (flights_in l.fn.places);
-  few : l.count ≤ l.place-index;
-}

@@ -1,3 +1,0 @@
-pub mod Growing
-pub mod Choosing
-pub mod Flights
