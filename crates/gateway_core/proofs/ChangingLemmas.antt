@@ -9,8 +9,8 @@ use Rattle.plain_machine.specs.Acting.{acted_on, acted}
 use Rattle.plain_machine.specs.Event.{GatewayEvent, datagram, phone, tick}
 use Rattle.plain_machine.specs.Happening.{effect}
 use Rattle.plain_machine.specs.Machine.{Endpoints, Machine, endpoint_at, turned_at, on_line}
-use Rattle.gateway_texts.specs.declared.state.State.{State}
-use Rattle.gateway_texts.specs.State.{Found, machine_in, found_in, PutsOut}
+use Rattle.gateway_core.specs.declared.state.State.{State}
+use Rattle.gateway_core.specs.State.{Found, machine_in, found_in, PutsOut}
 use Rattle.gateway_core.specs.Changing.{is_marked, Changes, IsAway, StaysFound}
 
 apart_from : {A : Type 0} (xs : List A) (k j : ℕ) (x : A) → j ≢ k → slice_get (slice_set xs k x) j ≡ slice_get xs j

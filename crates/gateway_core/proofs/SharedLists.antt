@@ -8,7 +8,7 @@ use Rattle.plain_machine.specs.Machine.{Machine, opening}
 use Rattle.plain_machine.specs.Lists.{plain, are_taken}
 use Rattle.gateway_core.specs.Alike.{Alike}
 use Rattle.gateway_core.specs.GatewayState.{GatewayState}
-use Rattle.gateway_texts.specs.Outcomes.{last_outcomes}
+use Rattle.gateway_core.specs.Outcomes.{last_outcomes}
 use Rattle.gateway_core.specs.Accounts.{last_account}
 use Rattle.gateway_core.specs.Stands.{Stands}
 

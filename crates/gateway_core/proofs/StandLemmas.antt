@@ -20,21 +20,21 @@ use Rattle.plain_machine.specs.Lists.{machine_after, outputs_from, plain, are_ta
 use Rattle.plain_machine.proofs.EndLaws.{ends_fine}
 use Rattle.plain_machine.proofs.EffectLaws.{effect_lines, effect_now}
 use Rattle.plain_machine.proofs.ListLaws.{machine_on, outputs_on, taken_on}
-use Rattle.gateway_texts.specs.declared.state.State.{State}
+use Rattle.gateway_core.specs.declared.state.State.{State}
 use Rattle.gateway_core.specs.Sound.{IsSound}
 use Rattle.transmission.specs.Memory.{most_firsts}
 use Rattle.transmission.specs.Kept.{young_firsts}
 use Rattle.transmission.proofs.RecallLaws.{recalls_itself}
 use Rattle.plain_machine.specs.Message.{Sent}
 use Rattle.gateway_core.proofs.AlikeLemmas.{effect_alike, refusal_alike, takes_alike, alike_purged, refusal_purged, outcomes_alike, account_alike}
-use Rattle.gateway_texts.specs.declared.outcome.TextOutcome.{TextOutcome}
-use Rattle.gateway_texts.specs.Outcomes.{outcomes_of, outcomes_after}
+use Rattle.gateway_core.specs.declared.outcome.TextOutcome.{TextOutcome}
+use Rattle.gateway_core.specs.Outcomes.{outcomes_of, outcomes_after}
 use Rattle.gateway_core.specs.declared.sent.SentMessage.{SentMessage}
 use Rattle.plain_machine.specs.declared.given_up.GivenUpCommand.{GivenUpCommand}
 use Rattle.gateway_core.specs.Labelling.{labels_of}
 use Rattle.plain_machine.specs.GivingUp.{given_up_with}
 use Rattle.gateway_core.specs.Accounts.{Account, no_account, account_of, account_after}
-use Rattle.gateway_texts.specs.State.{machine_in, purged_in, PutsOut, AllOr}
+use Rattle.gateway_core.specs.State.{machine_in, purged_in, PutsOut, AllOr}
 use Rattle.gateway_core.specs.Alike.{Alike, GoesOn}
 use Rattle.gateway_core.specs.GatewayState.{GatewayState}
 use Rattle.gateway_core.specs.Stands.{Stands, Took, before_place}

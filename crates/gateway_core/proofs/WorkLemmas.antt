@@ -33,12 +33,12 @@ use Rattle.transmission.specs.Packing.{packed}
 use Rattle.plain_machine.specs.Happening.{ticked, effect}
 use Rattle.plain_machine.specs.Refusing.{refusal_of, is_unheeded, takes_none, ends, Ends}
 use Rattle.plain_machine.proofs.FallingLaws.{pass_none}
-use Rattle.gateway_texts.specs.declared.state.State.{State}
+use Rattle.gateway_core.specs.declared.state.State.{State}
 use Rattle.endpoints.specs.StoreState.{StoreState, committed}
 use Rattle.gateway_core.specs.Sound.{IsSound}
 use Rattle.endpoints.specs.Tells.{Goes}
-use Rattle.gateway_texts.specs.State.{Found, machine_in, found_in, CanGoBack, Happened, purged_in, PutsOut}
-use Rattle.gateway_texts.proofs.StateLemmas.{back_still}
+use Rattle.gateway_core.specs.State.{Found, machine_in, found_in, CanGoBack, Happened, purged_in, PutsOut}
+use Rattle.gateway_core.proofs.StateLemmas.{back_still}
 
 -- What happened
 

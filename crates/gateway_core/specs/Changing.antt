@@ -2,8 +2,8 @@
 use Rattle.std.specs.Prelude.{◌≡◌, ◌≢◌, ◌-◌, ◌&&◌, ⊤, ℕ, Bool, true, false, List, slice_index_or}
 use Rattle.plain_machine.specs.Event.{GatewayEvent, datagram, phone, tick}
 use Rattle.plain_machine.specs.Machine.{Endpoints, endpoint_at}
-use Rattle.gateway_texts.specs.declared.state.State.{State}
-use Rattle.gateway_texts.specs.State.{found_in}
+use Rattle.gateway_core.specs.declared.state.State.{State}
+use Rattle.gateway_core.specs.State.{found_in}
 
 -- the mark of a line is set, or there is none
 abbrev pub is_marked : List Bool → ℕ → Bool

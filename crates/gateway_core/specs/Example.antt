@@ -3,10 +3,10 @@ use Rattle.std.specs.Prelude.{ℕ, List, [], map, Some}
 use Rattle.mgcp_text.specs.declared.message.Verb.TheVariants.{Auep}
 use Rattle.plain_machine.specs.Event.{GatewayEvent}
 use Rattle.plain_machine.specs.Example.{example, agent, machine_at}
-use Rattle.gateway_texts.specs.declared.outcome.Reply.{Reply}
-use Rattle.gateway_texts.specs.declared.outcome.TextOutcome.{TextOutcome}
-use Rattle.gateway_texts.specs.declared.outcome.TextOutcome.TheVariants.{Command}
-use Rattle.gateway_texts.specs.Outcomes.{outcomes_after}
+use Rattle.gateway_core.specs.declared.outcome.Reply.{Reply}
+use Rattle.gateway_core.specs.declared.outcome.TextOutcome.{TextOutcome}
+use Rattle.gateway_core.specs.declared.outcome.TextOutcome.TheVariants.{Command}
+use Rattle.gateway_core.specs.Outcomes.{outcomes_after}
 use Rattle.plain_machine.specs.declared.label.Whose.{Whose}
 use Rattle.plain_machine.specs.declared.label.Whose.TheVariants.{Nobody}
 use Rattle.plain_machine.specs.declared.label.What.{What}

@@ -4,11 +4,11 @@ ghost use Rattle.plain_machine.specs.Acting.{acted};
 ghost use Rattle.std.specs.Result.{result_err};
 ghost use Rattle.plain_machine.specs.Refusing.{act_refusal, is_unheeded, ends};
 ghost use Rattle.endpoints.specs.Telling.{MayTell};
-ghost use Rattle.gateway_texts.specs.State.{machine_in, Happens};
+ghost use Rattle.gateway_core.specs.State.{machine_in, Happens};
 
 use endpoints::{Context, Occasion, acted_on};
 use gateway_rules::act_refusal;
-use gateway_texts::State;
+use crate::state::State;
 use mg_line::Act;
 use plain_machine::{OutMessage, Refusal};
 

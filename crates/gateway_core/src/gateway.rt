@@ -5,7 +5,7 @@ ghost use Rattle.plain_machine.specs.Setup.{setup_from, setup_of};
 ghost use Rattle.small_rules.specs.Numbering.{firsts};
 ghost use Rattle.plain_machine.specs.Machine.{serves};
 ghost use Rattle.plain_machine.specs.Event.{GatewayEvent, event_of};
-ghost use Rattle.gateway_texts.specs.State.{machine_in};
+ghost use Rattle.gateway_core.specs.State.{machine_in};
 
 use crate::account::{Account, give_way};
 use crate::changing::{is_marked, no_marks};
@@ -15,7 +15,9 @@ use crate::working::step_state;
 use arrayvec::ArrayVec;
 use connections::Connection;
 use endpoints::{Context, judged};
-use gateway_texts::{Outcomes, State, TextOutcome, opening_state};
+use crate::outcome::TextOutcome;
+use crate::outcomes::Outcomes;
+use crate::state::{State, opening_state};
 use transmission::MOST_FIRSTS;
 use mg_line::Hook;
 use plain_machine::{Config, ConfigFault, Event, GivenUpCommand, Outputs, Refusal, Setup};
@@ -67,7 +69,7 @@ impl Drop for Gateway {
 impl Model for Gateway {
     ghost use Rattle.gateway_core.specs.AccountState.{account_in};
     ghost use Rattle.gateway_core.specs.GatewayState.{GatewayState};
-    ghost use Rattle.gateway_texts.specs.State.{machine_in};
+    ghost use Rattle.gateway_core.specs.State.{machine_in};
     ghost use Rattle.gateway_core.specs.Sound.{IsSound};
 
     ghost Value = { GatewayState };
@@ -88,7 +90,7 @@ impl Gateway {
     ghost use Rattle.plain_machine.specs.Refusing.{Ends};
     ghost use Rattle.plain_machine.specs.Falling.{first_due};
     ghost use Rattle.plain_machine.specs.Lists.{plain, hook_of, signals_of, connections_of, lost_of};
-    ghost use Rattle.gateway_texts.specs.Outcomes.{last_outcomes};
+    ghost use Rattle.gateway_core.specs.Outcomes.{last_outcomes};
     ghost use Rattle.gateway_core.specs.Accounts.{last_account};
     ghost use Rattle.gateway_core.specs.Changing.{is_marked, Changes};
     ghost use Rattle.gateway_core.specs.Remembering.{remembered};

@@ -7,11 +7,11 @@ ghost use Rattle.std.specs.Result.{result_err};
 ghost use Rattle.plain_machine.specs.Refusing.{ends};
 ghost use Rattle.gateway_rules.specs.Refusing.{tick_refusal};
 ghost use Rattle.endpoints.specs.Telling.{MayTell};
-ghost use Rattle.gateway_texts.specs.State.{machine_in, found_in, Happens};
+ghost use Rattle.gateway_core.specs.State.{machine_in, found_in, Happens};
 
 use endpoints::{Context, is_due, pass};
 use gateway_rules::tick_refusal;
-use gateway_texts::State;
+use crate::state::State;
 use plain_machine::{GivenUpCommand, OutMessage, Refusal};
 
 /// A tick to a moment: what is sent; and what is given up is noted behind what was given up before. One up to which nothing is

@@ -8,8 +8,8 @@ ghost use Rattle.std.specs.Result.{result_err};
 ghost use Rattle.plain_machine.specs.Refusing.{Ends};
 ghost use Rattle.gateway_core.specs.Sound.{IsSound};
 ghost use Rattle.gateway_core.specs.Alike.{Alike, GoesOn};
-ghost use Rattle.gateway_texts.specs.State.{machine_in, found_in, purged_in, Happens, PutsOut, AllOr};
-ghost use Rattle.gateway_texts.specs.Outcomes.{outcomes_of};
+ghost use Rattle.gateway_core.specs.State.{machine_in, found_in, purged_in, Happens, PutsOut, AllOr};
+ghost use Rattle.gateway_core.specs.Outcomes.{outcomes_of};
 ghost use Rattle.gateway_core.specs.Accounts.{account_of};
 ghost use Rattle.gateway_core.specs.AccountState.{account_in};
 ghost use Rattle.gateway_core.specs.Changing.{Changes, StaysFound};
@@ -20,12 +20,14 @@ use crate::changing::mark;
 use crate::parting::part;
 use crate::ticking::tick;
 use endpoints::Context;
-use gateway_texts::{Outcomes, State, take_datagram};
+use crate::answering::take_datagram;
+use crate::outcomes::Outcomes;
+use crate::state::State;
 use plain_machine::{Event, GivenUpCommand, OutMessage, Outputs, Refusal};
 use transmission::packed;
 
 // An event happens, or is refused: what is to be sent, what its texts were, and what was given up.
-#[tactic(auto, unfolding(plain_machine::specs::Happening::effect, plain_machine::specs::Refusing::refusal_of, plain_machine::specs::GivingUp::given_up_with, gateway_texts::specs::Outcomes::outcomes_of))]
+#[tactic(auto, unfolding(plain_machine::specs::Happening::effect, plain_machine::specs::Refusing::refusal_of, plain_machine::specs::GivingUp::given_up_with, crate::specs::Outcomes::outcomes_of))]
 fn happen(
     context: Context<'_>,
     state: &mut State,

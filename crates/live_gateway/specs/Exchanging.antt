@@ -14,7 +14,7 @@ use Rattle.message_counts.specs.Tallying.{with_handed_out, CountsNoDatagram}
 use Rattle.message_counts.specs.Waiting.{unanswered_after}
 use Rattle.message_counts.specs.declared.reporting.Faults.{Faults}
 use Rattle.page_board.specs.declared.ring.Kind.TheVariants.{Sent as OfSent}
-use Rattle.gateway_texts.specs.declared.outcome.TextOutcome.{TextOutcome}
+use Rattle.gateway_core.specs.declared.outcome.TextOutcome.{TextOutcome}
 use Rattle.plain_machine.specs.Event.{GatewayEvent, datagram}
 use Rattle.gateway_core.specs.declared.sent.SentMessage.{SentMessage}
 use Rattle.told_messages.specs.Labelling.{sent_label}

@@ -7,7 +7,7 @@ use Rattle.plain_machine.specs.Happening.{effect}
 use Rattle.plain_machine.specs.Machine.{opening}
 use Rattle.gateway_core.specs.Accounts.{account_of, no_account}
 use Rattle.gateway_core.specs.GatewayState.{GatewayState}
-use Rattle.gateway_texts.specs.Outcomes.{outcomes_of}
+use Rattle.gateway_core.specs.Outcomes.{outcomes_of}
 use Rattle.surroundings.specs.Sending.{Received}
 use Rattle.call_routing.specs.declared.told.Told.TheVariants.{OffHook, OnHook}
 use Rattle.call_routing.specs.Exchange.{ExchangeState}

@@ -6,11 +6,11 @@ use Rattle.plain_machine.specs.declared.setup.Setup.{Setup}
 use Rattle.plain_machine.specs.Event.{GatewayEvent}
 use Rattle.plain_machine.specs.Machine.{Machine}
 use Rattle.plain_machine.specs.Happening.{effect}
-use Rattle.gateway_texts.specs.declared.outcome.Reply.{Reply}
-use Rattle.gateway_texts.specs.declared.outcome.Reply.TheVariants.{First, Again, Silence, NoRoom}
-use Rattle.gateway_texts.specs.declared.outcome.TextOutcome.{TextOutcome}
-use Rattle.gateway_texts.specs.declared.outcome.TextOutcome.TheVariants.{NoMessage, Command, Response}
-use Rattle.gateway_texts.specs.Outcomes.{outcomes_of}
+use Rattle.gateway_core.specs.declared.outcome.Reply.{Reply}
+use Rattle.gateway_core.specs.declared.outcome.Reply.TheVariants.{First, Again, Silence, NoRoom}
+use Rattle.gateway_core.specs.declared.outcome.TextOutcome.{TextOutcome}
+use Rattle.gateway_core.specs.declared.outcome.TextOutcome.TheVariants.{NoMessage, Command, Response}
+use Rattle.gateway_core.specs.Outcomes.{outcomes_of}
 use Rattle.gateway_core.specs.Wire.{counted}
 use Rattle.message_counts.specs.SentCounting.{one_more_at, place_of}
 use Rattle.message_counts.specs.declared.text_counts.TextCounts.{TextCounts}

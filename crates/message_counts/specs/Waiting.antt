@@ -1,8 +1,8 @@
 -- Since when the agent owes an answer.
 use Rattle.std.specs.Prelude.{ℕ, Bool, true, false, if◌then◌else◌, List, [], ◌∷◌, find, Option, Some, None, option_map}
 use Rattle.std.specs.List.{list_any}
-use Rattle.gateway_texts.specs.declared.outcome.TextOutcome.{TextOutcome}
-use Rattle.gateway_texts.specs.Outcomes.{outcomes_of}
+use Rattle.gateway_core.specs.declared.outcome.TextOutcome.{TextOutcome}
+use Rattle.gateway_core.specs.Outcomes.{outcomes_of}
 use Rattle.gateway_core.specs.declared.sent.SentMessage.{SentMessage}
 use Rattle.plain_machine.specs.declared.label.What.{What}
 use Rattle.plain_machine.specs.declared.label.What.TheVariants as whats

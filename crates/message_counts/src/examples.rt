@@ -3,8 +3,8 @@
 
 ghost use Rattle.std.specs.Prelude.{◌≡◌, false, true, [], ◌∷◌, Some, None, replicate};
 ghost use Rattle.mgcp_text.specs.declared.message.Verb.TheVariants.{Rqnt, Ntfy};
-ghost use Rattle.gateway_texts.specs.declared.outcome.Reply.TheVariants.{Silence};
-ghost use Rattle.gateway_texts.specs.declared.outcome.TextOutcome.TheVariants.{NoMessage, Command, Response};
+ghost use Rattle.gateway_core.specs.declared.outcome.Reply.TheVariants.{Silence};
+ghost use Rattle.gateway_core.specs.declared.outcome.TextOutcome.TheVariants.{NoMessage, Command, Response};
 ghost use Rattle.plain_machine.specs.declared.label.What.TheVariants as whats;
 ghost use Rattle.message_counts.specs.Example.{host, said};
 ghost use Rattle.endpoint_names.specs.declared.route.Route.TheVariants.{One, Two};

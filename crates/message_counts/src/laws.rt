@@ -3,7 +3,7 @@ ghost use Rattle.std.specs.Prelude.{◌≡◌, ◌<◌, ℕ, List, length, slice
 ghost use Rattle.plain_machine.specs.declared.setup.Setup.{Setup};
 ghost use Rattle.plain_machine.specs.Event.{GatewayEvent};
 ghost use Rattle.plain_machine.specs.Machine.{Machine};
-ghost use Rattle.gateway_texts.specs.declared.outcome.TextOutcome.{TextOutcome};
+ghost use Rattle.gateway_core.specs.declared.outcome.TextOutcome.{TextOutcome};
 ghost use Rattle.small_rules.specs.Counting.{counted};
 ghost use Rattle.message_counts.specs.Counting.{Counts, with_texts, counts_after, outcomes_from, is_command_at, is_response, is_other, is_lost};
 

@@ -4,10 +4,10 @@ use Rattle.mgcp_text.specs.declared.message.Verb.{Verb}
 use Rattle.command_forms.specs.declared.refused.FaultyPart.{FaultyPart}
 use Rattle.command_forms.specs.declared.refused.FaultyPart.TheVariants as parts
 use Rattle.plain_machine.specs.declared.given_up.GivenUpCommand.{GivenUpCommand}
-use Rattle.gateway_texts.specs.declared.outcome.Reply.{Reply}
-use Rattle.gateway_texts.specs.declared.outcome.Reply.TheVariants.{First, Again, Silence, NoRoom}
-use Rattle.gateway_texts.specs.declared.outcome.TextOutcome.{TextOutcome}
-use Rattle.gateway_texts.specs.declared.outcome.TextOutcome.TheVariants.{NoMessage, Command, Response}
+use Rattle.gateway_core.specs.declared.outcome.Reply.{Reply}
+use Rattle.gateway_core.specs.declared.outcome.Reply.TheVariants.{First, Again, Silence, NoRoom}
+use Rattle.gateway_core.specs.declared.outcome.TextOutcome.{TextOutcome}
+use Rattle.gateway_core.specs.declared.outcome.TextOutcome.TheVariants.{NoMessage, Command, Response}
 use Rattle.rgw_c.specs.declared.instance.Instance.{Instance}
 use Rattle.rgw_c.specs.declared.structs.OutcomeTold.{OutcomeTold}
 use Rattle.rgw_c.specs.declared.structs.GivenUpTold.{GivenUpTold}

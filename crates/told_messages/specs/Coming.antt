@@ -9,8 +9,8 @@ use Rattle.exchange_log.specs.declared.note.Note.TheVariants as notes
 use Rattle.exchange_log.specs.declared.stamp.Stamp.{Stamp}
 use Rattle.exchange_log.specs.declared.stamp.Way.TheVariants as ways
 use Rattle.exchange_log.specs.Lines.{message_line, note_line, given_up_line}
-use Rattle.gateway_texts.specs.declared.outcome.TextOutcome.{TextOutcome}
-use Rattle.gateway_texts.specs.declared.outcome.TextOutcome.TheVariants.{NoMessage, Command, Response}
+use Rattle.gateway_core.specs.declared.outcome.TextOutcome.{TextOutcome}
+use Rattle.gateway_core.specs.declared.outcome.TextOutcome.TheVariants.{NoMessage, Command, Response}
 use Rattle.mgcp_text.specs.Parts.{parts_of}
 use Rattle.plain_machine.specs.declared.given_up.GivenUpCommand.{GivenUpCommand}
 use Rattle.plain_machine.specs.Posting.{line_of_id}

@@ -6,10 +6,10 @@ use Rattle.exchange_log.specs.declared.note.Note.TheVariants as notes
 use Rattle.exchange_log.specs.declared.stamp.Stamp.{Stamp}
 use Rattle.exchange_log.specs.Lines.{note_line, refused_line}
 use Rattle.transmission.specs.Memory.{most_firsts}
-use Rattle.gateway_texts.specs.declared.outcome.Reply.{Reply}
-use Rattle.gateway_texts.specs.declared.outcome.Reply.TheVariants.{First, Again, Silence, NoRoom}
-use Rattle.gateway_texts.specs.declared.outcome.TextOutcome.{TextOutcome}
-use Rattle.gateway_texts.specs.declared.outcome.TextOutcome.TheVariants.{NoMessage, Command, Response}
+use Rattle.gateway_core.specs.declared.outcome.Reply.{Reply}
+use Rattle.gateway_core.specs.declared.outcome.Reply.TheVariants.{First, Again, Silence, NoRoom}
+use Rattle.gateway_core.specs.declared.outcome.TextOutcome.{TextOutcome}
+use Rattle.gateway_core.specs.declared.outcome.TextOutcome.TheVariants.{NoMessage, Command, Response}
 
 -- the least return code that refuses a command (RFC 3435, 2.4)
 abbrev pub least_refusal : ℕ

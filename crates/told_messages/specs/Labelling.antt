@@ -1,9 +1,9 @@
 -- What the page is told of messages: of the texts that came, of what is sent, and of what is given up.
 use Rattle.std.specs.Prelude.{ℕ, Option, Some, None}
-use Rattle.gateway_texts.specs.declared.outcome.Reply.{Reply}
-use Rattle.gateway_texts.specs.declared.outcome.Reply.TheVariants as replies
-use Rattle.gateway_texts.specs.declared.outcome.TextOutcome.{TextOutcome}
-use Rattle.gateway_texts.specs.declared.outcome.TextOutcome.TheVariants as texts
+use Rattle.gateway_core.specs.declared.outcome.Reply.{Reply}
+use Rattle.gateway_core.specs.declared.outcome.Reply.TheVariants as replies
+use Rattle.gateway_core.specs.declared.outcome.TextOutcome.{TextOutcome}
+use Rattle.gateway_core.specs.declared.outcome.TextOutcome.TheVariants as texts
 use Rattle.page_board.specs.declared.label.MessageKind.{MessageKind}
 use Rattle.page_board.specs.declared.label.MessageKind.TheVariants as kinds
 use Rattle.page_board.specs.declared.label.MessageLabel.{MessageLabel}

@@ -2,7 +2,7 @@
 use Rattle.std.specs.Prelude.{◌≡◌, ◌⊎◌, ℕ, List, [], ◌∷◌, map, Option, Some, None}
 use Rattle.std.specs.Global.{Box}
 use Rattle.std.specs.declared.net.socket_addr.SocketAddrV4.{SocketAddrV4}
-use Rattle.gateway_texts.specs.declared.outcome.TextOutcome.{TextOutcome}
+use Rattle.gateway_core.specs.declared.outcome.TextOutcome.{TextOutcome}
 use Rattle.page_board.specs.declared.label.MessageLabel.{MessageLabel}
 use Rattle.page_board.specs.declared.ring.Kind.{Kind}
 use Rattle.page_board.specs.declared.ring.Kind.TheVariants.{GivenUp}

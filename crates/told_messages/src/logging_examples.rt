@@ -7,9 +7,9 @@ ghost use Rattle.mgcp_text.specs.declared.message.Verb.TheVariants.{Rqnt, Ntfy, 
 ghost use Rattle.exchange_log.specs.declared.note.Note.TheVariants as notes;
 ghost use Rattle.exchange_log.specs.declared.stamp.Way.TheVariants as ways;
 ghost use Rattle.exchange_log.specs.Lines.{message_line, note_line, given_up_line};
-ghost use Rattle.gateway_texts.specs.declared.outcome.Reply.TheVariants.{Silence};
-ghost use Rattle.gateway_texts.specs.declared.outcome.TextOutcome.{TextOutcome};
-ghost use Rattle.gateway_texts.specs.declared.outcome.TextOutcome.TheVariants.{NoMessage, Command, Response};
+ghost use Rattle.gateway_core.specs.declared.outcome.Reply.TheVariants.{Silence};
+ghost use Rattle.gateway_core.specs.declared.outcome.TextOutcome.{TextOutcome};
+ghost use Rattle.gateway_core.specs.declared.outcome.TextOutcome.TheVariants.{NoMessage, Command, Response};
 ghost use Rattle.gateway_core.specs.declared.sent.SentMessage.{SentMessage};
 ghost use Rattle.plain_machine.specs.declared.label.What.TheVariants as whats;
 ghost use Rattle.plain_machine.specs.declared.label.Whose.TheVariants.{AnswerOf, OwnOf, Nobody};

@@ -9,8 +9,8 @@ ghost use Rattle.exchange_log.specs.declared.note.Note.TheVariants.{Refused, Una
 ghost use Rattle.exchange_log.specs.declared.note.Note.TheVariants as notes;
 ghost use Rattle.exchange_log.specs.declared.stamp.Stamp.{Stamp};
 ghost use Rattle.exchange_log.specs.Lines.{note_line, refused_line};
-ghost use Rattle.gateway_texts.specs.declared.outcome.Reply.TheVariants.{First, Again, Silence, NoRoom};
-ghost use Rattle.gateway_texts.specs.declared.outcome.TextOutcome.TheVariants.{NoMessage, Command, Response};
+ghost use Rattle.gateway_core.specs.declared.outcome.Reply.TheVariants.{First, Again, Silence, NoRoom};
+ghost use Rattle.gateway_core.specs.declared.outcome.TextOutcome.TheVariants.{NoMessage, Command, Response};
 ghost use Rattle.plain_machine.specs.declared.label.What.TheVariants as whats;
 ghost use Rattle.surroundings.specs.Speaking.{nobody, with_host};
 ghost use Rattle.message_counts.specs.Example.{host, said};

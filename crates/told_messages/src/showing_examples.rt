@@ -3,7 +3,7 @@
 
 ghost use Rattle.std.specs.Prelude.{◌≡◌, codes, Option, None, Some, [], ◌∷◌};
 ghost use Rattle.std.specs.Global.{Box};
-ghost use Rattle.gateway_texts.specs.declared.outcome.TextOutcome.TheVariants.{NoMessage};
+ghost use Rattle.gateway_core.specs.declared.outcome.TextOutcome.TheVariants.{NoMessage};
 ghost use Rattle.page_board.specs.declared.ring.Kind.TheVariants.{Sent};
 ghost use Rattle.gateway_metrics.specs.Sums.{next_number};
 ghost use Rattle.page_board.specs.Showing.{BoardState};

@@ -1,7 +1,7 @@
 use Rattle.std.proofs.Common.{◌≡◌, [], refl}
 use Rattle.plain_machine.specs.declared.setup.Setup.{Setup}
 use Rattle.plain_machine.specs.Machine.{opening}
-use Rattle.gateway_texts.specs.Outcomes.{outcomes_after, last_outcomes}
+use Rattle.gateway_core.specs.Outcomes.{outcomes_after, last_outcomes}
 use Rattle.gateway_core.proofs.StandLemmas.{outcomes_on}
 use Rattle.gateway_core.proofs.laws.the_last_event_is_told_of.Goals as goal
 

@@ -1,4 +1,4 @@
-use Rattle.gateway_texts.proofs.TextLemmas.{refused_told, done_told, lost_told}
+use Rattle.gateway_core.proofs.TextLemmas.{refused_told, done_told, lost_told}
 use Rattle.gateway_core.proofs.laws.why_a_command_is_refused_or_lost_is_told.Goals as goal
 
 pub returns-clause-refused : goal.returns-clause-refused

@@ -2,8 +2,8 @@ use Rattle.std.proofs.Common.{◌≡◌, true, refl, sym, ap, ◌∙◌}
 use Rattle.endpoints.specs.StoreState.{StoreState}
 use Rattle.plain_machine.specs.Event.{event_of}
 use Rattle.plain_machine.specs.Machine.{Machine}
-use Rattle.gateway_texts.specs.declared.state.State.{State}
-use Rattle.gateway_texts.specs.State.{machine_in}
+use Rattle.gateway_core.specs.declared.state.State.{State}
+use Rattle.gateway_core.specs.State.{machine_in}
 use Rattle.gateway_core.specs.Changing.{Changes}
 use Rattle.gateway_core.proofs.AlikeLemmas.{ends_purged}
 use Rattle.gateway_core.proofs.ChangingLemmas.{changes_marked, changes_none}

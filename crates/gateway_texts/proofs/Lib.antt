@@ -1,3 +1,0 @@
-pub mod TextLemmas
-pub mod StateLemmas
-pub mod DeedLemmas

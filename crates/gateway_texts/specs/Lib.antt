@@ -1,3 +1,0 @@
-pub mod Outcomes
-pub mod State
-pub mod Hearing
