@@ -1,7 +1,7 @@
 -- The refusals of a world's steps, with their numbers and names.
 use Rattle.std.specs.Prelude.{ℕ, List, codes}
-use Rattle.gateway_rules.specs.declared.refusal.Refusal.{Refusal}
-use Rattle.gateway_rules.specs.declared.refusal.Refusal.TheVariants as refusals
+use Rattle.machine_rules.specs.declared.refusal.Refusal.{Refusal}
+use Rattle.machine_rules.specs.declared.refusal.Refusal.TheVariants as refusals
 use Rattle.call_agent.specs.declared.issuing.IssueFault.{IssueFault}
 use Rattle.call_agent.specs.declared.issuing.IssueFault.TheVariants as faults
 use Rattle.agent_core.specs.declared.step.StepRefusal.{StepRefusal}

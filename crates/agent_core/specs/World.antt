@@ -8,7 +8,7 @@ use Rattle.endpoint_names.specs.Route.{addresses, at}
 use Rattle.mg_line.specs.declared.phone.Act.{Act}
 use Rattle.plain_machine.specs.declared.setup.Setup.{Setup}
 use Rattle.transmission.specs.declared.output.OutDatagram.{OutDatagram}
-use Rattle.gateway_rules.specs.declared.refusal.Refusal.{Refusal}
+use Rattle.machine_rules.specs.declared.refusal.Refusal.{Refusal}
 use Rattle.plain_machine.specs.Event.{GatewayEvent, datagram, phone, tick}
 use Rattle.plain_machine.specs.Machine.{Machine}
 use Rattle.transmission.specs.Packing.{packed, same_address}

@@ -1,6 +1,6 @@
 -- What a piece of work does to a world.
 use Rattle.std.specs.Prelude.{◌≡◌, ◌⊎◌, ℕ, slice_get, Option, Some, None, IfSome}
-use Rattle.gateway_rules.specs.declared.refusal.Refusal.{Refusal}
+use Rattle.machine_rules.specs.declared.refusal.Refusal.{Refusal}
 use Rattle.agent_core.specs.declared.step.StepRefusal.{StepRefusal}
 use Rattle.agent_core.specs.declared.step.StepRefusal.TheVariants.{OutOfMemory, NoMoreIds, BadCommand}
 use Rattle.call_agent.specs.Issuing.{IssueRefusal, no_more_ids, bad_command}

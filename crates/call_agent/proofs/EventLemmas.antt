@@ -3,7 +3,7 @@ use Rattle.std.proofs.Common.{◌≡◌, ℕ, ◌+◌, ◌^◌, ◌≤◌, Bool,
 use Rattle.std.specs.Prelude.{nat_lt, nat_le}
 use Rattle.std.proofs.lemmas.Bool.{ltb-false}
 use Rattle.std.proofs.lemmas.Option.{none-some}
-use Rattle.gateway_rules.specs.declared.refusal.Refusal.TheVariants.{ClockBack, TickTooFar}
+use Rattle.machine_rules.specs.declared.refusal.Refusal.TheVariants.{ClockBack, TickTooFar}
 use Rattle.plain_machine.specs.Refusing.{tick_refusal}
 use Rattle.plain_machine.specs.Arriving.{clock_after}
 use Rattle.plain_machine.specs.Event.{datagram, phone, tick}

@@ -8,8 +8,8 @@ use Rattle.endpoint_names.specs.declared.route.Route.TheVariants.{One}
 use Rattle.retransmission.specs.Flight.{InFlight, sent_first}
 use Rattle.call_agent.specs.Flights.{Commands, begun, settled}
 use Rattle.transmission.proofs.RecallLaws.{recalls_itself, recalls_purged}
-use Rattle.gateway_rules.specs.declared.refusal.Refusal.{Refusal}
-use Rattle.gateway_rules.specs.declared.refusal.Refusal.TheVariants.{TickTooFar, ClockBack}
+use Rattle.machine_rules.specs.declared.refusal.Refusal.{Refusal}
+use Rattle.machine_rules.specs.declared.refusal.Refusal.TheVariants.{TickTooFar, ClockBack}
 use Rattle.plain_machine.specs.Event.{GatewayEvent, datagram, phone, tick}
 use Rattle.plain_machine.specs.Refusing.{tick_refusal, ends}
 use Rattle.transmission.specs.declared.output.OutDatagram.{OutDatagram}

@@ -1,8 +1,8 @@
 -- What goes out with an event, and how it ends.
 use Rattle.std.proofs.Common.{◌≡◌, Bool, true, false, ◌==◌, List, [], length, Option, Some, None, refl, sym, ◌∙◌, ap}
 use Rattle.std.specs.Prelude.{is_none}
-use Rattle.gateway_rules.specs.declared.refusal.Refusal.{Refusal}
-use Rattle.gateway_rules.specs.declared.refusal.Refusal.TheVariants.{OutOfMemory}
+use Rattle.machine_rules.specs.declared.refusal.Refusal.{Refusal}
+use Rattle.machine_rules.specs.declared.refusal.Refusal.TheVariants.{OutOfMemory}
 use Rattle.plain_machine.specs.Event.{GatewayEvent, datagram, phone, tick}
 use Rattle.plain_machine.specs.Refusing.{ends}
 use Rattle.transmission.specs.declared.output.OutDatagram.{OutDatagram}

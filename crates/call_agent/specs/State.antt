@@ -8,7 +8,7 @@ use Rattle.transmission.specs.Kept.{from_young}
 use Rattle.retransmission.specs.Flight.{InFlight}
 use Rattle.transmission.specs.declared.output.OutDatagram.{OutDatagram}
 use Rattle.transmission.specs.Packing.{packed}
-use Rattle.gateway_rules.specs.declared.refusal.Refusal.{Refusal}
+use Rattle.machine_rules.specs.declared.refusal.Refusal.{Refusal}
 use Rattle.retransmission.specs.declared.issued.Answer.{Answer}
 use Rattle.retransmission.specs.declared.issued.Answered.{Answered}
 use Rattle.call_agent.specs.declared.state.State.{State}

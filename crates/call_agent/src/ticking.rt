@@ -3,14 +3,14 @@ ghost use Rattle.std.specs.Prelude.{◌<◌, ◌^◌, is_none};
 ghost use Rattle.std.specs.Result.{result_err};
 ghost use Rattle.retransmission.specs.Flight.{repeat_of};
 ghost use Rattle.plain_machine.specs.Refusing.{ends};
-ghost use Rattle.gateway_rules.specs.Refusing.{tick_refusal};
+ghost use Rattle.machine_rules.specs.Refusing.{tick_refusal};
 ghost use Rattle.call_agent.specs.Choosing.{first_flight, if_due};
 ghost use Rattle.call_agent.specs.Flying.{flown_on, pass, ticked};
 ghost use Rattle.call_agent.specs.State.{kept_in, Flies, Happens};
 
 use crate::state::{Context, State};
 use crate::flights::Flights;
-use gateway_rules::tick_refusal;
+use machine_rules::tick_refusal;
 use mg_bytes::{OutOfMemory, Text};
 use retransmission::{Pending, Repeat};
 use plain_machine::{OutDatagram, Refusal};

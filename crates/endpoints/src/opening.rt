@@ -2,13 +2,13 @@
 ghost use Rattle.std.specs.Prelude.{◌≡◌, ◌≤◌, ◌<◌, ◌+◌, ◌^◌, [], map, IfOk};
 ghost use Rattle.std.specs.List.{range_with_len};
 ghost use Rattle.plain_machine.specs.Setup.{table_from, is_wait, is_media_base, is_address, parts_of, setup_from, key_at_fault, IsSetUp, highest_media_base};
-ghost use Rattle.gateway_rules.specs.Lines.{most_lines};
+ghost use Rattle.machine_rules.specs.Lines.{most_lines};
 ghost use Rattle.plain_machine.specs.Machine.{port_of, opening_post, opening_endpoint, opening_own};
 ghost use Rattle.endpoints.specs.Ids.{HasId};
 
 use connections::{Connections, Encoding};
 use endpoint_names::{Entity, Names, Table, is_domain, read_entity};
-use gateway_rules::are_lines;
+use machine_rules::are_lines;
 use mg_bytes::{OutOfMemory, octets_of};
 use mg_line::Line;
 use plain_machine::{

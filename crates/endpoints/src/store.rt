@@ -9,7 +9,7 @@ ghost use Rattle.plain_machine.specs.Effect.{silently};
 ghost use Rattle.plain_machine.specs.Falling.{first_due, due_by};
 ghost use Rattle.endpoints.specs.Ids.{HasId};
 ghost use Rattle.endpoints.specs.Saving.{endpoints_of, IsMarked, IsSavedToo, HasRoom};
-ghost use Rattle.gateway_rules.specs.Lines.{most_lines};
+ghost use Rattle.machine_rules.specs.Lines.{most_lines};
 
 use crate::rules::same_post;
 use crate::saves::{Saved, Saves};

@@ -8,7 +8,7 @@ ghost use Rattle.mg_line.specs.Acting.{is_heeded};
 ghost use Rattle.plain_machine.specs.Effect.{silently};
 ghost use Rattle.plain_machine.specs.Acting.{acted_on};
 ghost use Rattle.plain_machine.specs.Falling.{first_due, due_by};
-ghost use Rattle.gateway_rules.specs.Lines.{most_lines};
+ghost use Rattle.machine_rules.specs.Lines.{most_lines};
 ghost use Rattle.endpoints.specs.Ids.{HasId};
 ghost use Rattle.endpoints.specs.Changing.{EndpointChanges, OwnChanges, KeepsId};
 ghost use Rattle.endpoints.specs.Saving.{endpoints_of};
@@ -16,7 +16,7 @@ ghost use Rattle.endpoints.specs.DueTable.{InStep};
 
 use crate::due_table::{enter, renew};
 use crate::rules::{due_on, post_due};
-use gateway_rules::due_by;
+use machine_rules::due_by;
 use mg_bytes::OutOfMemory;
 use mg_line::Act;
 use plain_machine::{Endpoint, Post};
@@ -37,7 +37,7 @@ pub(crate) struct Timed {
 impl Model for Timed {
     ghost use Rattle.std.specs.Prelude.{◌≤◌, length};
     ghost use Rattle.plain_machine.specs.Machine.{Endpoints};
-    ghost use Rattle.gateway_rules.specs.Lines.{most_lines};
+    ghost use Rattle.machine_rules.specs.Lines.{most_lines};
     ghost use Rattle.endpoints.specs.Ids.{HasId};
     ghost use Rattle.endpoints.specs.Saving.{endpoints_of};
     ghost use Rattle.endpoints.specs.DueTable.{InStep};

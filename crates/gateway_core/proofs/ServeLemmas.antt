@@ -8,10 +8,10 @@ use Rattle.std.proofs.lemmas.Grind.{flat_map-append}
 use Rattle.transmission.specs.declared.output.OutDatagram.{OutDatagram}
 use Rattle.plain_machine.specs.declared.setup.Setup.{Setup}
 use Rattle.plain_machine.specs.Event.{GatewayEvent}
-use Rattle.gateway_rules.specs.Turning.{is_last}
+use Rattle.machine_rules.specs.Turning.{is_last}
 use Rattle.gateway_core.specs.declared.served.Served.{Served}
-use Rattle.gateway_rules.specs.declared.turning.TurnEnd.{TurnEnd}
-use Rattle.gateway_rules.specs.declared.turning.TurnEnd.TheVariants as ends
+use Rattle.machine_rules.specs.declared.turning.TurnEnd.{TurnEnd}
+use Rattle.machine_rules.specs.declared.turning.TurnEnd.TheVariants as ends
 use Rattle.gateway_core.specs.GatewayState.{GatewayState}
 use Rattle.gateway_core.specs.Stands.{Took}
 use Rattle.gateway_core.specs.Wire.{Grows, counted, WireLog, Carries, end, takes, gives}

@@ -6,7 +6,7 @@ use Rattle.transmission.specs.declared.entry.Entry.{Entry}
 use Rattle.transmission.specs.Kept.{from_young}
 use Rattle.transmission.specs.declared.output.OutDatagram.{OutDatagram}
 use Rattle.plain_machine.specs.declared.label.OutMessage.{OutMessage}
-use Rattle.gateway_rules.specs.declared.refusal.Refusal.{Refusal}
+use Rattle.machine_rules.specs.declared.refusal.Refusal.{Refusal}
 use Rattle.plain_machine.specs.Effect.{Effect}
 use Rattle.plain_machine.specs.Labelling.{messages_of}
 use Rattle.plain_machine.specs.Packing.{put_out}

@@ -1,11 +1,11 @@
 -- One turn of a gateway that is served, as its code tells of it.
 use Rattle.std.specs.Prelude.{◌≡◌, ℕ, true, cond, List, [], ◌∷◌, map}
 use Rattle.transmission.specs.declared.output.OutDatagram.{OutDatagram}
-use Rattle.gateway_rules.specs.declared.refusal.Refusal.{Refusal}
+use Rattle.machine_rules.specs.declared.refusal.Refusal.{Refusal}
 use Rattle.plain_machine.specs.Event.{GatewayEvent}
 use Rattle.gateway_core.specs.declared.served.Served.{Served}
-use Rattle.gateway_rules.specs.declared.turning.TurnEnd.{TurnEnd}
-use Rattle.gateway_rules.specs.declared.turning.TurnEnd.TheVariants as ends
+use Rattle.machine_rules.specs.declared.turning.TurnEnd.{TurnEnd}
+use Rattle.machine_rules.specs.declared.turning.TurnEnd.TheVariants as ends
 use Rattle.gateway_core.specs.GatewayState.{GatewayState}
 use Rattle.gateway_core.specs.Stands.{Stands, Took}
 use Rattle.gateway_core.specs.Wire.{WireLog, Traffic, Carries, end, counted, gives}

@@ -7,7 +7,7 @@ ghost use Rattle.endpoints.specs.Telling.{MayTell};
 ghost use Rattle.gateway_core.specs.State.{machine_in, Happens};
 
 use endpoints::{Context, Occasion, acted_on};
-use gateway_rules::act_refusal;
+use machine_rules::act_refusal;
 use crate::state::State;
 use mg_line::Act;
 use plain_machine::{OutMessage, Refusal};

@@ -8,7 +8,7 @@ ghost use Rattle.gateway_core.specs.Turning.{handing, noted, Turned};
 use crate::gateway::Gateway;
 use crate::served::Served;
 use crate::wire::{DATAGRAM_ROOM, Input, Wire, WireFault};
-use gateway_rules::{TurnEnd, is_last};
+use machine_rules::{TurnEnd, is_last};
 use plain_machine::{Event, OutDatagram};
 
 // The event that an input is, but for the end.

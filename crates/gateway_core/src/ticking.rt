@@ -5,12 +5,12 @@ ghost use Rattle.plain_machine.specs.GivingUp.{given_up_until};
 ghost use Rattle.plain_machine.specs.Happening.{ticked};
 ghost use Rattle.std.specs.Result.{result_err};
 ghost use Rattle.plain_machine.specs.Refusing.{ends};
-ghost use Rattle.gateway_rules.specs.Refusing.{tick_refusal};
+ghost use Rattle.machine_rules.specs.Refusing.{tick_refusal};
 ghost use Rattle.endpoints.specs.Telling.{MayTell};
 ghost use Rattle.gateway_core.specs.State.{machine_in, found_in, Happens};
 
 use endpoints::{Context, is_due, pass};
-use gateway_rules::tick_refusal;
+use machine_rules::tick_refusal;
 use crate::state::State;
 use plain_machine::{GivenUpCommand, OutMessage, Refusal};
 

@@ -4,7 +4,7 @@ use Rattle.std.specs.Prelude.{is_some}
 use Rattle.std.specs.declared.net.socket_addr.SocketAddrV4.{SocketAddrV4}
 use Rattle.call_agent.specs.declared.issuing.Issued.{Issued}
 use Rattle.call_agent.specs.declared.issuing.IssueFault.{IssueFault}
-use Rattle.gateway_rules.specs.declared.refusal.Refusal.{Refusal}
+use Rattle.machine_rules.specs.declared.refusal.Refusal.{Refusal}
 use Rattle.transmission.specs.declared.output.OutDatagram.{OutDatagram}
 use Rattle.live_agent.specs.declared.wire.Wire.{Wire}
 use Rattle.surroundings.specs.Around.{Around}

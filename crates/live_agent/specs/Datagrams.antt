@@ -10,7 +10,7 @@ use Rattle.bad_network.specs.declared.packet.Way.TheVariants.{In}
 use Rattle.call_agent.specs.AgentStands.{AgentStays, AgentTook}
 use Rattle.call_agent.specs.Hearing.{hears}
 use Rattle.plain_machine.specs.Event.{datagram}
-use Rattle.gateway_rules.specs.declared.refusal.Refusal.{Refusal}
+use Rattle.machine_rules.specs.declared.refusal.Refusal.{Refusal}
 use Rattle.surroundings.specs.Around.{Around}
 use Rattle.surroundings.specs.declared.surroundings.Fault.{Fault}
 use Rattle.transmission.specs.declared.output.OutDatagram.{OutDatagram}

@@ -19,7 +19,7 @@ ghost use Rattle.call_agent.specs.AgentStands.{AgentStands};
 ghost use Rattle.call_agent.specs.Hearing.{AgentEvent};
 ghost use Rattle.call_agent.specs.declared.issuing.Issued.{Issued};
 ghost use Rattle.call_agent.specs.declared.issuing.IssueFault.{IssueFault};
-ghost use Rattle.gateway_rules.specs.declared.refusal.Refusal.{Refusal};
+ghost use Rattle.machine_rules.specs.declared.refusal.Refusal.{Refusal};
 ghost use Rattle.surroundings.specs.Sending.{Traffic};
 ghost use Rattle.surroundings.specs.declared.surroundings.Fault.{Fault};
 ghost use Rattle.transmission.specs.declared.output.OutDatagram.{OutDatagram};

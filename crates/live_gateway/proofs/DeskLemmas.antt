@@ -18,7 +18,7 @@ use Rattle.plain_machine.specs.Event.{GatewayEvent, datagram, tick}
 use Rattle.gateway_core.specs.declared.sent.SentMessage.{SentMessage}
 use Rattle.plain_machine.specs.Lists.{plain}
 use Rattle.plain_machine.specs.Machine.{Endpoints, endpoint_at}
-use Rattle.gateway_rules.specs.declared.refusal.Refusal.{Refusal}
+use Rattle.machine_rules.specs.declared.refusal.Refusal.{Refusal}
 use Rattle.rgw_scripts.specs.Moves.{give, ask, sends, refuses, told as answer_of}
 use Rattle.mg_bytes.specs.Lines.{is_line_feed}
 use Rattle.traces.specs.Writing.{Entry, arrived, typed, passed, showed, taken_after}

@@ -21,8 +21,8 @@ use Rattle.plain_machine.specs.Lists.{plain}
 use Rattle.gateway_core.specs.GatewayState.{GatewayState}
 use Rattle.gateway_core.specs.Stands.{Stands}
 use Rattle.gateway_core.specs.Wire.{counted}
-use Rattle.gateway_rules.specs.declared.refusal.Refusal.{Refusal}
-use Rattle.gateway_rules.specs.declared.refusal.Refusal.TheVariants as refusals
+use Rattle.machine_rules.specs.declared.refusal.Refusal.{Refusal}
+use Rattle.machine_rules.specs.declared.refusal.Refusal.TheVariants as refusals
 use Rattle.rgw_scripts.specs.Script.{line_in}
 use Rattle.traces.specs.Writing.{Input, typed}
 use Rattle.live_play.specs.Running.{Live, RanOf, Refuses, Asked, lines_shown}

@@ -4,7 +4,7 @@ use Rattle.std.specs.declared.net.socket_addr.SocketAddrV4.{SocketAddrV4}
 use Rattle.gateway_core.specs.GatewayState.{GatewayState}
 use Rattle.gateway_core.specs.Stands.{Stands}
 use Rattle.gateway_core.specs.Wire.{counted}
-use Rattle.gateway_rules.specs.declared.refusal.Refusal.{Refusal}
+use Rattle.machine_rules.specs.declared.refusal.Refusal.{Refusal}
 use Rattle.plain_machine.specs.Event.{GatewayEvent}
 use Rattle.plain_machine.specs.Lists.{plain}
 use Rattle.plain_machine.specs.Refusing.{Ends, refusal_of}

@@ -6,7 +6,7 @@ use Rattle.mg_bytes.specs.Lists.{is_empty}
 use Rattle.gateway_core.specs.Changing.{Changes}
 use Rattle.gateway_core.specs.Stands.{Stands}
 use Rattle.gateway_core.specs.Wire.{counted}
-use Rattle.gateway_rules.specs.declared.refusal.Refusal.{Refusal}
+use Rattle.machine_rules.specs.declared.refusal.Refusal.{Refusal}
 use Rattle.plain_machine.specs.Event.{GatewayEvent, datagram, tick}
 use Rattle.plain_machine.specs.Falling.{first_due}
 use Rattle.plain_machine.specs.Lists.{plain}

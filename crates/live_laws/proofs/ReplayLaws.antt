@@ -13,8 +13,8 @@ use Rattle.mg_bytes.specs.Lines.{is_line_feed, cut}
 use Rattle.mg_bytes.specs.Words.{words}
 use Rattle.mg_bytes.proofs.TextLaws.{words_more}
 use Rattle.plain_machine.specs.declared.setup.Setup.{Setup}
-use Rattle.gateway_rules.specs.declared.refusal.Refusal.{Refusal}
-use Rattle.gateway_rules.specs.declared.refusal.Refusal.TheVariants.{NoSuchLine, TickTooFar, ClockBack}
+use Rattle.machine_rules.specs.declared.refusal.Refusal.{Refusal}
+use Rattle.machine_rules.specs.declared.refusal.Refusal.TheVariants.{NoSuchLine, TickTooFar, ClockBack}
 use Rattle.plain_machine.specs.Arriving.{clock_after}
 use Rattle.plain_machine.specs.Message.{Sent, datagrams_of}
 use Rattle.plain_machine.specs.Packing.{put_out}

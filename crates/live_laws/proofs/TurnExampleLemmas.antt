@@ -37,8 +37,8 @@ use Rattle.live_gateway.specs.Desk.{Standing, MayRefuse}
 use Rattle.live_play.specs.Running.{Live}
 use Rattle.gateway_core.specs.Wire.{counted}
 use Rattle.gateway_core.specs.Stands.{Stands}
-use Rattle.gateway_rules.specs.declared.refusal.Refusal.{Refusal}
-use Rattle.gateway_rules.specs.declared.refusal.Refusal.TheVariants.{OutOfMemory as OfMemory}
+use Rattle.machine_rules.specs.declared.refusal.Refusal.{Refusal}
+use Rattle.machine_rules.specs.declared.refusal.Refusal.TheVariants.{OutOfMemory as OfMemory}
 use Rattle.mg_line.specs.declared.phone.Act.TheVariants.{OffHook}
 use Rattle.plain_machine.specs.Event.{GatewayEvent, datagram, phone, tick}
 use Rattle.plain_machine.specs.Lists.{plain}

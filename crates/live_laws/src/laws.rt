@@ -4,8 +4,8 @@ ghost use Rattle.std.specs.Prelude.{◌≡◌, ◌+◌, ◌++◌, ◌<◌, ◌-�
 ghost use Rattle.surroundings.specs.Sending.{Sent, Received};
 ghost use Rattle.gateway_core.specs.Stands.{Stands};
 ghost use Rattle.plain_machine.specs.Event.{GatewayEvent};
-ghost use Rattle.gateway_rules.specs.declared.refusal.Refusal.{Refusal};
-ghost use Rattle.gateway_rules.specs.declared.refusal.Refusal.TheVariants.{NoSuchLine};
+ghost use Rattle.machine_rules.specs.declared.refusal.Refusal.{Refusal};
+ghost use Rattle.machine_rules.specs.declared.refusal.Refusal.TheVariants.{NoSuchLine};
 ghost use Rattle.rgw_scripts.specs.Moves.{give, ask, sends, refuses};
 ghost use Rattle.traces.specs.Writing.{Entry, IsPlay, typed, showed, became, taken_after, sent_in};
 ghost use Rattle.traces.specs.declared.telling.Mark.{Mark};

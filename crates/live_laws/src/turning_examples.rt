@@ -4,7 +4,7 @@
 ghost use Rattle.std.specs.Prelude.{◌≡◌, ◌⊎◌, ◌∷◌, ◌++◌, ⊤, codes, true, false, ℕ, List, [], Bool, Option, Some, None, is_some, length, Ok, Err};
 ghost use Rattle.std.specs.List.{flat_map};
 ghost use Rattle.gateway_core.specs.GatewayState.{GatewayState};
-ghost use Rattle.gateway_rules.specs.declared.refusal.Refusal.{Refusal as Why};
+ghost use Rattle.machine_rules.specs.declared.refusal.Refusal.{Refusal as Why};
 ghost use Rattle.live_ends.specs.declared.ending.CommonEnding.{CommonEnding};
 ghost use Rattle.live_ends.specs.declared.ending.CommonEnding.TheVariants.{OutOfMemory};
 ghost use Rattle.live_journal.specs.declared.trace.Trace.{Trace};

@@ -12,8 +12,8 @@ use Rattle.surroundings.proofs.TrafficLemmas.{grows_nothing, grows_on, known}
 use Rattle.transmission.specs.declared.output.OutDatagram.{OutDatagram}
 use Rattle.plain_machine.specs.declared.setup.Setup.{Setup}
 use Rattle.gateway_core.specs.declared.sent.SentMessage.{SentMessage}
-use Rattle.gateway_rules.specs.declared.refusal.Refusal.{Refusal}
-use Rattle.gateway_rules.specs.declared.refusal.Refusal.TheVariants.{OutOfMemory, NoSuchLine}
+use Rattle.machine_rules.specs.declared.refusal.Refusal.{Refusal}
+use Rattle.machine_rules.specs.declared.refusal.Refusal.TheVariants.{OutOfMemory, NoSuchLine}
 use Rattle.plain_machine.specs.Event.{GatewayEvent, phone}
 use Rattle.plain_machine.specs.Lists.{plain, outputs_from}
 use Rattle.plain_machine.specs.Machine.{Machine}

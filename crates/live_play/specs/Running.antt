@@ -9,8 +9,8 @@ use Rattle.plain_machine.specs.Event.{GatewayEvent}
 use Rattle.gateway_core.specs.GatewayState.{GatewayState}
 use Rattle.gateway_core.specs.Outgoing.{own_messages, other_messages}
 use Rattle.gateway_core.specs.Stands.{Stands, Took}
-use Rattle.gateway_rules.specs.declared.refusal.Refusal.{Refusal}
-use Rattle.gateway_rules.specs.declared.refusal.Refusal.TheVariants.{OutOfMemory}
+use Rattle.machine_rules.specs.declared.refusal.Refusal.{Refusal}
+use Rattle.machine_rules.specs.declared.refusal.Refusal.TheVariants.{OutOfMemory}
 use Rattle.rgw_scripts.specs.Moves.{give, ask, sends, refuses, line_shown, printed, told as answer_of}
 use Rattle.rgw_scripts.specs.Printing.{printed_line, refusal_line}
 use Rattle.rgw_scripts.specs.Status.{LineStatus}

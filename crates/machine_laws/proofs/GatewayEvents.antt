@@ -26,7 +26,7 @@ use Rattle.mgcp_text.proofs.RoundLaws.{read_again}
 use Rattle.command_forms.specs.Command.{Command}
 use Rattle.retransmission.specs.Flight.{InFlight}
 use Rattle.plain_machine.specs.declared.setup.Setup.{Setup}
-use Rattle.gateway_rules.specs.declared.refusal.Refusal.TheVariants.{ClockBack, TickTooFar}
+use Rattle.machine_rules.specs.declared.refusal.Refusal.TheVariants.{ClockBack, TickTooFar}
 use Rattle.plain_machine.specs.Effect.{Effect, silently}
 use Rattle.plain_machine.specs.Setup.{IsSetUp, most_lines}
 use Rattle.plain_machine.specs.Event.{GatewayEvent, datagram, phone, tick}

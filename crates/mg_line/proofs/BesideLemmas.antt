@@ -13,8 +13,8 @@ use Rattle.events_and_signals.specs.Choice.{Chosen, chosen}
 use Rattle.events_and_signals.specs.Naming.{event_of}
 use Rattle.events_and_signals.specs.Held.{Held, without_front, nothing_held, cleared}
 use Rattle.events_and_signals.specs.declared.request.Request.{Request}
-use Rattle.line_rules.specs.declared.state.State.TheVariants.{Normal}
-use Rattle.line_rules.specs.Rules.{ends_drain, discards}
+use Rattle.machine_rules.specs.declared.state.State.TheVariants.{Normal}
+use Rattle.machine_rules.specs.Rules.{ends_drain, discards}
 use Rattle.mg_line.specs.Line.{LineState, Notice, LineDone, still, most_accumulated}
 use Rattle.mg_line.specs.Occurring.{notified, notified_if_full, with_event, letter_of, timed, judged, with_letter, dialled_by, embedded, acted, signals_after, occurred, verdict_by}
 use Rattle.mg_line.specs.Detecting.{unless_notified, drained_of, drained, resumed, with_held, beside}

@@ -9,8 +9,8 @@ use Rattle.events_and_signals.specs.Stopping.{without_time_outs, without}
 use Rattle.packages.specs.declared.observed.Observed.{Observed}
 use Rattle.mg_line.specs.declared.fields.LineFields.{LineFields}
 use Rattle.mg_line.specs.declared.phone.Act.{Act}
-use Rattle.line_rules.specs.declared.state.State.{State}
-use Rattle.line_rules.specs.declared.state.State.TheVariants.{Normal, Notification, Lockstep}
+use Rattle.machine_rules.specs.declared.state.State.{State}
+use Rattle.machine_rules.specs.declared.state.State.TheVariants.{Normal, Notification, Lockstep}
 use Rattle.mg_line.specs.Acting.{hooked, observed_at}
 use Rattle.mg_line.specs.Detecting.{quarantining}
 use Rattle.mg_line.specs.Line.{LineState, LineDone, Notice}

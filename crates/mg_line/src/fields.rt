@@ -10,7 +10,7 @@ use arrayvec::ArrayVec;
 use digit_map_bits::Dialling;
 use events_and_signals::EventRequest;
 use event_syntax::{Handling, Notifying, Observed, Quarantined};
-use line_rules::{State, quarantine_room};
+use machine_rules::{State, quarantine_room};
 use mg_bytes::{Identifier, OutOfMemory};
 use packages::Hook;
 use events_and_signals::{Buffer, SignalSet};

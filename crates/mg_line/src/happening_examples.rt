@@ -21,7 +21,7 @@ ghost use Rattle.mg_line.specs.Example.{flashed, put_back, lifted, one_pressed, 
 
 use crate::phone::{Act, Key};
 use digit_map::MapChange;
-use line_rules::State;
+use machine_rules::State;
 use packages::{Hook, Signal};
 use timers::LineDue;
 

@@ -4,7 +4,7 @@
 
 ghost use Rattle.std.specs.Prelude.{◌≡◌, ◌+◌, ◌++◌, codes, length, take, [], ◌∷◌, None};
 ghost use Rattle.events_and_signals.specs.SignalExample.{until};
-ghost use Rattle.line_rules.specs.Rules.{most_quarantined};
+ghost use Rattle.machine_rules.specs.Rules.{most_quarantined};
 ghost use Rattle.mg_line.specs.Example.{lifted, put_back, flashed, flashes};
 ghost use Rattle.mg_line.specs.Scenario.{does, asks, answers, opens, waits, requests, with_map, without_map, with_signals, with_detected, with_handling, tells, scenario, opening_scenario, repeated};
 

@@ -12,7 +12,7 @@ use Rattle.retransmission.specs.Flight.{InFlight}
 use Rattle.mgcp_text.specs.Parts.{parts_of}
 use Rattle.transmission.specs.declared.output.OutDatagram.{OutDatagram}
 use Rattle.transmission.specs.Packing.{messages_in}
-use Rattle.gateway_rules.specs.declared.refusal.Refusal.TheVariants.{TickTooFar, ClockBack}
+use Rattle.machine_rules.specs.declared.refusal.Refusal.TheVariants.{TickTooFar, ClockBack}
 use Rattle.plain_machine.specs.declared.endpoint.Endpoint.{Endpoint}
 use Rattle.plain_machine.specs.declared.setup.Setup.{Setup}
 use Rattle.plain_machine.specs.Setup.{IsSetUp}

@@ -12,7 +12,7 @@ use Rattle.timers.specs.Order.{earlier}
 use Rattle.plain_machine.specs.declared.post.Post.{Post}
 use Rattle.plain_machine.specs.declared.setup.Setup.{Setup}
 use Rattle.plain_machine.specs.declared.endpoint.Endpoint.{Endpoint}
-pub use Rattle.gateway_rules.specs.Falling.{if_by}
+pub use Rattle.machine_rules.specs.Falling.{if_by}
 use Rattle.plain_machine.specs.Effect.{Effect, silently, afterwards}
 use Rattle.plain_machine.specs.Posting.{resent_on}
 use Rattle.plain_machine.specs.Announcing.{announced_on}

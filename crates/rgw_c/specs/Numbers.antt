@@ -1,7 +1,7 @@
 -- What the numbers say that C is told.
 use Rattle.std.specs.Prelude.{ℕ, Bool, ◌==◌, ◌||◌, if◌then◌else◌, Option, Some, None, is_some}
-use Rattle.gateway_rules.specs.declared.refusal.Refusal.{Refusal}
-use Rattle.gateway_rules.specs.declared.refusal.Refusal.TheVariants.{OutOfMemory, TickTooFar, ClockBack, NoSuchLine, PhoneState}
+use Rattle.machine_rules.specs.declared.refusal.Refusal.{Refusal}
+use Rattle.machine_rules.specs.declared.refusal.Refusal.TheVariants.{OutOfMemory, TickTooFar, ClockBack, NoSuchLine, PhoneState}
 use Rattle.rgw_c.specs.declared.numbers.TheConstants.{OK, OUT_OF_MEMORY, SMALL_BUFFER, HAS_FLAW}
 
 -- the refusal that a number says

@@ -10,7 +10,7 @@ ghost use Rattle.mgcp_text.specs.declared.message.Verb.TheVariants as verbs;
 ghost use Rattle.connections.specs.declared.codec.Codec.TheVariants.{Pcmu, Pcma};
 ghost use Rattle.connections.specs.declared.codec.Codecs.TheVariants.{Only, Both};
 ghost use Rattle.connections.specs.declared.mode.Mode.TheVariants as modes;
-ghost use Rattle.gateway_rules.specs.declared.refusal.Refusal.TheVariants as refusals;
+ghost use Rattle.machine_rules.specs.declared.refusal.Refusal.TheVariants as refusals;
 ghost use Rattle.plain_machine.specs.declared.label.Whose.TheVariants as whose;
 ghost use Rattle.plain_machine.specs.declared.label.What.TheVariants as whats;
 ghost use Rattle.plain_machine.specs.Example.{example, elsewhere};

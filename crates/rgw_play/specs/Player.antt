@@ -2,8 +2,8 @@
 use Rattle.std.specs.Prelude.{◌≡◌, ◌≢◌, ◌+◌, ◌++◌, List, [], ◌∷◌, count_by, Result, Ok, Err}
 use Rattle.std.specs.List.{flat_map}
 use Rattle.transmission.specs.declared.output.OutDatagram.{OutDatagram}
-use Rattle.gateway_rules.specs.declared.refusal.Refusal.{Refusal}
-use Rattle.gateway_rules.specs.declared.refusal.Refusal.TheVariants.{OutOfMemory}
+use Rattle.machine_rules.specs.declared.refusal.Refusal.{Refusal}
+use Rattle.machine_rules.specs.declared.refusal.Refusal.TheVariants.{OutOfMemory}
 use Rattle.plain_machine.specs.Event.{GatewayEvent}
 use Rattle.gateway_core.specs.Stands.{Stands}
 use Rattle.rgw_play.specs.declared.player.Player.{Player}

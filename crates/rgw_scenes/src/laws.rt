@@ -3,7 +3,7 @@ ghost use Rattle.std.specs.Prelude.{◌≡◌, ℕ, ◌%◌, ◌==◌, ◌&&◌,
 ghost use Rattle.plain_machine.specs.declared.config.Config.{Config};
 ghost use Rattle.plain_machine.specs.declared.config.ConfigKey.TheVariants as keys;
 ghost use Rattle.plain_machine.specs.Setup.{is_wait, is_media_base, key_at_fault};
-ghost use Rattle.gateway_rules.specs.Lines.{are_lines};
+ghost use Rattle.machine_rules.specs.Lines.{are_lines};
 ghost use Rattle.rgw_scripts.specs.Configuration.{config_in};
 ghost use Rattle.rgw_scripts.specs.Play.{largest_input};
 ghost use Rattle.rgw_scenes.specs.Bounds.{bounds_of, within};

@@ -11,7 +11,7 @@ use Rattle.connections.specs.declared.connection.Connection.{Connection}
 use Rattle.connections.specs.Modes.{mode_text}
 use Rattle.connections.specs.Numbers.{number_text}
 use Rattle.transmission.specs.declared.output.OutDatagram.{OutDatagram}
-use Rattle.gateway_rules.specs.declared.refusal.Refusal.{Refusal}
+use Rattle.machine_rules.specs.declared.refusal.Refusal.{Refusal}
 use Rattle.plain_machine.specs.Refusal.{refusal_number, refusal_name}
 use Rattle.rgw_scripts.specs.Status.{LineStatus}
 

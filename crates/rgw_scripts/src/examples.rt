@@ -7,7 +7,7 @@ ghost use Rattle.endpoint_names.specs.declared.route.Route.TheVariants.{Two, Thr
 ghost use Rattle.mg_line.specs.declared.phone.Act.TheVariants as acts;
 ghost use Rattle.packages.specs.declared.hook.Hook.TheVariants as hooks;
 ghost use Rattle.mg_line.specs.declared.phone.Key.TheVariants as keys;
-ghost use Rattle.gateway_rules.specs.declared.refusal.Refusal.TheVariants as refusals;
+ghost use Rattle.machine_rules.specs.declared.refusal.Refusal.TheVariants as refusals;
 ghost use Rattle.plain_machine.specs.Event.{datagram, phone, tick};
 ghost use Rattle.plain_machine.specs.Example.{local_host, other_host};
 ghost use Rattle.rgw_scripts.specs.declared.step.ScriptStep.TheVariants as steps;

@@ -1,7 +1,7 @@
 -- What an answer does to a gateway and an exchange's office of which so much is known.
 use Rattle.std.proofs.Common.{◌≡◌, ℕ, List, Option, sym, ap, subst, ◌∙◌}
 use Rattle.std.specs.Prelude.{is_none, slice_get}
-use Rattle.gateway_rules.specs.declared.refusal.Refusal.{Refusal}
+use Rattle.machine_rules.specs.declared.refusal.Refusal.{Refusal}
 use Rattle.plain_machine.specs.Event.{tick}
 use Rattle.plain_machine.specs.Refusing.{ends, tick_refusal}
 use Rattle.retransmission.specs.Flight.{InFlight}

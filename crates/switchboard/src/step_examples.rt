@@ -18,7 +18,7 @@ ghost use Rattle.call_agent.specs.declared.issuing.IssueFault.{IssueFault};
 ghost use Rattle.call_agent.specs.declared.issuing.IssueFault.TheVariants as faults;
 ghost use Rattle.call_agent.specs.Issuing.{no_more_ids, bad_command, issue_refusal};
 ghost use Rattle.call_agent.specs.AgentStands.{AgentStands, AgentStays, AgentTook};
-ghost use Rattle.gateway_rules.specs.declared.refusal.Refusal.TheVariants as refusals;
+ghost use Rattle.machine_rules.specs.declared.refusal.Refusal.TheVariants as refusals;
 ghost use Rattle.plain_machine.specs.Event.{tick};
 ghost use Rattle.call_agent.specs.Hearing.{AgentEvent, issues, plain_agent};
 ghost use Rattle.agent_texts.specs.declared.station.Station.{Station};

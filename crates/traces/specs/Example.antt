@@ -1,6 +1,6 @@
 -- What the worked examples share.
 use Rattle.std.specs.Prelude.{ℕ, codes, List, [], ◌∷◌, None}
-use Rattle.gateway_rules.specs.declared.refusal.Refusal.TheVariants.{NoSuchLine}
+use Rattle.machine_rules.specs.declared.refusal.Refusal.TheVariants.{NoSuchLine}
 use Rattle.plain_machine.specs.Event.{GatewayEvent, datagram, tick}
 use Rattle.plain_machine.specs.Example.{agent, example, to_agent_at}
 use Rattle.rgw_scripts.specs.Moves.{give, ask, sends, refuses}

@@ -3,7 +3,7 @@
 
 ghost use Rattle.std.specs.Prelude.{◌≡◌, codes, true, false, [], ◌∷◌, None, Some, option_map};
 ghost use Rattle.mg_line.specs.declared.phone.Act.TheVariants.{OnHook};
-ghost use Rattle.gateway_rules.specs.declared.refusal.Refusal.TheVariants.{PhoneState};
+ghost use Rattle.machine_rules.specs.declared.refusal.Refusal.TheVariants.{PhoneState};
 ghost use Rattle.plain_machine.specs.Event.{datagram, phone, tick};
 ghost use Rattle.plain_machine.specs.Example.{agent, example, to_agent_at, to_other_at};
 ghost use Rattle.rgw_scripts.specs.Moves.{give, ask, sends, refuses};

@@ -5,7 +5,7 @@ use Rattle.std.proofs.lemmas.Bool.{and_parts}
 use Rattle.transmission.specs.Recalling.{Recalls}
 use Rattle.transmission.proofs.RecallLaws.{recalls_back, recalls_through}
 use Rattle.plain_machine.specs.declared.setup.Setup.{Setup}
-use Rattle.gateway_rules.specs.declared.refusal.Refusal.{Refusal}
+use Rattle.machine_rules.specs.declared.refusal.Refusal.{Refusal}
 use Rattle.plain_machine.specs.Event.{datagram, phone, tick}
 use Rattle.plain_machine.specs.Machine.{opening}
 use Rattle.plain_machine.specs.Refusing.{tick_refusal}

@@ -20,7 +20,7 @@ use Rattle.plain_machine.specs.Machine.{Machine, opening}
 use Rattle.transmission.specs.Packing.{packed, messages_in, same_address}
 use Rattle.plain_machine.specs.Packing.{put_out}
 use Rattle.plain_machine.specs.Transactions.{asked_as}
-use Rattle.gateway_rules.specs.declared.refusal.Refusal.{Refusal}
+use Rattle.machine_rules.specs.declared.refusal.Refusal.{Refusal}
 use Rattle.plain_machine.specs.Refusing.{refusal_of, tick_refusal}
 use Rattle.plain_machine.specs.Happening.{effect}
 use Rattle.plain_machine.specs.Lists.{machine_after}

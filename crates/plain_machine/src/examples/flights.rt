@@ -4,7 +4,7 @@
 ghost use Rattle.std.specs.Prelude.{codes, [], ◌∷◌, None, Some, false, true};
 ghost use Rattle.endpoint_names.specs.declared.route.Route.TheVariants.{Two};
 ghost use Rattle.retransmission.specs.Flight.{sent_first};
-ghost use Rattle.line_rules.specs.declared.state.State.TheVariants.{Normal, Notification, Lockstep};
+ghost use Rattle.machine_rules.specs.declared.state.State.TheVariants.{Normal, Notification, Lockstep};
 ghost use Rattle.retransmission.specs.declared.restart.Restart.TheVariants.{Waiting, Announced, Serving};
 ghost use Rattle.plain_machine.specs.Effect.{silently};
 ghost use Rattle.plain_machine.specs.Message.{resent};

@@ -6,7 +6,7 @@ ghost use Rattle.std.specs.Prelude.{◌≡◌, ◌++◌, codes, [], ◌∷◌, r
 ghost use Rattle.mgcp_text.specs.declared.message.Message.TheVariants as messages;
 ghost use Rattle.mgcp_text.specs.declared.message.Verb.TheVariants as verbs;
 ghost use Rattle.mg_line.specs.declared.phone.Act.TheVariants.{OffHook, OnHook};
-ghost use Rattle.line_rules.specs.declared.state.State.TheVariants as states;
+ghost use Rattle.machine_rules.specs.declared.state.State.TheVariants as states;
 ghost use Rattle.retransmission.specs.declared.restart.Restart.TheVariants.{Waiting, Announced};
 ghost use Rattle.plain_machine.specs.Event.{phone, tick};
 ghost use Rattle.plain_machine.specs.Message.{command};

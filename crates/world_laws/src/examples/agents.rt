@@ -5,7 +5,7 @@ ghost use Rattle.std.specs.Prelude.{◌≡◌, ◌++◌, true, false, codes, rep
 ghost use Rattle.packages.specs.declared.event.LineEvent.TheVariants as events;
 ghost use Rattle.mg_line.specs.declared.phone.Act.TheVariants as acts;
 ghost use Rattle.packages.specs.declared.observed.Observed.TheVariants.{Happened};
-ghost use Rattle.gateway_rules.specs.declared.refusal.Refusal.TheVariants as refusals;
+ghost use Rattle.machine_rules.specs.declared.refusal.Refusal.TheVariants as refusals;
 ghost use Rattle.plain_machine.specs.Event.{datagram, phone, tick};
 ghost use Rattle.plain_machine.specs.Example.{other_agent};
 ghost use Rattle.call_agent.specs.Agent.{answer_for, observed_on};

@@ -3,7 +3,7 @@
 
 ghost use Rattle.std.specs.Prelude.{◌≡◌, codes, [], ◌∷◌, true, false, None, Some, ⊤, Err, Ok};
 ghost use Rattle.plain_machine.specs.declared.config.ConfigFault.TheVariants as config_faults;
-ghost use Rattle.gateway_rules.specs.declared.refusal.Refusal.TheVariants as refusals;
+ghost use Rattle.machine_rules.specs.declared.refusal.Refusal.TheVariants as refusals;
 ghost use Rattle.plain_machine.specs.Event.{tick};
 ghost use Rattle.plain_machine.specs.Example.{two_lines};
 ghost use Rattle.call_agent.specs.declared.issuing.IssueFault.TheVariants as faults;

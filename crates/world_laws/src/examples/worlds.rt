@@ -5,7 +5,7 @@ ghost use Rattle.std.specs.Prelude.{◌≡◌, ◌++◌, codes, [], ◌∷◌, t
 ghost use Rattle.packages.specs.declared.event.LineEvent.TheVariants as events;
 ghost use Rattle.mg_line.specs.declared.phone.Act.TheVariants as acts;
 ghost use Rattle.packages.specs.declared.observed.Observed.TheVariants.{Happened};
-ghost use Rattle.gateway_rules.specs.declared.refusal.Refusal.TheVariants as refusals;
+ghost use Rattle.machine_rules.specs.declared.refusal.Refusal.TheVariants as refusals;
 ghost use Rattle.plain_machine.specs.Example.{two_lines};
 ghost use Rattle.call_agent.specs.Agent.{answer_for, observed_on};
 ghost use Rattle.agent_core.specs.World.{world_opening, steps_are_taken, issuing, dialling, ticking, delivering, by_gateway, no_such_packet, packet_too_old};

@@ -3,7 +3,7 @@ use Rattle.std.specs.Prelude.{IfNone, Ok, slice_get}
 use Rattle.std.specs.Result.{result_err}
 use Rattle.call_agent.specs.Flying.{first_flight}
 use Rattle.call_agent.specs.Hearing.{AgentEnds, plain_agent}
-use Rattle.gateway_rules.specs.declared.refusal.Refusal.{Refusal}
+use Rattle.machine_rules.specs.declared.refusal.Refusal.{Refusal}
 use Rattle.plain_machine.specs.Event.{tick}
 use Rattle.switchboard.specs.declared.gateway.Gateway.{Gateway}
 use Rattle.switchboard.specs.AgentClock.{tick_to}

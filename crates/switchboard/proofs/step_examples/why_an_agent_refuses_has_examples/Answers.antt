@@ -1,6 +1,6 @@
 use Rattle.std.proofs.Common.{◌≡◌, ℕ, [], ◌∷◌, Some, None, if◌then◌else◌, refl, sym, subst}
 use Rattle.std.specs.Prelude.{is_none, nat_le}
-use Rattle.gateway_rules.specs.declared.refusal.Refusal.TheVariants.{OutOfMemory, TickTooFar, ClockBack}
+use Rattle.machine_rules.specs.declared.refusal.Refusal.TheVariants.{OutOfMemory, TickTooFar, ClockBack}
 use Rattle.plain_machine.specs.Refusing.{ends}
 use Rattle.retransmission.specs.Flight.{InFlight}
 use Rattle.call_agent.specs.Flying.{first_flight}

@@ -1,6 +1,0 @@
-use Rattle.std.proofs.Common.{rules, arith}
-use Rattle.std.proofs.lemmas.Grind.{common_steps}
-use Rattle.gateway_rules.proofs.turning.is_last.Goals as goal
-
-pub returns-in-Took : goal.returns-in-Took
-returns-in-Took c = first_of (search rules, grind (arith, common_steps))

@@ -1,5 +1,0 @@
-pub mod Refusal
-pub mod Lines
-pub mod Refusing
-pub mod Falling
-pub mod Turning
