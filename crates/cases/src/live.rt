@@ -41,7 +41,7 @@ use gateway_core::{ConfigFault, Gateway};
 use live_gateway::{Admission, Desk, DeskSettings, boxed, end_desk, open_desk, speakers_of};
 use live_journal::{Journal, Recorder, Trace};
 use mg_bytes::OutOfMemory;
-use new_start::FirstNumber;
+use traces::FirstNumber;
 use page_access::HostNames;
 use rgw_scenes::read_config;
 use rgwd_words::{Settings, Start, hosts_in, speakers_in};

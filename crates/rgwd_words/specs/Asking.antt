@@ -8,7 +8,7 @@ use Rattle.clap.specs.Matches.{first_value, one_text}
 use Rattle.clap.specs.declared.parser.matches.Found.{Found}
 use Rattle.command_words.specs.Values.{IsBehind, IsMoment, IsRead, SaysFlag}
 use Rattle.live_ends.specs.Addresses.{IsAddress}
-use Rattle.new_start.specs.Words.{first_in, spread_in}
+use Rattle.traces.specs.Words.{first_in, spread_in}
 use Rattle.rgwd_words.specs.declared.words.Settings.{Settings}
 use Rattle.rgwd_words.specs.declared.words.Sockets.{Sockets}
 use Rattle.rgwd_words.specs.Parting.{parting_of}

@@ -2,7 +2,7 @@
 use Rattle.std.specs.Prelude.{ℕ, codes, decimal, List, [], ◌∷◌, ◌++◌}
 use Rattle.std.specs.Net.Text.{socket_v4_text}
 use Rattle.std.specs.declared.net.socket_addr.SocketAddrV4.{SocketAddrV4}
-use Rattle.new_start.specs.Words.{longest_spread}
+use Rattle.traces.specs.Words.{longest_spread}
 use Rattle.live_ends.specs.Wording.{joined}
 use Rattle.live_ends.specs.declared.ending.About.{About}
 use Rattle.live_ends.specs.declared.ending.FileNames.{FileNames}

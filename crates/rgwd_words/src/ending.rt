@@ -13,7 +13,7 @@ use gateway_core::FIRSTS;
 use live_ends::{About, AddressWord, CommonEnding, FileNames, end, put_around, put_pieces};
 use live_outlets::Outlets;
 use mg_bytes::{Draft, OutOfMemory};
-use new_start::LONGEST_SPREAD;
+use traces::LONGEST_SPREAD;
 use std::alloc::Global;
 use std::io::{ErrorKind, Write};
 use std::net::SocketAddrV4;

@@ -1,13 +1,13 @@
 //! What a start draws from the time of day: with which number ids begin, and how long it waits before it opens its sockets, and before its
 //! clock begins.
 ghost use Rattle.std.specs.Prelude.{◌≡◌, IfSome, option_map, unwrap_or};
-ghost use Rattle.new_start.specs.Waiting.{waited};
+ghost use Rattle.traces.specs.Waiting.{waited};
 ghost use Rattle.rgwd_words.specs.Starting.{first_of, ms_of, rest_of, until_next};
 
 use crate::words::Settings;
 use live_ends::time_of_day;
 use mg_bytes::Draft;
-use new_start::{FirstNumber, waited};
+use traces::{FirstNumber, waited};
 use std::rt::Clock;
 
 // So many microseconds are a ms.

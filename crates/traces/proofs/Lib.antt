@@ -1,3 +1,4 @@
 pub mod Computing
 pub mod ShowLemmas
 pub mod RunLaws
+pub mod StartComputing

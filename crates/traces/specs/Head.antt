@@ -1,6 +1,6 @@
 -- The head of a trace.
 use Rattle.std.specs.Prelude.{ℕ, ◌-◌, if◌then◌else◌, List, length, take, drop, Option, None}
-use Rattle.new_start.specs.Words.{first_in}
+use Rattle.traces.specs.Words.{first_in}
 use Rattle.traces.specs.Telling.{first_words, begins, is_whole}
 
 abbrev pub first_on : List ℕ → Option ℕ

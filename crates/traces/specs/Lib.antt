@@ -4,3 +4,5 @@ pub mod Replaying
 pub mod Example
 pub mod Running
 pub mod Writing
+pub mod Words
+pub mod Waiting

@@ -4,7 +4,7 @@ ghost use Rattle.traces.specs.Head.{first_told_in};
 
 use crate::telling::FIRST;
 use mg_bytes::lines;
-use new_start::FirstNumber;
+use crate::first_number::FirstNumber;
 
 /// Whether a line, with its end, is that behind the configuration.
 pub fn is_head_end(piece: &[u8]) -> bool {

@@ -4,7 +4,7 @@ use crate::replaying::{Progress, Replay};
 use crate::verdict::{ReplayFault, Verdict};
 use gateway_core::{ConfigFault, Gateway};
 use mg_bytes::split_once;
-use new_start::FirstNumber;
+use crate::first_number::FirstNumber;
 use rgw_scenes::read_config;
 use rgw_scripts::LIMIT;
 use std::alloc::Global;

@@ -1,7 +1,7 @@
 //! How long a start waits, so that gateways that start together don't announce themselves together (RFC 3435, 4.4.6).
 ghost use Rattle.std.specs.Prelude.{◌≡◌, ◌≤◌};
-ghost use Rattle.new_start.specs.Words.{spread_from, spread_in};
-ghost use Rattle.new_start.specs.Waiting.{waited};
+ghost use Rattle.traces.specs.Words.{spread_from, spread_in};
+ghost use Rattle.traces.specs.Waiting.{waited};
 
 use bad_network::mixed;
 use mg_bytes::decimal;

@@ -1,9 +1,9 @@
 //! Worked examples of what a start draws, as theorems: each sentence of a definition has one that a slip in it breaks.
-#![tactic(auto, unfolding(crate::proofs::Computing::on_examples))]
+#![tactic(auto, unfolding(crate::proofs::StartComputing::on_examples))]
 
 ghost use Rattle.std.specs.Prelude.{◌≡◌, codes, [], Some, None};
-ghost use Rattle.new_start.specs.Words.{first_in, spread_in};
-ghost use Rattle.new_start.specs.Waiting.{waited};
+ghost use Rattle.traces.specs.Words.{first_in, spread_in};
+ghost use Rattle.traces.specs.Waiting.{waited};
 
 /// Each sentence at an example.
 pub fn each_sentence_has_an_example()

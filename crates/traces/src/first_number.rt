@@ -1,7 +1,7 @@
 //! With which number ids begin.
 ghost use Rattle.std.specs.Prelude.{◌≡◌, ◌<◌};
 ghost use Rattle.small_rules.specs.Numbering.{first_at, firsts};
-ghost use Rattle.new_start.specs.Words.{first_from, first_in};
+ghost use Rattle.traces.specs.Words.{first_from, first_in};
 
 use mg_bytes::decimal;
 use plain_machine::FIRSTS;
