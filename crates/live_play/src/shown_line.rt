@@ -3,7 +3,7 @@ ghost use Rattle.std.specs.Prelude.{◌≡◌, ◌≤◌, ◌++◌, ℕ, List, O
 ghost use Rattle.live_play.specs.Running.{IsAnswer};
 
 use gateway_core::Gateway;
-use line_status::status_of;
+use rgw_scripts::status_of;
 use mg_bytes::OutOfMemory;
 use rgw_scripts::put_line;
 use std::alloc::Global;

@@ -1,5 +1,4 @@
 //! What a line of a gateway is, as it is shown to who asks: for a script, for who types at telephones, and in a trace that is replayed.
-#![tactic(auto)]
 
 ghost use Rattle.std.specs.Prelude.{◌≡◌, ◌≤◌, List, Some};
 ghost use Rattle.plain_machine.specs.Event.{GatewayEvent};
@@ -8,7 +7,7 @@ ghost use Rattle.gateway_core.specs.Stands.{Stands};
 ghost use Rattle.rgw_scripts.specs.Status.{status_of};
 
 use gateway_core::Gateway;
-use rgw_scripts::LineStatus;
+use crate::status::LineStatus;
 
 /// What a line, from 1 to the number of lines, is.
 pub fn status_of(gateway: &Gateway, line: u16) -> LineStatus<'_>
