@@ -3,7 +3,7 @@ use Rattle.std.proofs.Common.{◌≡◌, ◌⊎◌, inl, inr, ℕ, Bool, List, O
 use Rattle.std.specs.Prelude.{nat_lt, if◌then◌else◌, true, false, Result, Ok, Err}
 use Rattle.std.specs.Global.{Box}
 use Rattle.message_counts.specs.declared.reporting.Faults.{Faults}
-use Rattle.page_board.specs.Showing.{BoardState}
+use Rattle.page_state.specs.BoardShowing.{BoardState}
 use Rattle.surroundings.specs.Around.{Around}
 use Rattle.surroundings.specs.Sending.{Traffic}
 use Rattle.surroundings.specs.declared.lines.Lines.{Lines}

@@ -14,7 +14,7 @@ use Rattle.surroundings.specs.Speaking.{Admitted, admitted_by}
 use Rattle.surroundings.specs.Typing.{left_of, behind, v4_of}
 use Rattle.surroundings.specs.declared.lines.Lines.{Lines}
 use Rattle.surroundings.specs.declared.surroundings.Fault.{Fault}
-use Rattle.page_board.specs.declared.ring.Kind.TheVariants.{Act as OfAct, Told as OfTold}
+use Rattle.page_state.specs.declared.ring.Kind.TheVariants.{Act as OfAct, Told as OfTold}
 use Rattle.told_messages.specs.Showing.{nobody, GoesOn, Happened}
 use Rattle.plain_machine.specs.Event.{GatewayEvent, phone}
 use Rattle.plain_machine.specs.Lists.{plain}

@@ -13,7 +13,7 @@ use Rattle.message_counts.specs.SentCounting.{tally_in, with_sent, with_given_up
 use Rattle.message_counts.specs.Tallying.{with_handed_out, CountsNoDatagram}
 use Rattle.message_counts.specs.Waiting.{unanswered_after}
 use Rattle.message_counts.specs.declared.reporting.Faults.{Faults}
-use Rattle.page_board.specs.declared.ring.Kind.TheVariants.{Sent as OfSent}
+use Rattle.page_state.specs.declared.ring.Kind.TheVariants.{Sent as OfSent}
 use Rattle.gateway_core.specs.declared.outcome.TextOutcome.{TextOutcome}
 use Rattle.plain_machine.specs.Event.{GatewayEvent, datagram}
 use Rattle.gateway_core.specs.declared.sent.SentMessage.{SentMessage}

@@ -5,7 +5,7 @@ use Rattle.mg_bytes.specs.Lists.{is_empty}
 use Rattle.gateway_core.specs.Stands.{Stands}
 use Rattle.plain_machine.specs.Event.{GatewayEvent}
 use Rattle.plain_machine.specs.Lists.{plain}
-use Rattle.page_board.specs.Showing.{BoardState}
+use Rattle.page_state.specs.BoardShowing.{BoardState}
 use Rattle.surroundings.specs.Around.{Around}
 use Rattle.surroundings.specs.Typing.{left_of}
 use Rattle.surroundings.specs.declared.lines.Lines.{Lines}

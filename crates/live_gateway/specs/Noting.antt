@@ -6,7 +6,7 @@ use Rattle.std.specs.declared.net.socket_addr.SocketAddrV4.{SocketAddrV4}
 use Rattle.exchange_log.specs.declared.note.Note.TheVariants as notes
 use Rattle.gateway_core.specs.declared.outcome.TextOutcome.{TextOutcome}
 use Rattle.gateway_core.specs.Wire.{counted}
-use Rattle.page_board.specs.declared.ring.Kind.TheVariants.{Received as OfReceived}
+use Rattle.page_state.specs.declared.ring.Kind.TheVariants.{Received as OfReceived}
 use Rattle.plain_machine.specs.Event.{GatewayEvent, datagram, phone, tick}
 use Rattle.gateway_core.specs.declared.sent.SentMessage.{SentMessage}
 use Rattle.surroundings.specs.Speaking.{Admitted}

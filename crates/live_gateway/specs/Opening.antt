@@ -12,8 +12,8 @@ use Rattle.message_counts.specs.Counting.{counts_in, no_counts}
 use Rattle.message_counts.specs.Places.{no_sends}
 use Rattle.message_counts.specs.SentCounting.{tally_in, no_tally}
 use Rattle.message_counts.specs.declared.message_tally.MessageTally.{MessageTally}
-use Rattle.page_board.specs.Keeping.{nothing_yet}
-use Rattle.page_board.specs.Showing.{BoardState}
+use Rattle.page_state.specs.Keeping.{nothing_yet}
+use Rattle.page_state.specs.BoardShowing.{BoardState}
 use Rattle.live_outlets.specs.Recording.{state_when}
 use Rattle.surroundings.specs.Typing.{left_of}
 use Rattle.surroundings.specs.declared.lines.Lines.{Lines}

@@ -2,7 +2,7 @@
 use Rattle.std.specs.Prelude.{◌≡◌, ℕ, Bool, false, Option, Some, None}
 use Rattle.std.specs.Global.{Box}
 pub use Rattle.turns.specs.Clock.{has_come}
-use Rattle.page_board.specs.Showing.{BoardState}
+use Rattle.page_state.specs.BoardShowing.{BoardState}
 
 -- what visitors can be held to
 pub record VisitsBy (V S : Type 0) : Type 1 where

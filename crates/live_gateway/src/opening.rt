@@ -8,7 +8,7 @@ use bad_network::{BadNetwork, Spoiling};
 use live_journal::{Capture, Journal};
 use live_outlets::{Written, boxed};
 use message_counts::MessageTally;
-use page_board::Board;
+use page_state::Board;
 use std::alloc::{AllocError, Global};
 use std::net::SocketAddrV4;
 use told_messages::Log;

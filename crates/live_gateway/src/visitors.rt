@@ -2,7 +2,7 @@
 ghost use Rattle.std.specs.Prelude.{◌≡◌};
 ghost use Rattle.live_gateway.specs.Visiting.{AreReady, ClosesAt};
 
-use page_board::Board;
+use page_state::Board;
 use surroundings::Surroundings;
 
 /// Visitors of a page, who come over the same surroundings and are served between the gateway's turns. They can be held to what they said

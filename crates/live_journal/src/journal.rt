@@ -5,7 +5,7 @@ ghost use Rattle.message_counts.specs.Places.{with_sends};
 ghost use Rattle.message_counts.specs.SentCounting.{tally_in, with_sent, with_given_up};
 ghost use Rattle.message_counts.specs.Tallying.{with_received, with_handed_out, with_stranger, CountsNoDatagram};
 ghost use Rattle.message_counts.specs.Waiting.{unanswered_after};
-ghost use Rattle.page_board.specs.declared.ring.Kind.TheVariants.{Received, Sent, Act, Told};
+ghost use Rattle.page_state.specs.declared.ring.Kind.TheVariants.{Received, Sent, Act, Told};
 ghost use Rattle.told_messages.specs.Labelling.{sent_label};
 ghost use Rattle.told_messages.specs.Logging.{Receives, Turns, LeavesOut, Sends};
 ghost use Rattle.told_messages.specs.Recording.{Records, unsent_text};
@@ -20,7 +20,7 @@ use exchange_log::Note;
 use gateway_core::SentMessage;
 use live_outlets::{Now, Written};
 use message_counts::{MessageTally, Taken};
-use page_board::{Board, Kind};
+use page_state::{Board, Kind};
 use std::net::SocketAddrV4;
 use told_messages::{Log, nobody, show, show_sent, show_turned};
 

@@ -17,7 +17,7 @@ use Rattle.bad_network.specs.declared.network.BadNetwork.{BadNetwork}
 use Rattle.bad_network.specs.declared.packet.Way.TheVariants.{In}
 use Rattle.bad_network.specs.Waiting.{copies_of, put_in, put_all}
 use Rattle.message_counts.specs.declared.reporting.Faults.{Faults}
-use Rattle.page_board.specs.Showing.{BoardState}
+use Rattle.page_state.specs.BoardShowing.{BoardState}
 use Rattle.gateway_core.specs.declared.sent.SentMessage.{SentMessage}
 use Rattle.gateway_core.specs.GatewayState.{GatewayState}
 use Rattle.surroundings.specs.Sending.{Received, Grows, found_by}

@@ -28,7 +28,7 @@ ghost use Rattle.traces.specs.Writing.{Input, arrived, passed};
 ghost use Rattle.gateway_core.specs.Wire.{counted};
 ghost use Rattle.message_counts.specs.Counting.{counts_in};
 ghost use Rattle.message_counts.specs.Tallying.{with_handed_out};
-ghost use Rattle.page_board.specs.declared.ring.Kind.TheVariants.{Sent as OfSent};
+ghost use Rattle.page_state.specs.declared.ring.Kind.TheVariants.{Sent as OfSent};
 ghost use Rattle.gateway_core.specs.declared.sent.SentMessage.{SentMessage};
 ghost use Rattle.told_messages.specs.Labelling.{sent_label};
 ghost use Rattle.told_messages.specs.Showing.{HappenedWith};
@@ -49,7 +49,7 @@ ghost use Rattle.turns.specs.Schedule.{next_of};
 ghost use Rattle.turns.specs.declared.turn.Turn.TheVariants.{Look, Wait};
 ghost use Rattle.surroundings.specs.Speaking.{anybody, nobody};
 ghost use Rattle.std.specs.Global.{Box};
-ghost use Rattle.page_board.specs.Showing.{BoardState};
+ghost use Rattle.page_state.specs.BoardShowing.{BoardState};
 ghost use Rattle.live_gateway.specs.Visiting.{AreReady, ClosesAt, ServesOnce};
 
 /// Where nothing changes of what may, nothing does. Neither a wait nor a visitor changes how much was read; without a turn the end stays.

@@ -14,7 +14,7 @@ ghost use Rattle.bad_network.specs.Waiting.{put_in};
 ghost use Rattle.gateway_core.specs.GatewayState.{GatewayState};
 ghost use Rattle.gateway_core.specs.Stands.{Stands};
 ghost use Rattle.gateway_core.specs.Wire.{counted};
-ghost use Rattle.page_board.specs.Showing.{BoardState};
+ghost use Rattle.page_state.specs.BoardShowing.{BoardState};
 ghost use Rattle.gateway_core.specs.declared.sent.SentMessage.{SentMessage};
 ghost use Rattle.plain_machine.specs.Event.{GatewayEvent};
 ghost use Rattle.plain_machine.specs.Lists.{plain};

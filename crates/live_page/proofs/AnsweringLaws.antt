@@ -9,7 +9,7 @@ use Rattle.page_access.specs.declared.asked.Asked.TheVariants.{Strange}
 use Rattle.page_access.specs.Asking.{is_at_home, is_by_name}
 use Rattle.page_access.specs.Naming.{names_of}
 use Rattle.page_access.proofs.AskingLaws.{asked_strange}
-use Rattle.page_board.specs.Showing.{BoardState}
+use Rattle.page_state.specs.BoardShowing.{BoardState}
 use Rattle.live_page.specs.declared.desk.Desk.{Desk}
 use Rattle.live_page.specs.Answering.{Answers}
 use Rattle.live_page.specs.Serving.{Answered}

@@ -15,7 +15,7 @@ use Rattle.page_access.specs.Naming.{names_of}
 use Rattle.page_access.specs.Places.{is_of, place_for}
 use Rattle.page_access.specs.Seating.{count_if, held_by, seated_at, AreFew}
 use Rattle.page_access.proofs.SeatingLaws.{none_few, seated_few}
-use Rattle.page_board.specs.Showing.{BoardState}
+use Rattle.page_state.specs.BoardShowing.{BoardState}
 use Rattle.live_page.specs.declared.site.Came.{Came}
 use Rattle.live_page.specs.declared.site.Came.TheVariants.{Nobody, Refused, LetIn, TurnedAway}
 use Rattle.live_page.specs.declared.site.Site.{Site}

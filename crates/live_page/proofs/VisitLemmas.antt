@@ -5,7 +5,7 @@ use Rattle.std.specs.declared.net.socket_addr.SocketAddrV4.{SocketAddrV4}
 use Rattle.http.specs.declared.request.Request.{Request}
 use Rattle.http_server.specs.declared.response.Response.{Response}
 use Rattle.http_server.specs.Exchange.{Call, Chain}
-use Rattle.page_board.specs.Showing.{BoardState}
+use Rattle.page_state.specs.BoardShowing.{BoardState}
 use Rattle.live_page.specs.declared.desk.Desk.{Desk}
 use Rattle.page_access.specs.declared.host_names.HostNames.{HostNames}
 use Rattle.live_page.specs.declared.visitor.Visitor.{Visitor}

@@ -12,11 +12,11 @@ use Rattle.live_ends.specs.declared.readiness.Readiness.{Readiness}
 use Rattle.live_ends.specs.declared.readiness.Visit.{Visit}
 use Rattle.live_ends.specs.declared.readiness.TheConstants.{MOST_VISITORS}
 use Rattle.live_ends.specs.Looking.{no_visit, may_have_more}
-use Rattle.gateway_metrics.specs.Sums.{sum_within}
+use Rattle.page_state.specs.Sums.{sum_within}
 use Rattle.page_access.specs.declared.places.Seat.{Seat}
 use Rattle.page_access.specs.Naming.{names_of}
 use Rattle.page_access.specs.Places.{place_for}
-use Rattle.page_board.specs.Showing.{BoardState}
+use Rattle.page_state.specs.BoardShowing.{BoardState}
 use Rattle.live_page.specs.declared.site.Came.{Came}
 use Rattle.live_page.specs.declared.site.Came.TheVariants.{Nobody, Refused, LetIn, TurnedAway}
 use Rattle.live_page.specs.declared.site.Site.{Site}

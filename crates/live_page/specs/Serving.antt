@@ -7,11 +7,11 @@ use Rattle.page_files.specs.declared.script.TheConstants.{SCRIPT}
 use Rattle.page_files.specs.declared.style.TheConstants.{STYLE}
 use Rattle.page_answers.specs.declared.answers.ActOutcome.{ActOutcome}
 use Rattle.page_answers.specs.Outcomes.{Becomes}
-use Rattle.page_board.specs.Showing.{BoardState}
-use Rattle.gateway_metrics.specs.Metrics.{metrics_of}
+use Rattle.page_state.specs.BoardShowing.{BoardState}
+use Rattle.page_state.specs.Metrics.{metrics_of}
 use Rattle.page_answers.specs.Texts.{TellsState}
 use Rattle.page_answers.specs.Telling.{events_text}
-use Rattle.page_board.specs.Health.{is_alive}
+use Rattle.page_state.specs.Health.{is_alive}
 use Rattle.live_page.specs.Health.{alive_text, ready_text}
 use Rattle.page_access.specs.declared.route.Route.{Route}
 use Rattle.page_access.specs.declared.route.Route.TheVariants.{Page, Style, Script, State, Metrics, Health, Ready, Events, Phone, Nothing}

@@ -13,11 +13,11 @@ use Rattle.http_server.specs.declared.state.Config.{Config}
 use Rattle.http_server.specs.Connection.{config_of, history}
 use Rattle.http_server.specs.Exchange.{Call, Chain}
 use Rattle.http_server.specs.History.{IsDone, IsQuiet, Rests, WantsRead, new_history, after_read, after_sent}
-use Rattle.gateway_metrics.specs.Sums.{sum_within}
+use Rattle.page_state.specs.Sums.{sum_within}
 use Rattle.live_ends.specs.declared.readiness.Visit.{Visit}
 use Rattle.live_ends.specs.Looking.{is_visit}
 use Rattle.page_access.specs.Asking.{asked_of}
-use Rattle.page_board.specs.Showing.{BoardState}
+use Rattle.page_state.specs.BoardShowing.{BoardState}
 use Rattle.live_page.specs.declared.visitor.Visitor.{Visitor}
 use Rattle.live_page.specs.Serving.{Answered}
 

@@ -15,7 +15,7 @@ use http::{HeaderValue, Request, StatusCode, header};
 use http_server::{Response, Service};
 use page_access::{Asked, HostNames, Route, asked_of};
 use page_answers::{ActOutcome, act_on, events_of, state_of};
-use page_board::Board;
+use page_state::Board;
 use std::alloc::{AllocError, Global};
 use std::net::SocketAddrV4;
 

@@ -17,7 +17,7 @@ ghost use Rattle.http_server.specs.Exchange.{Call, Chain};
 ghost use Rattle.http_server.specs.History.{IsDone, WantsRead};
 ghost use Rattle.live_ends.specs.declared.readiness.TheConstants.{MOST_VISITORS};
 ghost use Rattle.live_ends.specs.Looking.{no_visit};
-ghost use Rattle.page_board.specs.Showing.{BoardState};
+ghost use Rattle.page_state.specs.BoardShowing.{BoardState};
 ghost use Rattle.page_files.specs.declared.page.TheConstants.{PAGE};
 ghost use Rattle.page_files.specs.declared.script.TheConstants.{SCRIPT};
 ghost use Rattle.page_files.specs.declared.style.TheConstants.{STYLE};

@@ -8,7 +8,7 @@ ghost use Rattle.page_access.specs.Asking.{is_at_home, is_by_name, may_change};
 ghost use Rattle.page_access.specs.Naming.{names_of};
 ghost use Rattle.live_ends.specs.declared.readiness.Readiness.{Readiness};
 ghost use Rattle.page_access.specs.Seating.{AreFew};
-ghost use Rattle.page_board.specs.Showing.{BoardState};
+ghost use Rattle.page_state.specs.BoardShowing.{BoardState};
 ghost use Rattle.live_page.specs.declared.desk.Desk.{Desk};
 ghost use Rattle.live_page.specs.declared.site.Site.{Site};
 ghost use Rattle.live_page.specs.Answering.{Answers};

@@ -6,7 +6,7 @@ ghost use Rattle.live_page.specs.Visiting.{AnswersBy};
 use crate::desk::Desk;
 use http_server::{Config, Connection, serve};
 use page_access::HostNames;
-use page_board::Board;
+use page_state::Board;
 use std::alloc::Global;
 use std::hash::RandomState;
 use std::io;

@@ -8,7 +8,7 @@ ghost use Rattle.page_access.specs.Naming.{names_of};
 use crate::site::Site;
 use live_ends::Readiness;
 use page_access::HostNames;
-use page_board::Board;
+use page_state::Board;
 use std::alloc::Global;
 use std::io;
 use std::net::{Net, SocketAddrV4};
@@ -19,7 +19,7 @@ pub trait Reception: Drop {
     ghost use Rattle.std.specs.Prelude.{ℕ, Bool, List, Option};
     ghost use Rattle.std.specs.declared.net.socket_addr.SocketAddrV4.{SocketAddrV4};
     ghost use Rattle.live_ends.specs.declared.readiness.Readiness.{Readiness};
-    ghost use Rattle.page_board.specs.Showing.{BoardState};
+    ghost use Rattle.page_state.specs.BoardShowing.{BoardState};
 
     /// Nobody is there yet, and it may be asked under these further names.
     ghost opens: { List (List ℕ) → Self → Type 0 };

@@ -14,7 +14,7 @@ use crate::visitor::Visitor;
 use live_ends::{MOST_VISITORS, Readiness, Visit, may_have_more};
 use mio::net::{TcpListener, TcpStream};
 use page_access::{HostNames, Seat, place_for};
-use page_board::Board;
+use page_state::Board;
 use std::alloc::{AllocError, Global};
 use std::hash::RandomState;
 use std::io;

@@ -2,10 +2,10 @@
 use Rattle.std.proofs.Common.{◌≡◌, ◌≢◌, sym, ap, ◌∙◌, subst, Option, Some}
 use Rattle.std.specs.Global.{Box}
 use Rattle.std.specs.Box.{with_value}
-use Rattle.gateway_metrics.specs.declared.picture.Picture.{Picture}
-use Rattle.gateway_metrics.specs.Showing.{lines_of}
-use Rattle.gateway_metrics.specs.Sums.{next_number}
-use Rattle.page_board.specs.Showing.{BoardState}
+use Rattle.page_state.specs.declared.picture.Picture.{Picture}
+use Rattle.page_state.specs.MetricsShowing.{lines_of}
+use Rattle.page_state.specs.Sums.{next_number}
+use Rattle.page_state.specs.BoardShowing.{BoardState}
 use Rattle.live_telephones.specs.Paging.{Shows, ShowsOn}
 
 -- it shows this picture, under a number that is so by that

@@ -1,10 +1,10 @@
 -- What the page is shown of what was counted.
 use Rattle.std.specs.Prelude.{ℕ, ◌+◌, ◌++◌, ◌==◌, nat_lt, min, if◌then◌else◌, codes, List, [], ◌∷◌, length, map, slice_index}
 use Rattle.mgcp_text.specs.declared.message.Verb.TheVariants.{Ntfy, Rsip}
-use Rattle.gateway_metrics.specs.declared.counts.CodeCount.{CodeCount}
-use Rattle.gateway_metrics.specs.declared.counts.Counts.{Counts}
-use Rattle.gateway_metrics.specs.declared.counts.FileCount.{FileCount}
-use Rattle.gateway_metrics.specs.declared.counts.VerbCount.{VerbCount}
+use Rattle.page_state.specs.declared.counts.CodeCount.{CodeCount}
+use Rattle.page_state.specs.declared.counts.Counts.{Counts}
+use Rattle.page_state.specs.declared.counts.FileCount.{FileCount}
+use Rattle.page_state.specs.declared.counts.VerbCount.{VerbCount}
 use Rattle.message_counts.specs.SentCounting.{place_of}
 use Rattle.live_journal.specs.declared.journal.Journal.{Journal}
 use Rattle.message_counts.specs.declared.message_tally.MessageTally.{MessageTally}

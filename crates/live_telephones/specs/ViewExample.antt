@@ -4,7 +4,7 @@ use Rattle.packages.specs.declared.signal.Signal.TheVariants.{DialTone}
 use Rattle.connections.specs.declared.connection.Connection.{Connection}
 use Rattle.line_changes.specs.Example.{held, talking, lifted, until}
 use Rattle.line_changes.specs.Seen.{SeenLine}
-use Rattle.gateway_metrics.specs.Showing.{SignalShown, ConnectionShown, LineShown}
+use Rattle.page_state.specs.MetricsShowing.{SignalShown, ConnectionShown, LineShown}
 
 -- dial tone is heard up to 16,001, and connection 10 stands
 abbrev pub dialling : SeenLine

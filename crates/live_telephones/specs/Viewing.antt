@@ -14,10 +14,10 @@ use Rattle.plain_machine.specs.Lists.{connections_of, lost_of}
 use Rattle.line_changes.specs.declared.seen.SeenConnection.{SeenConnection}
 use Rattle.line_changes.specs.Changes.{codec_text}
 use Rattle.line_changes.specs.Seen.{SeenLine}
-use Rattle.gateway_metrics.specs.declared.picture.SignalView.{SignalView}
-use Rattle.gateway_metrics.specs.declared.picture.ConnectionView.{ConnectionView}
-use Rattle.gateway_metrics.specs.declared.picture.LineView.{LineView}
-use Rattle.gateway_metrics.specs.Showing.{SignalShown, ConnectionShown, LineShown, signal_shown, connection_shown, line_shown}
+use Rattle.page_state.specs.declared.picture.SignalView.{SignalView}
+use Rattle.page_state.specs.declared.picture.ConnectionView.{ConnectionView}
+use Rattle.page_state.specs.declared.picture.LineView.{LineView}
+use Rattle.page_state.specs.MetricsShowing.{SignalShown, ConnectionShown, LineShown, signal_shown, connection_shown, line_shown}
 use Rattle.live_telephones.specs.Seeing.{seen_of}
 
 -- the handset is lifted

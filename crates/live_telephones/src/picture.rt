@@ -6,7 +6,7 @@ ghost use Rattle.plain_machine.specs.Lists.{plain};
 ghost use Rattle.plain_machine.specs.Machine.{serves};
 ghost use Rattle.gateway_core.specs.Remembering.{remembered};
 ghost use Rattle.gateway_core.specs.Stands.{Stands};
-ghost use Rattle.gateway_metrics.specs.Showing.{connection_shown, line_shown};
+ghost use Rattle.page_state.specs.MetricsShowing.{connection_shown, line_shown};
 ghost use Rattle.live_telephones.specs.Picturing.{with_traffic, with_own, with_faults, with_numbers, by_name, capture_written, files_written, verbs_from, codes_at, codes_from};
 ghost use Rattle.live_telephones.specs.Viewing.{is_off, signal_viewed, signals_viewed, remote_text, call_of, connection_viewed, connections_viewed, viewed, line_viewed, lines_viewed, signals_in, connections_in, lines_in};
 
@@ -14,7 +14,7 @@ use crate::seeing::seen_line;
 use connections::{Connection, mode_text};
 use exchange_log::put_peer;
 use gateway_core::Gateway;
-use gateway_metrics::{
+use page_state::{
     CodeCount, ConnectionView, Counts, FileCount, LineView, Picture, SignalView, VerbCount,
 };
 use line_changes::{SeenConnection, SeenLine, codec_text};

@@ -3,7 +3,7 @@ use Rattle.std.specs.Prelude.{ℕ, ◌+◌, ◌==◌, if◌then◌else◌, codes
 use Rattle.std.specs.List.{flat_map}
 use Rattle.std.specs.Borrow.{Bor}
 use Rattle.mgcp_text.specs.declared.message.Verb.TheVariants.{Ntfy, Rsip}
-use Rattle.gateway_metrics.specs.Metrics.{code_text}
+use Rattle.page_state.specs.Metrics.{code_text}
 use Rattle.message_counts.specs.SentCounting.{place_of, tally_in, all_given_up}
 use Rattle.message_counts.specs.declared.message_tally.MessageTally.{MessageTally}
 use Rattle.message_counts.specs.declared.reporting.Faults.{Faults}

@@ -6,7 +6,7 @@ ghost use Rattle.message_counts.specs.Places.{is_same, no_sends, place_in, place
 use crate::waiting::is_own;
 use endpoint_names::Route;
 use gateway_core::SentMessage;
-use gateway_metrics::PLACES;
+use page_state::PLACES;
 use small_rules::count;
 use std::net::SocketAddrV4;
 

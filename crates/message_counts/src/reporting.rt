@@ -1,7 +1,7 @@
 //! What is told at the end: counts, one kind a line.
 ghost use Rattle.std.specs.Prelude.{◌≡◌, ◌++◌, IfOk};
 ghost use Rattle.std.specs.List.{flat_map};
-ghost use Rattle.gateway_metrics.specs.Metrics.{code_text};
+ghost use Rattle.page_state.specs.Metrics.{code_text};
 ghost use Rattle.message_counts.specs.Reporting.{told, entry_text, datagrams_text, verbs_text, commands_text, texts_text, answer_text, answers_from, traffic_text, own_text, lost_text, others_text, report_text};
 
 use crate::message_tally::MessageTally;

@@ -1,7 +1,7 @@
 -- The definitions opened, so that worked examples compute.
 use Rattle.std.specs.Prelude.{⊤}
 use Rattle.hex.specs.Hex.{encode_with}
-use Rattle.page_board.proofs.Computing.{on_examples as board_examples}
+use Rattle.page_state.proofs.BoardComputing.{on_examples as board_examples}
 use Rattle.serde_json.proofs.OnLiterals.{serde_json_on_literals}
 use Rattle.page_answers.specs.Acting.{queued_in}
 use Rattle.page_answers.specs.Labelling.{message_word}

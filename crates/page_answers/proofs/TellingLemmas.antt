@@ -8,8 +8,8 @@ use Rattle.hex.specs.Hex.{encode_lower}
 use Rattle.serde_json.specs.Data.{Data, array, boolean, string, object, no_members, put}
 use Rattle.serde_json.specs.View.{view, items_of}
 use Rattle.serde_json.specs.Written.{has_float, items_have_float, compact_text, IsInOrder}
-use Rattle.page_board.specs.declared.label.MessageLabel.{MessageLabel}
-use Rattle.page_board.specs.Keeping.{Event, RingState}
+use Rattle.page_state.specs.declared.label.MessageLabel.{MessageLabel}
+use Rattle.page_state.specs.Keeping.{Event, RingState}
 use Rattle.page_answers.specs.Labelling.{label_data, with_said}
 use Rattle.page_answers.specs.declared.telling.TheConstants.{MOST_TOLD}
 use Rattle.page_answers.specs.Telling.{event_data, put_circumstances, told_after, last_number, next_after, is_any, has_more, first_number, events_data}

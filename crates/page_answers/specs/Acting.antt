@@ -4,9 +4,9 @@ use Rattle.serde_json.specs.Data.{Data}
 use Rattle.serde_json.specs.Find.{get, as_number, as_u64, as_str}
 use Rattle.serde_json.specs.Read.{read}
 use Rattle.mg_bytes.specs.Option.{◌>>=◌}
-use Rattle.page_board.specs.declared.act.PhoneAct.{PhoneAct}
-use Rattle.page_board.specs.declared.act.QueuedAct.{QueuedAct}
-use Rattle.page_board.specs.Acts.{act_named}
+use Rattle.page_state.specs.declared.act.PhoneAct.{PhoneAct}
+use Rattle.page_state.specs.declared.act.QueuedAct.{QueuedAct}
+use Rattle.page_state.specs.Acts.{act_named}
 
 -- a line's number, from 1
 abbrev pub line_from : ℕ → Option ℕ

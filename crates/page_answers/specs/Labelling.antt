@@ -2,9 +2,9 @@
 use Rattle.std.specs.Prelude.{ℕ, codes, List, [], ◌∷◌, map}
 use Rattle.serde_json.specs.Data.{Data, string, array, object, Members, no_members, put}
 use Rattle.serde_json.specs.View.{items_of}
-use Rattle.page_board.specs.declared.label.MessageKind.{MessageKind}
-use Rattle.page_board.specs.declared.label.MessageKind.TheVariants as kinds
-use Rattle.page_board.specs.declared.label.MessageLabel.{MessageLabel}
+use Rattle.page_state.specs.declared.label.MessageKind.{MessageKind}
+use Rattle.page_state.specs.declared.label.MessageKind.TheVariants as kinds
+use Rattle.page_state.specs.declared.label.MessageLabel.{MessageLabel}
 use Rattle.page_answers.specs.Texts.{number_data}
 
 unfoldable pub message_word : MessageKind → List ℕ

@@ -1,11 +1,11 @@
 -- What becomes of what a body asks for.
 use Rattle.std.specs.Prelude.{◌≡◌, ◌≢◌, ◌≤◌, ◌<◌, ℕ, List, length, IsSome, IsUtf8, Some, None}
-use Rattle.page_board.specs.declared.act.QueuedAct.{QueuedAct}
+use Rattle.page_state.specs.declared.act.QueuedAct.{QueuedAct}
 use Rattle.page_answers.specs.declared.answers.ActOutcome.{ActOutcome}
 use Rattle.page_answers.specs.declared.answers.ActOutcome.TheVariants.{Queued, NoRoom, Unreadable}
-use Rattle.page_board.specs.declared.board.TheConstants.{MOST_ACTS}
+use Rattle.page_state.specs.declared.board.TheConstants.{MOST_ACTS}
 use Rattle.page_answers.specs.Acting.{asked_by}
-use Rattle.page_board.specs.Showing.{BoardState, queued_behind}
+use Rattle.page_state.specs.BoardShowing.{BoardState, queued_behind}
 
 pub record Becomes (old : BoardState) (body : List ℕ) (outcome : ActOutcome) (new : BoardState) : Type 0 where
   -- the very act that the body asks for waits

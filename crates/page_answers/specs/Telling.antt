@@ -5,11 +5,11 @@ use Rattle.hex.specs.Hex.{encode_lower}
 use Rattle.serde_json.specs.Data.{Data, boolean, string, array, object, Members, no_members, put}
 use Rattle.serde_json.specs.View.{items_of}
 use Rattle.serde_json.specs.Written.{compact_text}
-use Rattle.page_board.specs.declared.ring.Kind.{Kind}
-use Rattle.page_board.specs.declared.ring.Kind.TheVariants.{Received, Sent, Act, Told, GivenUp}
+use Rattle.page_state.specs.declared.ring.Kind.{Kind}
+use Rattle.page_state.specs.declared.ring.Kind.TheVariants.{Received, Sent, Act, Told, GivenUp}
 use Rattle.page_answers.specs.declared.telling.TheConstants.{MOST_TOLD}
-use Rattle.page_board.specs.Keeping.{Event, RingState}
-use Rattle.gateway_metrics.specs.Sums.{next_number}
+use Rattle.page_state.specs.Keeping.{Event, RingState}
+use Rattle.page_state.specs.Sums.{next_number}
 use Rattle.page_answers.specs.Labelling.{with_said}
 use Rattle.page_answers.specs.Texts.{put_number, put_shown}
 

@@ -4,18 +4,18 @@ use Rattle.std.specs.Str.Lossy.{utf8_lossy}
 use Rattle.serde_json.specs.Data.{Data, null, boolean, number, unsigned, string, array, object, Members, no_members, put}
 use Rattle.serde_json.specs.View.{items_of}
 use Rattle.serde_json.specs.Written.{IsInOrder}
-use Rattle.gateway_metrics.specs.declared.counts.VerbCount.{VerbCount}
-use Rattle.gateway_metrics.specs.declared.counts.CodeCount.{CodeCount}
-use Rattle.gateway_metrics.specs.declared.counts.Counts.{Counts}
-use Rattle.gateway_metrics.specs.declared.picture.SignalView.{SignalView}
-use Rattle.gateway_metrics.specs.declared.picture.ConnectionView.{ConnectionView}
-use Rattle.gateway_metrics.specs.declared.picture.LineView.{LineView}
-use Rattle.gateway_metrics.specs.declared.picture.Picture.{Picture}
-use Rattle.gateway_metrics.specs.Answering.{agent_answers}
-use Rattle.gateway_metrics.specs.Sums.{sum_within}
-use Rattle.gateway_metrics.specs.Metrics.{code_text}
-use Rattle.gateway_metrics.specs.Totals.{totals_of}
-use Rattle.gateway_metrics.specs.Verbs.{verb_word}
+use Rattle.page_state.specs.declared.counts.VerbCount.{VerbCount}
+use Rattle.page_state.specs.declared.counts.CodeCount.{CodeCount}
+use Rattle.page_state.specs.declared.counts.Counts.{Counts}
+use Rattle.page_state.specs.declared.picture.SignalView.{SignalView}
+use Rattle.page_state.specs.declared.picture.ConnectionView.{ConnectionView}
+use Rattle.page_state.specs.declared.picture.LineView.{LineView}
+use Rattle.page_state.specs.declared.picture.Picture.{Picture}
+use Rattle.page_state.specs.Answering.{agent_answers}
+use Rattle.page_state.specs.Sums.{sum_within}
+use Rattle.page_state.specs.Metrics.{code_text}
+use Rattle.page_state.specs.Totals.{totals_of}
+use Rattle.page_state.specs.Verbs.{verb_word}
 
 abbrev pub put_number : List ℕ → ℕ → Members → Members
 put_number name n members = put name (number (unsigned n)) members

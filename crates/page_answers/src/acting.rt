@@ -4,7 +4,7 @@ ghost use Rattle.serde_json.specs.View.{view};
 ghost use Rattle.page_answers.specs.Acting.{queued_in as queued_of, asked_by};
 
 use mg_bytes::OutOfMemory;
-use page_board::{QueuedAct, act_named};
+use page_state::{QueuedAct, act_named};
 use serde_json::Value;
 use std::alloc::{AllocError, Global};
 

@@ -3,12 +3,12 @@ ghost use Rattle.std.specs.Prelude.{◌≡◌, ◌≤◌, length, IfOk, OnErr, s
 ghost use Rattle.page_answers.specs.Outcomes.{Becomes};
 ghost use Rattle.page_answers.specs.Telling.{events_text as text_of_events};
 ghost use Rattle.page_answers.specs.Texts.{TellsState};
-ghost use Rattle.page_board.specs.declared.board.TheConstants.{MOST_ACTS};
+ghost use Rattle.page_state.specs.declared.board.TheConstants.{MOST_ACTS};
 
 use crate::acting::read_act;
 use crate::state::state_text;
 use crate::telling::events_text;
-use page_board::Board;
+use page_state::Board;
 use std::alloc::{AllocError, Global};
 
 /// What becomes of what a body asks for.

@@ -7,11 +7,11 @@ ghost use Rattle.page_answers.specs.Example.{asks};
 ghost use Rattle.page_answers.specs.Labelling.{message_word, label_data};
 ghost use Rattle.page_answers.specs.Telling.{kind_word, event_data, told_after, next_after, has_more, first_number, events_text};
 ghost use Rattle.page_answers.specs.Texts.{put_shown, state_data};
-ghost use Rattle.page_board.specs.declared.act.PhoneAct.TheVariants.{Off, Key};
-ghost use Rattle.page_board.specs.declared.label.MessageKind.TheVariants as messages;
-ghost use Rattle.page_board.specs.declared.ring.Kind.TheVariants.{Received, Sent, Act, Told, GivenUp};
-ghost use Rattle.page_board.specs.Example.{queued, ring_at, lifted, answered, sent_answer, noise};
-ghost use Rattle.page_board.specs.Keeping.{nothing_yet};
+ghost use Rattle.page_state.specs.declared.act.PhoneAct.TheVariants.{Off, Key};
+ghost use Rattle.page_state.specs.declared.label.MessageKind.TheVariants as messages;
+ghost use Rattle.page_state.specs.declared.ring.Kind.TheVariants.{Received, Sent, Act, Told, GivenUp};
+ghost use Rattle.page_state.specs.Example.{queued, ring_at, lifted, answered, sent_answer, noise};
+ghost use Rattle.page_state.specs.Keeping.{nothing_yet};
 ghost use Rattle.serde_json.specs.Data.{number, unsigned, boolean, object, member, no_members, null};
 ghost use Rattle.serde_json.specs.Written.{compact_text};
 

@@ -6,7 +6,7 @@ ghost use Rattle.page_answers.specs.Objects.{Holds};
 
 use crate::members::Object;
 use crate::told::{Told, list_value};
-use page_board::{MessageKind, MessageLabel};
+use page_state::{MessageKind, MessageLabel};
 use serde_json::Value;
 use std::alloc::{AllocError, Global};
 

@@ -1,11 +1,11 @@
 //! Laws of what becomes of what the page asks for, part by part.
 ghost use Rattle.std.specs.Prelude.{◌≡◌, ◌≤◌, ◌<◌, ℕ, List, [], ◌∷◌, ◌++◌, length, IsSome, IsUtf8, Some, None};
-ghost use Rattle.page_board.specs.declared.act.QueuedAct.{QueuedAct};
+ghost use Rattle.page_state.specs.declared.act.QueuedAct.{QueuedAct};
 ghost use Rattle.page_answers.specs.declared.answers.ActOutcome.TheVariants.{Queued, NoRoom, Unreadable};
-ghost use Rattle.page_board.specs.declared.board.TheConstants.{MOST_ACTS};
+ghost use Rattle.page_state.specs.declared.board.TheConstants.{MOST_ACTS};
 ghost use Rattle.page_answers.specs.Acting.{asked_by};
 ghost use Rattle.page_answers.specs.Outcomes.{Becomes};
-ghost use Rattle.page_board.specs.Showing.{BoardState};
+ghost use Rattle.page_state.specs.BoardShowing.{BoardState};
 
 /// What is asked for waits behind the others, as it was asked for, where fewer than 32 wait, and the page is shown the same; what is
 /// refused changes nothing.

@@ -7,7 +7,7 @@ ghost use Rattle.page_answers.specs.Texts.{TellsState, hook_word, with_verb, wit
 
 use crate::members::Object;
 use crate::told::{Told, list_value};
-use gateway_metrics::{
+use page_state::{
     CodeCount, ConnectionView, Counts, LineView, Picture, SignalView, VerbCount, code_digits,
     verb_word,
 };

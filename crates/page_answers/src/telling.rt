@@ -1,12 +1,12 @@
 //! What happened, as JSON. What came from outside goes in hexadecimal digits alone.
 ghost use Rattle.std.specs.Prelude.{◌≡◌, ◌==◌, ◌&&◌, not, nat_lt, length, [], map, IfOk, OnOk, string_bytes};
 ghost use Rattle.serde_json.specs.View.{view};
-ghost use Rattle.page_board.specs.Keeping.{event_of};
+ghost use Rattle.page_state.specs.Keeping.{event_of};
 ghost use Rattle.page_answers.specs.Telling.{kind_word as word_of_kind, event_data, told_after, next_after, first_number, events_text as text_of_events};
 
 use crate::label::put_said;
 use crate::members::Object;
-use page_board::{Happening, Kind, Ring};
+use page_state::{Happening, Kind, Ring};
 use serde_json::Value;
 use std::alloc::{AllocError, Global};
 

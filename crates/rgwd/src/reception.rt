@@ -2,7 +2,7 @@
 use live_ends::Live;
 use live_gateway::Visitors;
 use live_page::Reception;
-use page_board::Board;
+use page_state::Board;
 use std::cell::Cell;
 use std::net::Net;
 use std::random::RandomSource;

@@ -1,6 +1,6 @@
 -- The definitions opened, so that worked examples compute.
 use Rattle.std.specs.Prelude.{⊤}
-use Rattle.page_board.specs.Keeping.{latest_said}
+use Rattle.page_state.specs.Keeping.{latest_said}
 use Rattle.message_counts.proofs.Computing.{on_examples as count_examples}
 use Rattle.mgcp_text.proofs.PiggybackComputing.{on_examples as part_examples}
 use Rattle.transmission.specs.Texts.{texts_of}

@@ -2,8 +2,8 @@
 use Rattle.std.proofs.Common.{◌≡◌, ℕ, ◌≤◌, List, [], ◌∷◌, length, map, Option, Some, sym, subst, arith}
 use Rattle.std.specs.Box.{with_value}
 use Rattle.std.specs.Global.{Box}
-use Rattle.page_board.specs.declared.ring.Kind.TheVariants.{GivenUp}
-use Rattle.page_board.specs.Showing.{BoardState}
+use Rattle.page_state.specs.declared.ring.Kind.TheVariants.{GivenUp}
+use Rattle.page_state.specs.BoardShowing.{BoardState}
 use Rattle.plain_machine.specs.declared.given_up.GivenUpCommand.{GivenUpCommand}
 use Rattle.told_messages.specs.Labelling.{given_up_label}
 use Rattle.told_messages.specs.Showing.{nobody, GoesOn, HappenedWith, GaveUp}

@@ -1,8 +1,8 @@
 -- What is told in the worked examples.
 use Rattle.std.specs.Prelude.{ℕ, List, Option}
 use Rattle.exchange_log.specs.declared.stamp.Stamp.{Stamp}
-use Rattle.page_board.specs.declared.label.MessageKind.{MessageKind}
-use Rattle.page_board.specs.declared.label.MessageLabel.{MessageLabel}
+use Rattle.page_state.specs.declared.label.MessageKind.{MessageKind}
+use Rattle.page_state.specs.declared.label.MessageLabel.{MessageLabel}
 use Rattle.message_counts.specs.Example.{host}
 use Rattle.told_messages.specs.declared.log.OwnCommand.{OwnCommand}
 use Rattle.told_messages.specs.declared.strangers.Quiet.{Quiet}

@@ -4,9 +4,9 @@ use Rattle.gateway_core.specs.declared.outcome.Reply.{Reply}
 use Rattle.gateway_core.specs.declared.outcome.Reply.TheVariants as replies
 use Rattle.gateway_core.specs.declared.outcome.TextOutcome.{TextOutcome}
 use Rattle.gateway_core.specs.declared.outcome.TextOutcome.TheVariants as texts
-use Rattle.page_board.specs.declared.label.MessageKind.{MessageKind}
-use Rattle.page_board.specs.declared.label.MessageKind.TheVariants as kinds
-use Rattle.page_board.specs.declared.label.MessageLabel.{MessageLabel}
+use Rattle.page_state.specs.declared.label.MessageKind.{MessageKind}
+use Rattle.page_state.specs.declared.label.MessageKind.TheVariants as kinds
+use Rattle.page_state.specs.declared.label.MessageLabel.{MessageLabel}
 use Rattle.plain_machine.specs.declared.given_up.GivenUpCommand.{GivenUpCommand}
 use Rattle.gateway_core.specs.declared.sent.SentMessage.{SentMessage}
 use Rattle.plain_machine.specs.declared.label.What.{What}

@@ -3,11 +3,11 @@ use Rattle.std.specs.Prelude.{◌≡◌, ◌⊎◌, ℕ, List, [], ◌∷◌, ma
 use Rattle.std.specs.Global.{Box}
 use Rattle.std.specs.declared.net.socket_addr.SocketAddrV4.{SocketAddrV4}
 use Rattle.gateway_core.specs.declared.outcome.TextOutcome.{TextOutcome}
-use Rattle.page_board.specs.declared.label.MessageLabel.{MessageLabel}
-use Rattle.page_board.specs.declared.ring.Kind.{Kind}
-use Rattle.page_board.specs.declared.ring.Kind.TheVariants.{GivenUp}
-use Rattle.page_board.specs.Keeping.{noted, counted, labelled}
-use Rattle.page_board.specs.Showing.{BoardState}
+use Rattle.page_state.specs.declared.label.MessageLabel.{MessageLabel}
+use Rattle.page_state.specs.declared.ring.Kind.{Kind}
+use Rattle.page_state.specs.declared.ring.Kind.TheVariants.{GivenUp}
+use Rattle.page_state.specs.Keeping.{noted, counted, labelled}
+use Rattle.page_state.specs.BoardShowing.{BoardState}
 use Rattle.plain_machine.specs.declared.given_up.GivenUpCommand.{GivenUpCommand}
 use Rattle.told_messages.specs.Labelling.{text_label, given_up_label}
 

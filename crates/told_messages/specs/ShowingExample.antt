@@ -1,10 +1,10 @@
 -- What the page is shown in the worked examples.
 use Rattle.std.specs.Prelude.{◌≡◌, ℕ, List, [], ◌∷◌, codes, Some, None}
-use Rattle.page_board.specs.declared.label.MessageKind.TheVariants as kinds
-use Rattle.page_board.specs.declared.label.MessageLabel.{MessageLabel}
-use Rattle.page_board.specs.declared.ring.Kind.TheVariants.{Received, Sent, GivenUp}
-use Rattle.page_board.specs.Keeping.{Event}
-use Rattle.page_board.specs.Showing.{BoardState}
+use Rattle.page_state.specs.declared.label.MessageKind.TheVariants as kinds
+use Rattle.page_state.specs.declared.label.MessageLabel.{MessageLabel}
+use Rattle.page_state.specs.declared.ring.Kind.TheVariants.{Received, Sent, GivenUp}
+use Rattle.page_state.specs.Keeping.{Event}
+use Rattle.page_state.specs.BoardShowing.{BoardState}
 use Rattle.message_counts.specs.Example.{host}
 use Rattle.told_messages.specs.Example.{shown}
 

@@ -6,7 +6,7 @@ ghost use Rattle.mgcp_text.specs.declared.message.Verb.TheVariants.{Rqnt, Ntfy};
 ghost use Rattle.command_forms.specs.declared.refused.FaultyPart.TheVariants.{Value};
 ghost use Rattle.gateway_core.specs.declared.outcome.Reply.TheVariants.{First, Again, Silence, NoRoom};
 ghost use Rattle.gateway_core.specs.declared.outcome.TextOutcome.TheVariants.{NoMessage, Command, Response};
-ghost use Rattle.page_board.specs.declared.label.MessageKind.TheVariants as kinds;
+ghost use Rattle.page_state.specs.declared.label.MessageKind.TheVariants as kinds;
 ghost use Rattle.plain_machine.specs.declared.label.What.TheVariants as whats;
 ghost use Rattle.plain_machine.specs.declared.label.Whose.TheVariants.{AnswerOf, OwnOf, Nobody};
 ghost use Rattle.message_counts.specs.Example.{said_of};

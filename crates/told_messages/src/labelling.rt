@@ -7,7 +7,7 @@ ghost use Rattle.told_messages.specs.Labelling.{sent_label as label_of_sent, giv
 use gateway_core::{GivenUpCommand, Reply, SentMessage, TextOutcome, What, Whose};
 use mg_bytes::OutOfMemory;
 use mgcp_text::TransactionId;
-use page_board::{MessageKind, MessageLabel};
+use page_state::{MessageKind, MessageLabel};
 use std::alloc::Global;
 
 // A text that came, with the return code of the answer that it gets, if it gets one.

@@ -1,13 +1,13 @@
 //! What the page is shown of what goes over the wire.
 ghost use Rattle.std.specs.Prelude.{◌≡◌, map};
-ghost use Rattle.page_board.specs.declared.ring.Kind.TheVariants.{Sent};
+ghost use Rattle.page_state.specs.declared.ring.Kind.TheVariants.{Sent};
 ghost use Rattle.told_messages.specs.Labelling.{text_label, sent_label, given_up_label};
 ghost use Rattle.told_messages.specs.Showing.{nobody as of_nobody, Happened, Labelled, HappenedWith, HadTexts, GaveUp, Turned};
 
 use crate::labelling::{given_up_labels, sent_labels, text_labels};
 use gateway_core::{GivenUpCommand, SentMessage, TextOutcome};
 use message_counts::Taken;
-use page_board::{Board, Kind, MessageLabel};
+use page_state::{Board, Kind, MessageLabel};
 use std::alloc::Global;
 use std::net::{Ipv4Addr, SocketAddrV4};
 

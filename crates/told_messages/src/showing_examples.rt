@@ -4,9 +4,9 @@
 ghost use Rattle.std.specs.Prelude.{◌≡◌, codes, Option, None, Some, [], ◌∷◌};
 ghost use Rattle.std.specs.Global.{Box};
 ghost use Rattle.gateway_core.specs.declared.outcome.TextOutcome.TheVariants.{NoMessage};
-ghost use Rattle.page_board.specs.declared.ring.Kind.TheVariants.{Sent};
-ghost use Rattle.gateway_metrics.specs.Sums.{next_number};
-ghost use Rattle.page_board.specs.Showing.{BoardState};
+ghost use Rattle.page_state.specs.declared.ring.Kind.TheVariants.{Sent};
+ghost use Rattle.page_state.specs.Sums.{next_number};
+ghost use Rattle.page_state.specs.BoardShowing.{BoardState};
 ghost use Rattle.message_counts.specs.Example.{host};
 ghost use Rattle.message_counts.specs.SentExample.{lost};
 ghost use Rattle.told_messages.specs.Showing.{GoesOn, Happened, Labelled, HappenedWith, HadTexts, GaveUp, Turned};

@@ -8,7 +8,7 @@ use crate::stories::{Clocks, Machine, Transcript, Visit};
 use live_gateway::Visitors;
 use live_page::answer_to;
 use page_access::HostNames;
-use page_board::Board;
+use page_state::Board;
 use scenario_files::parted;
 use std::alloc::Global;
 use std::collections::VecDeque;

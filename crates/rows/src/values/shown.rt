@@ -6,7 +6,7 @@
 //! agent that owes an answer since then.
 use crate::texts::{is_word, words_of};
 use crate::values::capturing::number_of;
-use gateway_metrics::{
+use page_state::{
     CodeCount, ConnectionView, Counts, FileCount, LineView, Picture, SignalView, VerbCount,
     metrics_text,
 };

@@ -1,8 +1,8 @@
 use Rattle.std.proofs.Common.{◌≡◌, ◌≢◌, List, [], ◌∷◌, drop, sym, ap, ◌∙◌}
-use Rattle.gateway_metrics.specs.Showing.{LineShown, lines_of}
-use Rattle.gateway_metrics.specs.Sums.{next_number}
-use Rattle.page_board.specs.declared.act.QueuedAct.{QueuedAct}
-use Rattle.page_board.specs.Showing.{BoardState}
+use Rattle.page_state.specs.MetricsShowing.{LineShown, lines_of}
+use Rattle.page_state.specs.Sums.{next_number}
+use Rattle.page_state.specs.declared.act.QueuedAct.{QueuedAct}
+use Rattle.page_state.specs.BoardShowing.{BoardState}
 use Rattle.live_telephones.proofs.watch_examples.what_becomes_of_a_board_has_examples.Goals as goal
 
 pub returns-clause-none : goal.returns-clause-none

@@ -1,5 +1,5 @@
 use Rattle.std.proofs.Common.{refl, ap}
-use Rattle.page_board.specs.Showing.{BoardState}
+use Rattle.page_state.specs.BoardShowing.{BoardState}
 use Rattle.page_answers.proofs.laws.what_is_asked_for_waits_or_changes_nothing.Goals as goal
 
 pub returns-clause-taken : goal.returns-clause-taken

@@ -1,5 +1,5 @@
 use Rattle.std.proofs.lemmas.Result.{IfOk-weaker}
-use Rattle.gateway_metrics.specs.Totals.{totals_of}
+use Rattle.page_state.specs.Totals.{totals_of}
 use Rattle.page_answers.specs.Texts.{state_data, lines_data, counts_data}
 use Rattle.page_answers.proofs.TellingLemmas.{told_in_order}
 use Rattle.page_answers.proofs.state.state_text.Goals as goal

@@ -1,6 +1,6 @@
 use Rattle.std.proofs.Common.{◌<◌, ◌≤◌, ap, map, length, arith}
 use Rattle.page_answers.specs.declared.telling.TheConstants.{MOST_TOLD}
-use Rattle.page_board.specs.Keeping.{event_of}
+use Rattle.page_state.specs.Keeping.{event_of}
 use Rattle.page_answers.proofs.TellingLemmas.{goes_on, goes_on_from, goes_past, goes_past_from, goes_without, goes_without_from}
 use Rattle.page_answers.proofs.telling.put_told.Goals as goal
 use Rattle.page_answers.proofs.telling.put_told.Goals.{else-happening-after-via-else-happening-after, else-happening-after-via-then-happening-after+else-len-lt-MOST_TOLD}

@@ -2,7 +2,7 @@ use Rattle.std.proofs.Common.{◌≡◌, ◌-◌, ◌++◌, length, map}
 use Rattle.std.specs.VecDeque.Iter.{deque_iter_rest}
 use Rattle.serde_json.specs.View.{view}
 use Rattle.page_answers.specs.declared.telling.TheConstants.{MOST_TOLD}
-use Rattle.page_board.specs.Keeping.{event_of}
+use Rattle.page_state.specs.Keeping.{event_of}
 use Rattle.page_answers.specs.Telling.{event_data, told_after, last_number, next_after}
 use Rattle.page_answers.proofs.telling.put_told.Given as goal
 

@@ -1,7 +1,7 @@
 use Rattle.std.proofs.Common.{◌≡◌, codes, [], ◌∷◌, refl, ap, inl, inr}
-use Rattle.page_board.specs.declared.ring.Kind.TheVariants.{Sent}
-use Rattle.gateway_metrics.specs.Sums.{next_number}
-use Rattle.page_board.specs.Showing.{BoardState}
+use Rattle.page_state.specs.declared.ring.Kind.TheVariants.{Sent}
+use Rattle.page_state.specs.Sums.{next_number}
+use Rattle.page_state.specs.BoardShowing.{BoardState}
 use Rattle.message_counts.specs.Example.{host}
 use Rattle.told_messages.specs.Showing.{Happened, Labelled}
 use Rattle.told_messages.specs.ShowingExample.{noise, came, went, board_of, IsElseSame}

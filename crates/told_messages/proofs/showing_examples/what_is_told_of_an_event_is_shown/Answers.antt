@@ -1,5 +1,5 @@
 use Rattle.std.proofs.Common.{◌≡◌, [], ◌∷◌, refl, inl, ◌∙◌}
-use Rattle.page_board.specs.Showing.{BoardState}
+use Rattle.page_state.specs.BoardShowing.{BoardState}
 use Rattle.told_messages.specs.Showing.{Turned}
 use Rattle.told_messages.specs.ShowingExample.{noise, came, ended, board_of}
 use Rattle.told_messages.proofs.Computing.{on_examples}

@@ -1,5 +1,5 @@
 use Rattle.std.proofs.Common.{map}
-use Rattle.page_board.specs.declared.ring.Kind.TheVariants.{Sent}
+use Rattle.page_state.specs.declared.ring.Kind.TheVariants.{Sent}
 use Rattle.told_messages.specs.Labelling.{sent_label}
 use Rattle.told_messages.specs.Showing.{HappenedWith}
 use Rattle.told_messages.proofs.ShowingLemmas.{goes_on}

@@ -1,6 +1,0 @@
-use Rattle.std.proofs.Common.{◌≡◌, ◌++◌, drop}
-use Rattle.gateway_metrics.specs.Metrics.{code_samples}
-use Rattle.gateway_metrics.proofs.metrics.put_codes.Given as goal
-
-abbrev pub invariant-loop-count : goal.invariant-loop-count
-invariant-loop-count l = l.out ++ code_samples (drop l.count-index l.counts) ≡ l.fn.out ++ code_samples l.counts

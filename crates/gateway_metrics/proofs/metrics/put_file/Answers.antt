@@ -1,6 +1,0 @@
-use Rattle.gateway_metrics.specs.Metrics.{file_sample}
-use Rattle.gateway_metrics.proofs.metrics.put_file.Goals as goal
-
-pub returns : goal.returns
-unfolding file_sample
-returns c = rw (← c.as_slice.ensures.value) c.put_labelled.ensures

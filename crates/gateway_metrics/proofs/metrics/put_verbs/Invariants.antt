@@ -1,6 +1,0 @@
-use Rattle.std.proofs.Common.{◌≡◌, ◌++◌, drop}
-use Rattle.gateway_metrics.specs.Metrics.{verb_samples}
-use Rattle.gateway_metrics.proofs.metrics.put_verbs.Given as goal
-
-abbrev pub invariant-loop-count : goal.invariant-loop-count
-invariant-loop-count l = l.out ++ verb_samples (drop l.count-index l.counts) ≡ l.fn.out ++ verb_samples l.counts

@@ -1,6 +1,0 @@
-use Rattle.std.proofs.Common.{◌≡◌, drop, fold}
-use Rattle.gateway_metrics.specs.Totals.{with_line, totals_of}
-use Rattle.gateway_metrics.proofs.picture.Picture.totals.Given as goal
-
-abbrev pub invariant-loop-line : goal.invariant-loop-line
-invariant-loop-line l = fold with_line l.totals (drop l.line-index l.self.lines.items) ≡ totals_of l.self.lines.items

@@ -1,4 +1,0 @@
-use Rattle.page_board.proofs.board.Board.metrics.Goals as goal
-
-pub returns : goal.returns
-returns c = rw (← c.self.view_is) c.metrics_text.ensures

@@ -1,0 +1,4 @@
+pub mod BoardComputing
+pub mod KeepingLemmas
+pub mod MetricsComputing
+pub mod ShowingLemmas

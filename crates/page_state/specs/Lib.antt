@@ -1,0 +1,12 @@
+pub mod Keeping
+pub mod Acts
+pub mod BoardShowing
+pub mod Health
+pub mod Example
+pub mod Sums
+pub mod Verbs
+pub mod Totals
+pub mod Answering
+pub mod Metrics
+pub mod Samples
+pub mod MetricsShowing
