@@ -42,7 +42,7 @@ use live_gateway::{Admission, Desk, DeskSettings, boxed, end_desk, open_desk, sp
 use live_journal::{Journal, Recorder, Trace};
 use mg_bytes::OutOfMemory;
 use traces::FirstNumber;
-use page_access::HostNames;
+use page_http::HostNames;
 use rgw_scenes::read_config;
 use rgwd_words::{Settings, Start, hosts_in, speakers_in};
 use scenario_files::{Report, Titled};

@@ -4,11 +4,11 @@ use Rattle.http.specs.declared.request.Request.{Request}
 use Rattle.http.specs.Request.{head_of, body_of}
 use Rattle.http_server.specs.declared.response.Response.{Response}
 use Rattle.http_server.specs.Response.{IsResponse}
-use Rattle.page_access.specs.declared.asked.Asked.{Asked}
-use Rattle.page_access.specs.declared.asked.Asked.TheVariants.{Strange}
-use Rattle.page_access.specs.Asking.{is_at_home, is_by_name}
-use Rattle.page_access.specs.Naming.{names_of}
-use Rattle.page_access.proofs.AskingLaws.{asked_strange}
+use Rattle.page_http.specs.declared.asked.Asked.{Asked}
+use Rattle.page_http.specs.declared.asked.Asked.TheVariants.{Strange}
+use Rattle.page_http.specs.Asking.{is_at_home, is_by_name}
+use Rattle.page_http.specs.Naming.{names_of}
+use Rattle.page_http.proofs.AskingLaws.{asked_strange}
 use Rattle.page_state.specs.BoardShowing.{BoardState}
 use Rattle.live_page.specs.declared.desk.Desk.{Desk}
 use Rattle.live_page.specs.Answering.{Answers}

@@ -10,11 +10,11 @@ use Rattle.std.specs.declared.net.socket_addr.SocketAddrV4.{SocketAddrV4}
 use Rattle.live_ends.specs.declared.readiness.Readiness.{Readiness}
 use Rattle.live_ends.specs.declared.readiness.Visit.{Visit}
 use Rattle.live_ends.specs.Looking.{is_visit}
-use Rattle.page_access.specs.declared.places.Seat.{Seat}
-use Rattle.page_access.specs.Naming.{names_of}
-use Rattle.page_access.specs.Places.{is_of, place_for}
-use Rattle.page_access.specs.Seating.{count_if, held_by, seated_at, AreFew}
-use Rattle.page_access.proofs.SeatingLaws.{none_few, seated_few}
+use Rattle.page_http.specs.declared.places.Seat.{Seat}
+use Rattle.page_http.specs.Naming.{names_of}
+use Rattle.page_http.specs.Places.{is_of, place_for}
+use Rattle.page_http.specs.Seating.{count_if, held_by, seated_at, AreFew}
+use Rattle.page_http.proofs.SeatingLaws.{none_few, seated_few}
 use Rattle.page_state.specs.BoardShowing.{BoardState}
 use Rattle.live_page.specs.declared.site.Came.{Came}
 use Rattle.live_page.specs.declared.site.Came.TheVariants.{Nobody, Refused, LetIn, TurnedAway}

@@ -6,8 +6,8 @@ use Rattle.std.specs.Global.{Box}
 use Rattle.std.specs.declared.net.ipv4_addr.Ipv4Addr.{Ipv4Addr}
 use Rattle.std.specs.declared.net.socket_addr.SocketAddr.{SocketAddr}
 use Rattle.std.specs.declared.net.socket_addr.SocketAddrV4.{SocketAddrV4}
-use Rattle.page_access.specs.declared.places.Seat.{Seat}
-use Rattle.page_access.specs.Places.{place_for}
+use Rattle.page_http.specs.declared.places.Seat.{Seat}
+use Rattle.page_http.specs.Places.{place_for}
 use Rattle.page_state.specs.BoardShowing.{BoardState}
 use Rattle.live_page.specs.declared.site.Came.TheVariants.{LetIn}
 use Rattle.live_page.specs.declared.site.Site.{Site}

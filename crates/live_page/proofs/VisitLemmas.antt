@@ -7,10 +7,10 @@ use Rattle.http_server.specs.declared.response.Response.{Response}
 use Rattle.http_server.specs.Exchange.{Call, Chain}
 use Rattle.page_state.specs.BoardShowing.{BoardState}
 use Rattle.live_page.specs.declared.desk.Desk.{Desk}
-use Rattle.page_access.specs.declared.host_names.HostNames.{HostNames}
+use Rattle.page_http.specs.declared.host_names.HostNames.{HostNames}
 use Rattle.live_page.specs.declared.visitor.Visitor.{Visitor}
 use Rattle.live_page.specs.Answering.{Answers}
-use Rattle.page_access.specs.Naming.{names_of}
+use Rattle.page_http.specs.Naming.{names_of}
 use Rattle.live_page.specs.Visiting.{calls_of, AnsweredAt, AnswersAll, AnswersBy, AnswersVisitor}
 
 -- calls behind others are calls of both

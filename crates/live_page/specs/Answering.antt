@@ -4,8 +4,8 @@ use Rattle.http.specs.declared.request.Request.{Request}
 use Rattle.http.specs.Request.{head_of, body_of}
 use Rattle.http_server.specs.declared.response.Response.{Response}
 use Rattle.live_page.specs.declared.desk.Desk.{Desk}
-use Rattle.page_access.specs.Asking.{asked_of}
-use Rattle.page_access.specs.Naming.{names_of}
+use Rattle.page_http.specs.Asking.{asked_of}
+use Rattle.page_http.specs.Naming.{names_of}
 use Rattle.live_page.specs.Serving.{Answered}
 
 pub record Answers (old : Desk) (request : Request (List ℕ)) (response : Response) (new : Desk) : Type 0 where

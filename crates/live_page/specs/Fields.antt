@@ -3,8 +3,8 @@ use Rattle.std.specs.Prelude.{ℕ, codes, List, [], ◌∷◌, ◌++◌}
 use Rattle.http1.specs.Fields.{Header}
 use Rattle.live_page.specs.declared.fields.Content.{Content}
 use Rattle.live_page.specs.declared.fields.Content.TheVariants as contents
-use Rattle.page_access.specs.declared.route.Route.{Route}
-use Rattle.page_access.specs.declared.route.Route.TheVariants.{Page, Style, Script, State, Metrics, Health, Ready, Events, Phone, Nothing}
+use Rattle.page_http.specs.declared.route.Route.{Route}
+use Rattle.page_http.specs.declared.route.Route.TheVariants.{Page, Style, Script, State, Metrics, Health, Ready, Events, Phone, Nothing}
 
 -- the kind of content (RFC 9110, 8.3; RFC 8259, 11; Prometheus' text format, version 0.0.4)
 abbrev pub kind_of : Content → List ℕ

@@ -13,9 +13,9 @@ use Rattle.live_ends.specs.declared.readiness.Visit.{Visit}
 use Rattle.live_ends.specs.declared.readiness.TheConstants.{MOST_VISITORS}
 use Rattle.live_ends.specs.Looking.{no_visit, may_have_more}
 use Rattle.page_state.specs.Sums.{sum_within}
-use Rattle.page_access.specs.declared.places.Seat.{Seat}
-use Rattle.page_access.specs.Naming.{names_of}
-use Rattle.page_access.specs.Places.{place_for}
+use Rattle.page_http.specs.declared.places.Seat.{Seat}
+use Rattle.page_http.specs.Naming.{names_of}
+use Rattle.page_http.specs.Places.{place_for}
 use Rattle.page_state.specs.BoardShowing.{BoardState}
 use Rattle.live_page.specs.declared.site.Came.{Came}
 use Rattle.live_page.specs.declared.site.Came.TheVariants.{Nobody, Refused, LetIn, TurnedAway}

@@ -5,18 +5,18 @@ use Rattle.http_server.specs.Response.{IsResponse, fields_of}
 use Rattle.page_files.specs.declared.page.TheConstants.{PAGE}
 use Rattle.page_files.specs.declared.script.TheConstants.{SCRIPT}
 use Rattle.page_files.specs.declared.style.TheConstants.{STYLE}
-use Rattle.page_answers.specs.declared.answers.ActOutcome.{ActOutcome}
-use Rattle.page_answers.specs.Outcomes.{Becomes}
+use Rattle.page_http.specs.declared.answers.ActOutcome.{ActOutcome}
+use Rattle.page_http.specs.Outcomes.{Becomes}
 use Rattle.page_state.specs.BoardShowing.{BoardState}
 use Rattle.page_state.specs.Metrics.{metrics_of}
-use Rattle.page_answers.specs.Texts.{TellsState}
-use Rattle.page_answers.specs.Telling.{events_text}
+use Rattle.page_http.specs.Texts.{TellsState}
+use Rattle.page_http.specs.Telling.{events_text}
 use Rattle.page_state.specs.Health.{is_alive}
 use Rattle.live_page.specs.Health.{alive_text, ready_text}
-use Rattle.page_access.specs.declared.route.Route.{Route}
-use Rattle.page_access.specs.declared.route.Route.TheVariants.{Page, Style, Script, State, Metrics, Health, Ready, Events, Phone, Nothing}
-use Rattle.page_access.specs.declared.asked.Asked.{Asked}
-use Rattle.page_access.specs.declared.asked.Asked.TheVariants.{Reading, Acting}
+use Rattle.page_http.specs.declared.route.Route.{Route}
+use Rattle.page_http.specs.declared.route.Route.TheVariants.{Page, Style, Script, State, Metrics, Health, Ready, Events, Phone, Nothing}
+use Rattle.page_http.specs.declared.asked.Asked.{Asked}
+use Rattle.page_http.specs.declared.asked.Asked.TheVariants.{Reading, Acting}
 use Rattle.live_page.specs.Fields.{fields_at}
 use Rattle.live_page.specs.Statuses.{is_refused, reading_status, refusal_status, refusal_fields, outcome_status}
 

@@ -1,12 +1,12 @@
 -- With which status what is asked for is answered, and with which fields what gets nothing.
 use Rattle.std.specs.Prelude.{ℕ, Bool, true, false, codes, if◌then◌else◌, List, [], ◌∷◌}
 use Rattle.http1.specs.Fields.{Header}
-use Rattle.page_access.specs.declared.asked.Asked.{Asked}
-use Rattle.page_access.specs.declared.asked.Asked.TheVariants.{Strange, Reading, Acting, Forbidden, Unsuited, Missing}
-use Rattle.page_access.specs.declared.route.Route.{Route}
-use Rattle.page_access.specs.declared.route.Route.TheVariants.{Page, Style, Script, State, Metrics, Health, Ready, Events, Phone, Nothing}
-use Rattle.page_answers.specs.declared.answers.ActOutcome.{ActOutcome}
-use Rattle.page_answers.specs.declared.answers.ActOutcome.TheVariants.{Queued, NoRoom, Unreadable}
+use Rattle.page_http.specs.declared.asked.Asked.{Asked}
+use Rattle.page_http.specs.declared.asked.Asked.TheVariants.{Strange, Reading, Acting, Forbidden, Unsuited, Missing}
+use Rattle.page_http.specs.declared.route.Route.{Route}
+use Rattle.page_http.specs.declared.route.Route.TheVariants.{Page, Style, Script, State, Metrics, Health, Ready, Events, Phone, Nothing}
+use Rattle.page_http.specs.declared.answers.ActOutcome.{ActOutcome}
+use Rattle.page_http.specs.declared.answers.ActOutcome.TheVariants.{Queued, NoRoom, Unreadable}
 use Rattle.live_page.specs.Health.{well_status}
 
 -- the status of what gets nothing (RFC 9110, 15.5)

@@ -16,7 +16,7 @@ use Rattle.http_server.specs.History.{IsDone, IsQuiet, Rests, WantsRead, new_his
 use Rattle.page_state.specs.Sums.{sum_within}
 use Rattle.live_ends.specs.declared.readiness.Visit.{Visit}
 use Rattle.live_ends.specs.Looking.{is_visit}
-use Rattle.page_access.specs.Asking.{asked_of}
+use Rattle.page_http.specs.Asking.{asked_of}
 use Rattle.page_state.specs.BoardShowing.{BoardState}
 use Rattle.live_page.specs.declared.visitor.Visitor.{Visitor}
 use Rattle.live_page.specs.Serving.{Answered}

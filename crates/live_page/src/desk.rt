@@ -1,7 +1,7 @@
 //! The desk: a request is answered by what the board has.
 ghost use Rattle.std.specs.Prelude.{◌≡◌, ◌++◌, if◌then◌else◌, OnOk, OnErr};
 ghost use Rattle.http_server.specs.Response.{IsBlank, fields_of};
-ghost use Rattle.page_answers.specs.declared.answers.ActOutcome.{ActOutcome as Outcome};
+ghost use Rattle.page_http.specs.declared.answers.ActOutcome.{ActOutcome as Outcome};
 ghost use Rattle.live_page.specs.Statuses.{refusal_status, refusal_fields};
 ghost use Rattle.live_page.specs.Fields.{kind_fields};
 ghost use Rattle.live_page.specs.declared.fields.Content.TheVariants as contents;
@@ -13,8 +13,7 @@ use crate::files::{page_text, script_text, style_text};
 use bytes::Bytes;
 use http::{HeaderValue, Request, StatusCode, header};
 use http_server::{Response, Service};
-use page_access::{Asked, HostNames, Route, asked_of};
-use page_answers::{ActOutcome, act_on, events_of, state_of};
+use page_http::{ActOutcome, Asked, HostNames, Route, act_on, asked_of, events_of, state_of};
 use page_state::Board;
 use std::alloc::{AllocError, Global};
 use std::net::SocketAddrV4;

@@ -1,11 +1,11 @@
 //! A visitor who is played: a request is answered over a connection of its own, where no socket is.
 ghost use Rattle.std.specs.Prelude.{◌≡◌};
-ghost use Rattle.page_access.specs.Naming.{names_of};
+ghost use Rattle.page_http.specs.Naming.{names_of};
 ghost use Rattle.live_page.specs.Visiting.{AnswersBy};
 
 use crate::desk::Desk;
 use http_server::{Config, Connection, serve};
-use page_access::HostNames;
+use page_http::HostNames;
 use page_state::Board;
 use std::alloc::Global;
 use std::hash::RandomState;

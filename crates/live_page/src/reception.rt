@@ -3,11 +3,11 @@
 //! A library hands on, with a type that it shows, all that the type's private fields are made of, and its check pays for that: here
 //! sockets and a server of HTTP. So the site isn't shown. A program is told of it as of some type that receives visitors.
 ghost use Rattle.std.specs.Prelude.{◌≡◌, IfOk};
-ghost use Rattle.page_access.specs.Naming.{names_of};
+ghost use Rattle.page_http.specs.Naming.{names_of};
 
 use crate::site::Site;
 use live_ends::Readiness;
-use page_access::HostNames;
+use page_http::HostNames;
 use page_state::Board;
 use std::alloc::Global;
 use std::io;

@@ -1,6 +1,6 @@
 //! A visitor: a browser's connection, with the moment until which it is waited for.
 ghost use Rattle.std.specs.Prelude.{◌≡◌, ◌⊎◌, ◌↔◌, IsTrue, IfOk};
-ghost use Rattle.page_access.specs.Naming.{names_of};
+ghost use Rattle.page_http.specs.Naming.{names_of};
 ghost use Rattle.live_page.specs.Visiting.{calls_of, noted, AnswersAll, AnswersVisitor, CanRead, CanWrite, IsAnswered};
 ghost use Rattle.live_page.specs.Visiting.{IsNew, IsWaiting, ReadsOnce, TakesTurn, WritesOnce};
 
@@ -10,7 +10,7 @@ use http1::Limits;
 use live_ends::Visit;
 use live_outlets::boxed;
 use mio::net::TcpStream;
-use page_access::Seat;
+use page_http::Seat;
 use std::alloc::{AllocError, Global};
 use std::hash::RandomState;
 use std::io;

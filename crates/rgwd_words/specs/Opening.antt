@@ -10,7 +10,7 @@ use Rattle.live_ends.specs.declared.address_words.AddressWord.TheVariants.{Tell}
 use Rattle.live_ends.specs.declared.asking.AskFault.{AskFault}
 use Rattle.live_ends.specs.declared.asking.AskFault.TheVariants as ask_faults
 use Rattle.live_ends.specs.declared.ending.CommonEnding.TheVariants as endings
-use Rattle.page_access.specs.Naming.{names_in}
+use Rattle.page_http.specs.Naming.{names_in}
 use Rattle.rgwd_words.specs.declared.ending.Ending.{Ending}
 use Rattle.rgwd_words.specs.declared.ending.Ending.TheVariants.{Common, NoAnswer}
 use Rattle.rgwd_words.specs.declared.words.ListFault.{ListFault}

@@ -25,7 +25,7 @@ ghost use Rattle.clap.specs.Matches.{first_value, one_text};
 ghost use Rattle.clap.specs.declared.parser.matches.Found.{Found};
 ghost use Rattle.command_words.specs.Values.{IsBehind, IsRead};
 ghost use Rattle.live_outlets.specs.Reasons.{reason_of};
-ghost use Rattle.page_access.specs.Naming.{names_in};
+ghost use Rattle.page_http.specs.Naming.{names_in};
 ghost use Rattle.rgw_scenes.specs.declared.flaw.Flaw.TheVariants as flaws;
 ghost use Rattle.rgw_scenes.specs.Wording.{Tells};
 ghost use Rattle.small_rules.specs.Numbering.{first_at};

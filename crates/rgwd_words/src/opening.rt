@@ -1,13 +1,13 @@
 //! What is opened as the words ask: sockets, under which further names a page is asked for, and which address a capture tells.
 ghost use Rattle.std.specs.Prelude.{◌≡◌, ◌<◌, Some, IfOk, IfErr};
 ghost use Rattle.std.specs.Net.Socket.{v4_port};
-ghost use Rattle.page_access.specs.Naming.{names_of};
+ghost use Rattle.page_http.specs.Naming.{names_of};
 ghost use Rattle.rgwd_words.specs.Opening.{names_asked, RefusesNames, TellsPlace, TellsSocket};
 
 use crate::starting::Begun;
 use crate::words::{ListFault, Settings, hosts_in};
 use live_ends::{AddressWord, CommonEnding, Live, SocketWanted};
-use page_access::HostNames;
+use page_http::HostNames;
 use std::alloc::Global;
 use std::net::{Ipv4Addr, Net, SocketAddrV4};
 use std::rt::Clock;

@@ -1,13 +1,13 @@
 //! Visitors of a page in memory: each asks once, and gets an answer.
 ghost use Rattle.std.specs.Prelude.{◌≡◌, drop};
-ghost use Rattle.page_access.specs.Naming.{names_of};
+ghost use Rattle.page_http.specs.Naming.{names_of};
 ghost use Rattle.live_page.specs.Visiting.{AnswersBy};
 ghost use Rattle.cases.specs.Browsing.{next_of};
 
 use crate::stories::{Clocks, Machine, Transcript, Visit};
 use live_gateway::Visitors;
 use live_page::answer_to;
-use page_access::HostNames;
+use page_http::HostNames;
 use page_state::Board;
 use scenario_files::parted;
 use std::alloc::Global;
@@ -108,7 +108,7 @@ impl Browsers {
 impl Visitors<Machine<'_>> for Browsers {
     ghost use Rattle.std.specs.Prelude.{◌≡◌, drop};
     ghost use Rattle.live_gateway.specs.Visiting.{has_come};
-    ghost use Rattle.page_access.specs.Naming.{names_of};
+    ghost use Rattle.page_http.specs.Naming.{names_of};
     ghost use Rattle.live_page.specs.Visiting.{AnswersBy};
     ghost use Rattle.cases.specs.Browsing.{next_of};
 

@@ -11,7 +11,7 @@ use page_state::{
     metrics_text,
 };
 use mg_bytes::{decimal, split_once};
-use page_answers::state_text;
+use page_http::state_text;
 use scenario_files::Outcome;
 use std::alloc::Global;
 

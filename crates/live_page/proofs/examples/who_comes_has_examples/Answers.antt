@@ -2,7 +2,7 @@ use Rattle.std.proofs.Common.{Bool, true, false, refl, ap}
 use Rattle.std.specs.Prelude.{◌||◌}
 use Rattle.http_server.specs.declared.state.Config.{Config}
 use Rattle.http_server.specs.History.{History}
-use Rattle.page_access.specs.declared.places.Seat.{Seat}
+use Rattle.page_http.specs.declared.places.Seat.{Seat}
 use Rattle.live_page.proofs.examples.who_comes_has_examples.Goals as goal
 
 pub returns-clause-waited_for : goal.returns-clause-waited_for

@@ -1,6 +1,6 @@
 use Rattle.std.proofs.Common.{◌≡◌, true, false, List, length, Option, ap, sym, ◌∙◌, true≢false}
 use Rattle.std.specs.Global.{Box}
-use Rattle.page_access.specs.declared.places.Seat.{Seat}
+use Rattle.page_http.specs.declared.places.Seat.{Seat}
 use Rattle.live_page.specs.declared.site.Came.{Came}
 use Rattle.live_page.specs.declared.site.Came.TheVariants.{Nobody, Refused, LetIn, TurnedAway}
 use Rattle.live_page.specs.declared.site.Site.{Site}

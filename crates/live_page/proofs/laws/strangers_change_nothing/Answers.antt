@@ -1,7 +1,7 @@
 use Rattle.std.proofs.Common.{sym, ◌∙◌, true≢false}
 use Rattle.http.specs.Request.{head_of}
-use Rattle.page_access.specs.Naming.{names_of}
-use Rattle.page_access.proofs.AskingLaws.{acts_by_post}
+use Rattle.page_http.specs.Naming.{names_of}
+use Rattle.page_http.proofs.AskingLaws.{acts_by_post}
 use Rattle.live_page.proofs.laws.strangers_change_nothing.Goals as goal
 
 pub returns : goal.returns

@@ -1,6 +1,6 @@
 use Rattle.std.proofs.Common.{List, Option, ap, ◌∙◌}
-use Rattle.page_access.specs.declared.places.Seat.{Seat}
-use Rattle.page_access.specs.Places.{place_for}
+use Rattle.page_http.specs.declared.places.Seat.{Seat}
+use Rattle.page_http.specs.Places.{place_for}
 use Rattle.live_page.proofs.ReceivingLemmas.{seats_all}
 use Rattle.live_page.proofs.site.Site.place_for.Goals as goal
 

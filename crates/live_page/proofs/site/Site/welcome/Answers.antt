@@ -1,5 +1,5 @@
 use Rattle.std.proofs.Common.{map, sym, ◌∙◌}
-use Rattle.page_access.specs.Places.{place_for}
+use Rattle.page_http.specs.Places.{place_for}
 use Rattle.live_page.specs.Receiving.{seat_in}
 use Rattle.live_page.proofs.ReceivingLemmas.{seats_nowhere}
 use Rattle.live_page.proofs.site.Site.welcome.Goals as goal

@@ -1,6 +1,6 @@
 use Rattle.std.proofs.Common.{◌∙◌, ap}
-use Rattle.page_access.specs.declared.host_names.HostNames.{HostNames}
-use Rattle.page_access.specs.Naming.{names_of}
+use Rattle.page_http.specs.declared.host_names.HostNames.{HostNames}
+use Rattle.page_http.specs.Naming.{names_of}
 use Rattle.live_page.proofs.site.SiteReception.serve.Goals as goal
 
 pub returns : goal.returns

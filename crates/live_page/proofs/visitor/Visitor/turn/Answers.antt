@@ -1,5 +1,5 @@
 use Rattle.std.proofs.Common.{true, false, refl, ap, subst, not, Bool, ◌∙◌}
-use Rattle.page_access.specs.Naming.{names_of}
+use Rattle.page_http.specs.Naming.{names_of}
 use Rattle.live_page.specs.Visiting.{ReadsOnce, WritesOnce}
 use Rattle.live_page.proofs.VisitLemmas.{so_behind, none_answered, answered_before, answered_behind, answered_both, answers_there, more_to_read, more_to_write}
 use Rattle.live_page.proofs.visitor.Visitor.turn.Goals as goal

@@ -1,3 +1,0 @@
-pub mod Computing
-pub mod AskingLaws
-pub mod SeatingLaws

@@ -1,7 +1,0 @@
-use Rattle.std.proofs.Common.{◌≡◌, []}
-use Rattle.mg_bytes.specs.Items.{items_of}
-use Rattle.page_access.specs.Naming.{names_from}
-use Rattle.page_access.proofs.host_names.names_in.Given as goal
-
-abbrev pub invariant-loop-item : goal.invariant-loop-item
-invariant-loop-item l = names_from l.names.items l.item-iterator ≡ names_from [] (items_of l.text)

@@ -1,4 +1,0 @@
-use Rattle.page_answers.proofs.members.Object.put_name.Goals as goal
-
-pub returns : goal.returns
-returns c = λ was h. c.put_string.ensures was _ h c.from_utf8_lossy-made.ensures.lossy

@@ -1,4 +1,0 @@
-use Rattle.page_answers.proofs.members.Object.put_text.Goals as goal
-
-pub returns : goal.returns
-returns c = λ was h. c.put_string.ensures was c.args.text.now h c.from_str-made.ensures.ok

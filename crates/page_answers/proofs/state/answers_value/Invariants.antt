@@ -1,8 +1,0 @@
-use Rattle.std.proofs.Common.{◌≡◌, drop, fold}
-use Rattle.serde_json.specs.Data.{no_members}
-use Rattle.serde_json.specs.View.{members_view}
-use Rattle.page_answers.specs.Texts.{with_code}
-use Rattle.page_answers.proofs.state.answers_value.Given as goal
-
-abbrev pub invariant-loop-count : goal.invariant-loop-count
-invariant-loop-count l = fold with_code (members_view l.map.entries) (drop l.count-index l.answers) ≡ fold with_code no_members l.answers

@@ -1,0 +1,13 @@
+pub mod Acting
+pub mod Outcomes
+pub mod Texts
+pub mod Objects
+pub mod Labelling
+pub mod Telling
+pub mod AnswerExample
+pub mod Access
+pub mod Naming
+pub mod Asking
+pub mod Places
+pub mod Seating
+pub mod AccessExample
