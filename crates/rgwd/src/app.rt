@@ -10,7 +10,7 @@ use gateway_core::Gateway;
 use live_ends::{CommonEnding, DayWatch, Live, begin};
 use live_gateway::{Desk, agents_line, end_desk, open_desk};
 use live_journal::Trace;
-use live_page::{PageProgram, Reception, run_with_site};
+use page_server::{PageProgram, Reception, run_with_site};
 use rgwd_words::{
     Begun, Configured, Ending, Said, Settings, asked_by, begin_serving, configure, open_sockets,
     say_setup,

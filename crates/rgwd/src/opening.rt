@@ -8,7 +8,7 @@ ghost use Rattle.rgwd_words.specs.Statuses.{fails};
 use crate::reception::PageReception;
 use live_ends::{AddressWord, CommonEnding, Readiness};
 use live_gateway::{Admission, DeskSettings, boxed, speakers_of};
-use live_page::Reception;
+use page_server::Reception;
 use plain_machine::Setup;
 use rgwd_words::{Ending, ListFault, Settings, captured_at, page_names, speakers_in};
 use std::alloc::Global;

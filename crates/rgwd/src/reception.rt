@@ -1,7 +1,7 @@
 //! The page's visitors, as the gateway's loop serves them.
 use live_ends::Live;
 use live_gateway::Visitors;
-use live_page::Reception;
+use page_server::Reception;
 use page_state::Board;
 use std::cell::Cell;
 use std::net::Net;

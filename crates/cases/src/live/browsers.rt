@@ -1,12 +1,12 @@
 //! Visitors of a page in memory: each asks once, and gets an answer.
 ghost use Rattle.std.specs.Prelude.{◌≡◌, drop};
 ghost use Rattle.page_http.specs.Naming.{names_of};
-ghost use Rattle.live_page.specs.Visiting.{AnswersBy};
+ghost use Rattle.page_server.specs.Visiting.{AnswersBy};
 ghost use Rattle.cases.specs.Browsing.{next_of};
 
 use crate::stories::{Clocks, Machine, Transcript, Visit};
 use live_gateway::Visitors;
-use live_page::answer_to;
+use page_server::answer_to;
 use page_http::HostNames;
 use page_state::Board;
 use scenario_files::parted;
@@ -109,7 +109,7 @@ impl Visitors<Machine<'_>> for Browsers {
     ghost use Rattle.std.specs.Prelude.{◌≡◌, drop};
     ghost use Rattle.live_gateway.specs.Visiting.{has_come};
     ghost use Rattle.page_http.specs.Naming.{names_of};
-    ghost use Rattle.live_page.specs.Visiting.{AnswersBy};
+    ghost use Rattle.page_server.specs.Visiting.{AnswersBy};
     ghost use Rattle.cases.specs.Browsing.{next_of};
 
     ghost visits = { record {

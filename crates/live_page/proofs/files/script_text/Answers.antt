@@ -1,5 +1,0 @@
-use Rattle.std.proofs.Common.{refl}
-use Rattle.live_page.proofs.files.script_text.Goals as goal
-
-pub returns : goal.returns
-returns c = refl

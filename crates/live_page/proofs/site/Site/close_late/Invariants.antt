@@ -1,7 +1,0 @@
-use Rattle.std.proofs.Common.{◌≡◌, ◌++◌, take, drop, map}
-use Rattle.live_page.specs.Waiting.{stays_at}
-use Rattle.live_page.proofs.site.Site.close_late.Given as goal
-
-abbrev pub invariant-loop-place : goal.invariant-loop-place
-invariant-loop-place l =
-    take l.place-index l.place-items ++ map (stays_at l.now) (drop l.place-index l.place-items) ≡ map (stays_at l.now) l.fn.self.places.items
