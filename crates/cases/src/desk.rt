@@ -18,7 +18,7 @@ use crate::stories::{
 use agent_config::{AgentConfig, ConfigRefusal, read_config};
 use agent_texts::Journal;
 use live_agent::{Recorder, Wire, WireSettings, serve_over, wire_over};
-use live_ends::{AddressWord, CommonEnding, SocketWanted};
+use live_system::{AddressWord, CommonEnding, SocketWanted};
 use mg_bytes::OutOfMemory;
 use rgca_words::{Ending, Said, Settings, asked_by};
 use scenario_files::{Report, Titled};

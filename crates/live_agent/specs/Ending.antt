@@ -2,10 +2,10 @@
 use Rattle.std.specs.Prelude.{◌≡◌, ◌⊎◌, ℕ, Bool, ◌||◌, if◌then◌else◌, List, ◌++◌}
 use Rattle.agent_texts.specs.declared.journal.Journal.{Journal}
 use Rattle.agent_texts.specs.Counts.{counts_text}
-use Rattle.live_ends.specs.declared.ending.CommonEnding.{CommonEnding}
-use Rattle.live_ends.specs.declared.ending.CommonEnding.TheVariants.{Clock, OutOfMemory}
+use Rattle.live_system.specs.declared.ending.CommonEnding.{CommonEnding}
+use Rattle.live_system.specs.declared.ending.CommonEnding.TheVariants.{Clock, OutOfMemory}
 use Rattle.live_outlets.specs.declared.written.Written.{Written}
-use Rattle.live_ends.specs.Ending.{served_ending}
+use Rattle.live_system.specs.Ending.{served_ending}
 use Rattle.live_outlets.specs.Recording.{is_refused}
 use Rattle.live_outlets.specs.Written.{faults_in, written_line}
 

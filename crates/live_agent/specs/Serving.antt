@@ -2,8 +2,8 @@
 use Rattle.std.specs.Prelude.{◌≡◌, ◌⊎◌, ⊤, ℕ, zero, suc, ◌-◌, ◌^◌, Bool, true, false, is_err, List, Result, Ok, Err}
 use Rattle.agent_config.specs.declared.config.AgentConfig.{AgentConfig}
 use Rattle.agent_texts.specs.declared.journal.Journal.{Journal}
-use Rattle.live_ends.specs.declared.ending.CommonEnding.{CommonEnding}
-use Rattle.live_ends.specs.declared.ending.CommonEnding.TheVariants.{OutOfMemory}
+use Rattle.live_system.specs.declared.ending.CommonEnding.{CommonEnding}
+use Rattle.live_system.specs.declared.ending.CommonEnding.TheVariants.{OutOfMemory}
 use Rattle.live_outlets.specs.declared.written.Written.{Written}
 use Rattle.surroundings.specs.Around.{Around}
 use Rattle.surroundings.specs.declared.surroundings.Fault.{Fault}

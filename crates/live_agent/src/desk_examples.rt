@@ -57,7 +57,7 @@ ghost use Rattle.switchboard.specs.TypedCommands.{IssuesCommand, IssuesMeant, Is
 ghost use Rattle.live_agent.specs.TypedCommands.{fault_text, issued_text, TellsIssued, AnswersAll, AnswersIssued, IsTypedNext};
 ghost use Rattle.live_agent.specs.Wiring.{longest_until, FallsDueFirst, IsWaitedFor, SpoilsSo};
 
-use live_ends::CommonEnding;
+use live_system::CommonEnding;
 use switchboard::TypedFault;
 use turns::Turn;
 

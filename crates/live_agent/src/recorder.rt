@@ -3,7 +3,7 @@ ghost use Rattle.std.specs.Prelude.{◌≡◌, ◌&&◌, not};
 ghost use Rattle.mg_bytes.specs.Lists.{is_empty};
 
 use agent_texts::Journal;
-use live_ends::DayWatch;
+use live_system::DayWatch;
 use live_outlets::{Finisher, Outlets, Written};
 use std::alloc::Global;
 use std::rt::{Clock, Files};

@@ -1,7 +1,7 @@
 //! Serves a call agent from its opening to its end.
 ghost use Rattle.std.specs.Prelude.{◌≡◌, ◌⊎◌, [], None, true, is_some, IfErr, IfOk};
 ghost use Rattle.agent_texts.specs.Counts.{nothing_counted};
-ghost use Rattle.live_ends.specs.declared.ending.CommonEnding.TheVariants.{OutOfMemory};
+ghost use Rattle.live_system.specs.declared.ending.CommonEnding.TheVariants.{OutOfMemory};
 ghost use Rattle.live_agent.specs.Clock.{milliseconds};
 ghost use Rattle.live_agent.specs.Ending.{is_record_refused};
 ghost use Rattle.live_agent.specs.Serving.{Serves, ServesOver, ServesToEnd, TurnsOnce};
@@ -18,7 +18,7 @@ use agent_config::AgentConfig;
 use agent_texts::Journal;
 use bad_network::{BadNetwork, Spoiling};
 use exchange_log::put_peer;
-use live_ends::{CommonEnding, DayWatch, Live, SocketWanted, open_capture};
+use live_system::{CommonEnding, DayWatch, Live, SocketWanted, open_capture};
 use live_outlets::{Finisher, Outlets, Written, boxed};
 use mg_bytes::{Draft, OutOfMemory};
 use std::alloc::{AllocError, Global};

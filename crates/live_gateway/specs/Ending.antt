@@ -10,10 +10,10 @@ use Rattle.plain_machine.specs.Lists.{plain}
 use Rattle.gateway_core.specs.GatewayState.{GatewayState}
 use Rattle.gateway_core.specs.Stands.{Stands}
 use Rattle.turns.specs.Clock.{has_come}
-use Rattle.live_ends.specs.declared.ending.CommonEnding.{CommonEnding}
-use Rattle.live_ends.specs.declared.ending.CommonEnding.TheVariants.{OutOfMemory}
+use Rattle.live_system.specs.declared.ending.CommonEnding.{CommonEnding}
+use Rattle.live_system.specs.declared.ending.CommonEnding.TheVariants.{OutOfMemory}
 use Rattle.live_outlets.specs.declared.written.Written.{Written}
-use Rattle.live_ends.specs.Ending.{served_ending}
+use Rattle.live_system.specs.Ending.{served_ending}
 use Rattle.live_outlets.specs.Recording.{is_refused}
 use Rattle.live_outlets.specs.Written.{faults_in}
 use Rattle.live_journal.specs.declared.journal.Journal.{Journal}

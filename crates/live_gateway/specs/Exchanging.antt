@@ -22,7 +22,7 @@ use Rattle.told_messages.specs.Logging.{Sends, Turns}
 use Rattle.told_messages.specs.Recording.{Records, unsent_text}
 use Rattle.told_messages.specs.Showing.{GoesOn, HappenedWith, Turned}
 use Rattle.told_messages.specs.declared.log.Log.{Log}
-use Rattle.live_ends.specs.Waiting.{longest_wait}
+use Rattle.live_system.specs.Waiting.{longest_wait}
 use Rattle.live_journal.specs.Capturing.{Captures}
 use Rattle.live_journal.specs.Spoiling.{fate_note, Notes as NotesOf}
 use Rattle.live_play.specs.Coming.{Came}

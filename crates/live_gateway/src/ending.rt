@@ -1,12 +1,12 @@
 //! How a gateway that runs ends.
 ghost use Rattle.std.specs.Prelude.{◌≡◌, codes, IfOk, OnErr};
 ghost use Rattle.surroundings.specs.Hearing.{AnswersTo};
-ghost use Rattle.live_ends.specs.Ending.{served_ending};
+ghost use Rattle.live_system.specs.Ending.{served_ending};
 ghost use Rattle.live_outlets.specs.Written.{faults_in};
 ghost use Rattle.live_gateway.specs.Ending.{AsksForEnd, is_record_refused, WritesLast, EndsWith, OnlyEnds};
 
 use crate::desk::Desk;
-use live_ends::CommonEnding;
+use live_system::CommonEnding;
 use live_journal::{Journal, Recorder, Trace};
 use live_outlets::{Finisher, Written};
 use std::alloc::AllocError;

@@ -21,7 +21,7 @@ use crate::visitors::Visitors;
 use bad_network::{Fate, Packet, Way};
 use exchange_log::Note;
 use gateway_core::{Gateway, SentMessage};
-use live_ends::longest_wait;
+use live_system::longest_wait;
 use live_journal::Journal;
 use live_outlets::Now;
 use live_play::{FIRST_UNREAD, Outlet};

@@ -13,8 +13,8 @@ use Rattle.traces.specs.declared.telling.Mark.{Mark}
 use Rattle.traces.specs.declared.telling.Mark.TheVariants.{Unsent}
 use Rattle.surroundings.specs.Speaking.{anybody}
 use Rattle.surroundings.specs.declared.surroundings.Fault.{Fault}
-use Rattle.live_ends.specs.declared.ending.CommonEnding.{CommonEnding}
-use Rattle.live_ends.specs.declared.ending.CommonEnding.TheVariants.{OutOfMemory as LacksMemory}
+use Rattle.live_system.specs.declared.ending.CommonEnding.{CommonEnding}
+use Rattle.live_system.specs.declared.ending.CommonEnding.TheVariants.{OutOfMemory as LacksMemory}
 use Rattle.live_outlets.specs.declared.record.RecordState.{RecordState}
 use Rattle.live_outlets.specs.declared.record.RecordState.TheVariants.{Off, On, OutOfMemory}
 use Rattle.exchange_log.specs.declared.note.Note.{Note}
@@ -23,7 +23,7 @@ use Rattle.told_messages.specs.Recording.{Puts}
 use Rattle.told_messages.specs.declared.log.Log.{Log}
 use Rattle.live_journal.specs.Spoiling.{fate_note, Notes as NotesOf}
 use Rattle.live_outlets.specs.declared.written.Written.{Written}
-use Rattle.live_ends.specs.Ending.{served_ending}
+use Rattle.live_system.specs.Ending.{served_ending}
 use Rattle.live_outlets.specs.Written.{faults_in}
 use Rattle.live_journal.specs.declared.trace.Trace.{Trace}
 use Rattle.live_gateway.specs.declared.admission.Admission.{Admission}

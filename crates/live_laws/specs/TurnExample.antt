@@ -3,7 +3,7 @@ use Rattle.std.specs.Prelude.{◌≡◌, ⊤, ℕ, codes, false, true, List, [],
 use Rattle.std.specs.declared.net.socket_addr.SocketAddrV4.{SocketAddrV4}
 use Rattle.bad_network.specs.declared.fate.Fate.{Fate}
 use Rattle.bad_network.specs.declared.fate.Fate.TheVariants.{Lost, Once}
-use Rattle.live_ends.specs.declared.ending.CommonEnding.{CommonEnding}
+use Rattle.live_system.specs.declared.ending.CommonEnding.{CommonEnding}
 use Rattle.live_journal.specs.Writing.{WriterBy, any_writer}
 use Rattle.live_journal.specs.declared.trace.Trace.{Trace}
 use Rattle.gateway_core.specs.declared.sent.SentMessage.{SentMessage}

@@ -5,8 +5,8 @@ ghost use Rattle.std.specs.Prelude.{◌≡◌, ◌⊎◌, ◌∷◌, ◌++◌, �
 ghost use Rattle.std.specs.List.{flat_map};
 ghost use Rattle.gateway_core.specs.GatewayState.{GatewayState};
 ghost use Rattle.machine_rules.specs.declared.refusal.Refusal.{Refusal as Why};
-ghost use Rattle.live_ends.specs.declared.ending.CommonEnding.{CommonEnding};
-ghost use Rattle.live_ends.specs.declared.ending.CommonEnding.TheVariants.{OutOfMemory};
+ghost use Rattle.live_system.specs.declared.ending.CommonEnding.{CommonEnding};
+ghost use Rattle.live_system.specs.declared.ending.CommonEnding.TheVariants.{OutOfMemory};
 ghost use Rattle.live_journal.specs.declared.trace.Trace.{Trace};
 ghost use Rattle.live_journal.specs.Writing.{any_writer};
 ghost use Rattle.live_gateway.specs.declared.admission.Admission.{Admission};

@@ -7,9 +7,9 @@ use Rattle.std.specs.Net.Addr.{ipv4_octets}
 use Rattle.std.specs.declared.io.Error.{Error}
 use Rattle.std.specs.declared.net.ipv4_addr.Ipv4Addr.{Ipv4Addr}
 use Rattle.std.specs.declared.net.socket_addr.SocketAddrV4.{SocketAddrV4}
-use Rattle.live_ends.specs.declared.readiness.Readiness.{Readiness}
-use Rattle.live_ends.specs.declared.readiness.Visit.{Visit}
-use Rattle.live_ends.specs.Looking.{is_visit}
+use Rattle.live_system.specs.declared.readiness.Readiness.{Readiness}
+use Rattle.live_system.specs.declared.readiness.Visit.{Visit}
+use Rattle.live_system.specs.Looking.{is_visit}
 use Rattle.page_http.specs.declared.places.Seat.{Seat}
 use Rattle.page_http.specs.Naming.{names_of}
 use Rattle.page_http.specs.Places.{is_of, place_for}

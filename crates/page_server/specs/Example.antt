@@ -1,6 +1,6 @@
 -- What the worked examples speak of: what is told of a socket.
 use Rattle.std.specs.Prelude.{true, false}
-use Rattle.live_ends.specs.declared.readiness.Visit.{Visit}
+use Rattle.live_system.specs.declared.readiness.Visit.{Visit}
 
 abbrev pub readable : Visit
 readable = record { is_readable = true; is_writable = false }

@@ -8,10 +8,10 @@ use Rattle.std.specs.declared.net.ipv4_addr.Ipv4Addr.{Ipv4Addr}
 use Rattle.std.specs.declared.net.socket_addr.SocketAddr.{SocketAddr}
 use Rattle.std.specs.declared.net.socket_addr.SocketAddr.TheVariants.{V4, V6}
 use Rattle.std.specs.declared.net.socket_addr.SocketAddrV4.{SocketAddrV4}
-use Rattle.live_ends.specs.declared.readiness.Readiness.{Readiness}
-use Rattle.live_ends.specs.declared.readiness.Visit.{Visit}
-use Rattle.live_ends.specs.declared.readiness.TheConstants.{MOST_VISITORS}
-use Rattle.live_ends.specs.Looking.{no_visit, may_have_more}
+use Rattle.live_system.specs.declared.readiness.Readiness.{Readiness}
+use Rattle.live_system.specs.declared.readiness.Visit.{Visit}
+use Rattle.live_system.specs.declared.readiness.TheConstants.{MOST_VISITORS}
+use Rattle.live_system.specs.Looking.{no_visit, may_have_more}
 use Rattle.page_state.specs.Sums.{sum_within}
 use Rattle.page_http.specs.declared.places.Seat.{Seat}
 use Rattle.page_http.specs.Naming.{names_of}

@@ -14,8 +14,8 @@ use Rattle.http_server.specs.Connection.{config_of, history}
 use Rattle.http_server.specs.Exchange.{Call, Chain}
 use Rattle.http_server.specs.History.{IsDone, IsQuiet, Rests, WantsRead, new_history, after_read, after_sent}
 use Rattle.page_state.specs.Sums.{sum_within}
-use Rattle.live_ends.specs.declared.readiness.Visit.{Visit}
-use Rattle.live_ends.specs.Looking.{is_visit}
+use Rattle.live_system.specs.declared.readiness.Visit.{Visit}
+use Rattle.live_system.specs.Looking.{is_visit}
 use Rattle.page_http.specs.Asking.{asked_of}
 use Rattle.page_state.specs.BoardShowing.{BoardState}
 use Rattle.page_server.specs.declared.visitor.Visitor.{Visitor}

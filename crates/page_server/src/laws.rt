@@ -6,7 +6,7 @@ ghost use Rattle.http_server.specs.declared.response.Response.{Response};
 ghost use Rattle.http_server.specs.Response.{IsResponse};
 ghost use Rattle.page_http.specs.Asking.{is_at_home, is_by_name, may_change};
 ghost use Rattle.page_http.specs.Naming.{names_of};
-ghost use Rattle.live_ends.specs.declared.readiness.Readiness.{Readiness};
+ghost use Rattle.live_system.specs.declared.readiness.Readiness.{Readiness};
 ghost use Rattle.page_http.specs.Seating.{AreFew};
 ghost use Rattle.page_state.specs.BoardShowing.{BoardState};
 ghost use Rattle.page_server.specs.declared.desk.Desk.{Desk};

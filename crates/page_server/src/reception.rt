@@ -6,7 +6,7 @@ ghost use Rattle.std.specs.Prelude.{◌≡◌, IfOk};
 ghost use Rattle.page_http.specs.Naming.{names_of};
 
 use crate::site::Site;
-use live_ends::Readiness;
+use live_system::Readiness;
 use page_http::HostNames;
 use page_state::Board;
 use std::alloc::Global;
@@ -18,7 +18,7 @@ use std::random::RandomSource;
 pub trait Reception: Drop {
     ghost use Rattle.std.specs.Prelude.{ℕ, Bool, List, Option};
     ghost use Rattle.std.specs.declared.net.socket_addr.SocketAddrV4.{SocketAddrV4};
-    ghost use Rattle.live_ends.specs.declared.readiness.Readiness.{Readiness};
+    ghost use Rattle.live_system.specs.declared.readiness.Readiness.{Readiness};
     ghost use Rattle.page_state.specs.BoardShowing.{BoardState};
 
     /// Nobody is there yet, and it may be asked under these further names.

@@ -1,7 +1,7 @@
 //! The site: the socket at which browsers ask for the page, and whose turn it is.
 ghost use Rattle.std.specs.Prelude.{◌≡◌, ◌||◌, None, IfNone, IfOk, IfSome, IsSomeAnd, OnSome, true, map, replicate, slice_get, false};
 ghost use Rattle.std.specs.IoError.{error_kind};
-ghost use Rattle.live_ends.specs.Looking.{no_visit};
+ghost use Rattle.live_system.specs.Looking.{no_visit};
 ghost use Rattle.page_http.specs.Naming.{names_of};
 ghost use Rattle.page_http.specs.Places.{place_for};
 ghost use Rattle.page_server.specs.Receiving.{host_of, seat_in, visitor_in, noted_each, with_place, came_by};
@@ -11,7 +11,7 @@ ghost use Rattle.page_server.specs.Waiting.{stays_at, is_behind, turn_from, next
 use crate::desk::Desk;
 use crate::reception::Reception;
 use crate::visitor::Visitor;
-use live_ends::{MOST_VISITORS, Readiness, Visit, may_have_more};
+use live_system::{MOST_VISITORS, Readiness, Visit, may_have_more};
 use mio::net::{TcpListener, TcpStream};
 use page_http::{HostNames, Seat, place_for};
 use page_state::Board;

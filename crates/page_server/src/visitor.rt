@@ -7,7 +7,7 @@ ghost use Rattle.page_server.specs.Visiting.{IsNew, IsWaiting, ReadsOnce, TakesT
 use crate::desk::Desk;
 use http_server::{Config, Connection};
 use http1::Limits;
-use live_ends::Visit;
+use live_system::Visit;
 use live_outlets::boxed;
 use mio::net::TcpStream;
 use page_http::Seat;

@@ -1,11 +1,11 @@
 //! The program: reads its configuration, and serves as its words ask.
 ghost use Rattle.std.specs.Prelude.{◌≡◌, None, is_some, IfOk, IfSome};
-ghost use Rattle.command_words.specs.Files.{name_of};
+ghost use Rattle.live_system.specs.Files.{name_of};
 ghost use Rattle.rgca_words.specs.Names.{Says};
 
 use agent_config::AgentConfig;
 use live_agent::{WireSettings, serve_agent};
-use live_ends::{AddressWord, CommonEnding, SocketWanted, begin};
+use live_system::{AddressWord, CommonEnding, SocketWanted, begin};
 use live_outlets::Outlets;
 use rgca_words::{Ending, Said, Settings, asked_by, config_at};
 use std::alloc::Global;

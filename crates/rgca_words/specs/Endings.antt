@@ -1,7 +1,7 @@
 -- How the program ends by a configuration that is refused.
 use Rattle.agent_config.specs.declared.config_fault.ConfigRefusal.{ConfigRefusal}
 use Rattle.agent_config.specs.declared.config_fault.ConfigRefusal.TheVariants as refusals
-use Rattle.live_ends.specs.declared.ending.CommonEnding.TheVariants as endings
+use Rattle.live_system.specs.declared.ending.CommonEnding.TheVariants as endings
 use Rattle.rgca_words.specs.declared.ending.Ending.{Ending}
 use Rattle.rgca_words.specs.declared.ending.Ending.TheVariants.{Common, Config}
 

@@ -1,9 +1,9 @@
 -- What is said at an end.
 use Rattle.std.specs.Prelude.{ℕ, codes, List, [], ◌∷◌, ◌++◌}
-use Rattle.live_ends.specs.Wording.{joined}
-use Rattle.live_ends.specs.declared.ending.About.{About}
-use Rattle.live_ends.specs.declared.ending.FileNames.{FileNames}
-use Rattle.live_ends.specs.Ending.{ending_text as common_text}
+use Rattle.live_system.specs.Wording.{joined}
+use Rattle.live_system.specs.declared.ending.About.{About}
+use Rattle.live_system.specs.declared.ending.FileNames.{FileNames}
+use Rattle.live_system.specs.Ending.{ending_text as common_text}
 use Rattle.rgca_words.specs.declared.ending.Moved.{Moved as Part}
 use Rattle.rgca_words.specs.declared.ending.Moved.TheVariants.{Check, Phones, Load}
 use Rattle.rgca_words.specs.declared.ending.Ending.{Ending}

@@ -4,7 +4,7 @@ ghost use Rattle.rgca_words.specs.Endings.{config_by};
 
 use crate::ending::Ending;
 use agent_config::{AgentConfig, ConfigRefusal, read_config, too_long};
-use live_ends::{CommonEnding, read_file};
+use live_system::{CommonEnding, read_file};
 use rgw_scripts::LIMIT;
 use std::alloc::Global;
 use std::rt::Files;

@@ -1,14 +1,14 @@
 //! How the program ends: its status, and what it says then.
 ghost use Rattle.std.specs.Prelude.{◌≡◌, ◌⊎◌, ℕ, List, ◌++◌, ◌∷◌, [], codes, OnOk, IfOk};
-ghost use Rattle.live_ends.specs.Ending.{status_of as common_status};
-ghost use Rattle.live_ends.specs.Wording.{joined};
+ghost use Rattle.live_system.specs.Ending.{status_of as common_status};
+ghost use Rattle.live_system.specs.Wording.{joined};
 ghost use Rattle.rgca_words.specs.Statuses.{status_of, is_asked};
 ghost use Rattle.rgca_words.specs.Texts.{moved_text, ending_text};
-ghost use Rattle.command_words.specs.Files.{HasNames};
+ghost use Rattle.live_system.specs.Files.{HasNames};
 ghost use Rattle.rgca_words.specs.Names.{Says};
 
 use crate::help::of_program;
-use live_ends::{About, CommonEnding, FileNames, end, put_pieces};
+use live_system::{About, CommonEnding, FileNames, end, put_pieces};
 use live_outlets::Outlets;
 use mg_bytes::OutOfMemory;
 use std::alloc::Global;

@@ -4,12 +4,12 @@
 ghost use Rattle.std.specs.Prelude.{◌≡◌, ℕ, codes, true, false, List, [], ◌∷◌, ◌++◌, map, Some, None};
 ghost use Rattle.std.specs.declared.io.ErrorKind.{ErrorKind};
 ghost use Rattle.agent_config.specs.declared.config_fault.ConfigRefusal.TheVariants as refusals;
-ghost use Rattle.live_ends.specs.declared.ending.About.{About};
-ghost use Rattle.live_ends.specs.declared.ending.FileNames.{FileNames};
-ghost use Rattle.live_ends.specs.declared.ending.CommonEnding.{CommonEnding};
-ghost use Rattle.live_ends.specs.declared.ending.CommonEnding.TheVariants.{Served, Help, Version, Usage, Unreadable, Unwritable};
-ghost use Rattle.live_ends.specs.Ending.{status_of as common_status, is_asked as is_commonly_asked, ending_text as common_text};
-ghost use Rattle.live_ends.specs.Wording.{joined};
+ghost use Rattle.live_system.specs.declared.ending.About.{About};
+ghost use Rattle.live_system.specs.declared.ending.FileNames.{FileNames};
+ghost use Rattle.live_system.specs.declared.ending.CommonEnding.{CommonEnding};
+ghost use Rattle.live_system.specs.declared.ending.CommonEnding.TheVariants.{Served, Help, Version, Usage, Unreadable, Unwritable};
+ghost use Rattle.live_system.specs.Ending.{status_of as common_status, is_asked as is_commonly_asked, ending_text as common_text};
+ghost use Rattle.live_system.specs.Wording.{joined};
 ghost use Rattle.live_outlets.specs.Reasons.{reason_of};
 ghost use Rattle.rgca_words.specs.declared.help.TheConstants.{USAGE};
 ghost use Rattle.rgca_words.specs.declared.ending.Moved.{Moved as Part};

@@ -1,7 +1,7 @@
 //! What the program says of itself: how it is used, and its version.
 ghost use Rattle.rgca_words.specs.Names.{IsOwn};
 
-use live_ends::{About, VERSION};
+use live_system::{About, VERSION};
 
 /// The address of the socket for commands where no word says another. No other machine reaches it.
 pub const CONTROL: &str = "127.0.0.1:4280";

@@ -1,8 +1,8 @@
 //! Reads the words of the command line.
 ghost use Rattle.std.specs.Prelude.{◌≡◌, true, Some, IfOk, IfErr, codes, option_map};
 ghost use Rattle.clap.specs.Matches.{found_of, first_value, one_text};
-ghost use Rattle.command_words.specs.Files.{name_of, HasNames};
-ghost use Rattle.command_words.specs.Values.{IsBehind, IsMoment, IsRead, SaysFlag};
+ghost use Rattle.live_system.specs.Files.{name_of, HasNames};
+ghost use Rattle.live_system.specs.Values.{IsBehind, IsMoment, IsRead, SaysFlag};
 ghost use Rattle.rgca_words.specs.declared.ending.Ending.TheVariants.{Common};
 ghost use Rattle.rgca_words.specs.Statuses.{fails};
 ghost use Rattle.rgca_words.specs.Words.{spoiling_read};
@@ -10,8 +10,7 @@ ghost use Rattle.rgca_words.specs.Words.{spoiling_read};
 use crate::help::{CONTROL, USAGE};
 use bad_network::Spoiling;
 use clap::{ArgMatches, Command};
-use command_words::{Kind, address_behind, matches_in, moment_behind};
-use live_ends::{AddressWord, CommonEnding, FileNames, VERSION, network_in};
+use live_system::{AddressWord, CommonEnding, FileNames, Kind, VERSION, address_behind, matches_in, moment_behind, network_in};
 use live_outlets::{Outlet, boxed};
 use std::alloc::Global;
 use std::io::Write;

@@ -1,13 +1,13 @@
 //! The program: reads its words and its configuration, opens its sockets, and serves.
 ghost use Rattle.std.specs.Prelude.{◌≡◌, IfOk, IfNone, IfSome, None};
-ghost use Rattle.command_words.specs.Files.{name_of};
+ghost use Rattle.live_system.specs.Files.{name_of};
 ghost use Rattle.rgwd_words.specs.Names.{Says};
 
 use crate::opening::{admission_of, desk_settings, open_site};
 use crate::reception::PageReception;
 use crate::recording::Recording;
 use gateway_core::Gateway;
-use live_ends::{CommonEnding, DayWatch, Live, begin};
+use live_system::{CommonEnding, DayWatch, Live, begin};
 use live_gateway::{Desk, agents_line, end_desk, open_desk};
 use live_journal::Trace;
 use page_server::{PageProgram, Reception, run_with_site};

@@ -6,7 +6,7 @@ ghost use Rattle.rgwd_words.specs.Opening.{names_asked, RefusesSpeakers, TellsSo
 ghost use Rattle.rgwd_words.specs.Statuses.{fails};
 
 use crate::reception::PageReception;
-use live_ends::{AddressWord, CommonEnding, Readiness};
+use live_system::{AddressWord, CommonEnding, Readiness};
 use live_gateway::{Admission, DeskSettings, boxed, speakers_of};
 use page_server::Reception;
 use plain_machine::Setup;

@@ -1,5 +1,5 @@
 //! The page's visitors, as the gateway's loop serves them.
-use live_ends::Live;
+use live_system::Live;
 use live_gateway::Visitors;
 use page_server::Reception;
 use page_state::Board;
@@ -19,7 +19,7 @@ pub struct PageReception<P> {
 
 impl<'a, R: Net + Clock + RandomSource, P: Reception> Visitors<Live<'a, R>> for PageReception<P> {
     ghost use Rattle.std.specs.Prelude.{◌≡◌, ◌||◌};
-    ghost use Rattle.live_ends.specs.Looking.{has_visits};
+    ghost use Rattle.live_system.specs.Looking.{has_visits};
     ghost use Rattle.live_gateway.specs.Visiting.{has_come};
 
     ghost visits = { record {

@@ -1,5 +1,5 @@
 //! What a gateway's records go to: its outlets, and the files of its capture, of which the next is made where one is full.
-use live_ends::{CaptureFiles, DayWatch};
+use live_system::{CaptureFiles, DayWatch};
 use live_journal::{Capture, Journal, Recorder, Trace};
 use live_outlets::{Finisher, Outlet, Outlets, Written};
 use std::cell::Cell;

@@ -1,7 +1,7 @@
 -- The definitions opened, so that worked examples compute.
 use Rattle.std.specs.Prelude.{⊤}
 use Rattle.mg_bytes.proofs.Computing.{on_examples as byte_examples}
-use Rattle.live_ends.specs.Addresses.{local_port}
+use Rattle.live_system.specs.Addresses.{local_port}
 use Rattle.rgwd_words.specs.Texts.{ending_text}
 
 unfoldable pub on_examples : ⊤

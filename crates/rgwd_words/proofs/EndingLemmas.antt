@@ -5,11 +5,11 @@ use Rattle.std.specs.List.{flat_map}
 use Rattle.std.specs.declared.io.ErrorKind.{ErrorKind}
 use Rattle.std.specs.declared.io.ErrorKind.TheVariants as kinds
 use Rattle.std.specs.declared.net.socket_addr.SocketAddrV4.{SocketAddrV4}
-use Rattle.live_ends.specs.declared.address_words.AddressWord.{AddressWord}
-use Rattle.live_ends.specs.declared.ending.CommonEnding.{CommonEnding}
-use Rattle.live_ends.specs.declared.ending.CommonEnding.TheVariants as endings
-use Rattle.live_ends.specs.Ending.{status_of as common_status}
-use Rattle.live_ends.specs.Wording.{joined, piece_text}
+use Rattle.live_system.specs.declared.address_words.AddressWord.{AddressWord}
+use Rattle.live_system.specs.declared.ending.CommonEnding.{CommonEnding}
+use Rattle.live_system.specs.declared.ending.CommonEnding.TheVariants as endings
+use Rattle.live_system.specs.Ending.{status_of as common_status}
+use Rattle.live_system.specs.Wording.{joined, piece_text}
 
 -- what is so where something is, and where it isn't, is so
 in_each_case : {A : Type 0} (fails : Bool) → (A → fails ≡ true) → ((A → ⊥) → fails ≡ true) → fails ≡ true

@@ -6,8 +6,8 @@ use Rattle.bad_network.specs.Parts.{spoiling_of}
 use Rattle.bad_network.specs.declared.spoiling.Spoiling.{Spoiling}
 use Rattle.clap.specs.Matches.{first_value, one_text}
 use Rattle.clap.specs.declared.parser.matches.Found.{Found}
-use Rattle.command_words.specs.Values.{IsBehind, IsMoment, IsRead, SaysFlag}
-use Rattle.live_ends.specs.Addresses.{IsAddress}
+use Rattle.live_system.specs.Values.{IsBehind, IsMoment, IsRead, SaysFlag}
+use Rattle.live_system.specs.Addresses.{IsAddress}
 use Rattle.traces.specs.Words.{first_in, spread_in}
 use Rattle.rgwd_words.specs.declared.words.Settings.{Settings}
 use Rattle.rgwd_words.specs.declared.words.Sockets.{Sockets}

@@ -1,9 +1,9 @@
 -- What an ending says of the program, and which files it names.
 use Rattle.std.specs.Prelude.{◌≡◌, ℕ, List, map}
-use Rattle.command_words.specs.Files.{HasNames}
-use Rattle.live_ends.specs.declared.ending.About.{About}
-use Rattle.live_ends.specs.declared.ending.FileNames.{FileNames}
-use Rattle.live_ends.specs.Wording.{piece_text}
+use Rattle.live_system.specs.Files.{HasNames}
+use Rattle.live_system.specs.declared.ending.About.{About}
+use Rattle.live_system.specs.declared.ending.FileNames.{FileNames}
+use Rattle.live_system.specs.Wording.{piece_text}
 use Rattle.rgwd_words.specs.declared.ending.Ending.{Ending}
 use Rattle.rgwd_words.specs.declared.help.TheConstants.{USAGE, HELP, VERSIONS}
 use Rattle.rgwd_words.specs.Texts.{ending_text}

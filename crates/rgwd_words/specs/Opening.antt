@@ -6,10 +6,10 @@ use Rattle.std.specs.Net.Socket.{v4_ip, v4_port}
 use Rattle.std.specs.declared.io.ErrorKind.TheVariants as kinds
 use Rattle.std.specs.declared.net.ipv4_addr.Ipv4Addr.{Ipv4Addr}
 use Rattle.std.specs.declared.net.socket_addr.SocketAddrV4.{SocketAddrV4}
-use Rattle.live_ends.specs.declared.address_words.AddressWord.TheVariants.{Tell}
-use Rattle.live_ends.specs.declared.asking.AskFault.{AskFault}
-use Rattle.live_ends.specs.declared.asking.AskFault.TheVariants as ask_faults
-use Rattle.live_ends.specs.declared.ending.CommonEnding.TheVariants as endings
+use Rattle.live_system.specs.declared.address_words.AddressWord.TheVariants.{Tell}
+use Rattle.live_system.specs.declared.asking.AskFault.{AskFault}
+use Rattle.live_system.specs.declared.asking.AskFault.TheVariants as ask_faults
+use Rattle.live_system.specs.declared.ending.CommonEnding.TheVariants as endings
 use Rattle.page_http.specs.Naming.{names_in}
 use Rattle.rgwd_words.specs.declared.ending.Ending.{Ending}
 use Rattle.rgwd_words.specs.declared.ending.Ending.TheVariants.{Common, NoAnswer}

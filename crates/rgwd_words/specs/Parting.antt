@@ -2,7 +2,7 @@
 use Rattle.std.specs.Prelude.{ℕ, ◌*◌, Bool, ◌&&◌, nat_le, if◌then◌else◌, List, Option, Some, None, Result, Ok, Err}
 use Rattle.mg_bytes.specs.Steps.{◌>>=◌}
 use Rattle.mg_bytes.specs.Numbers.{decimal_of}
-use Rattle.live_ends.specs.declared.parting.Parting.{Parting}
+use Rattle.live_system.specs.declared.parting.Parting.{Parting}
 use Rattle.rgwd_words.specs.declared.ending.Ending.{Ending}
 use Rattle.rgwd_words.specs.declared.ending.Ending.TheVariants.{BadSize, BadFiles}
 

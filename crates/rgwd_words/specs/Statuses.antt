@@ -1,6 +1,6 @@
 -- The exit statuses, and what is said because words ask for it.
 use Rattle.std.specs.Prelude.{ℕ, Bool, false, nat_le}
-use Rattle.live_ends.specs.Ending.{status_of as common_status, is_asked as is_commonly_asked}
+use Rattle.live_system.specs.Ending.{status_of as common_status, is_asked as is_commonly_asked}
 use Rattle.rgwd_words.specs.declared.ending.Ending.{Ending}
 use Rattle.rgwd_words.specs.declared.ending.Ending.TheVariants.{Common, Checked, BadAgents, BadHosts, BadSize, BadFiles, AnyAddress, BadFirst, BadSpread, NoTimeOfDay, Replayed, Differs, NoTrace, Answered, Refused, NoAnswer}
 

@@ -3,10 +3,10 @@ use Rattle.std.specs.Prelude.{ℕ, codes, decimal, List, [], ◌∷◌, ◌++◌
 use Rattle.std.specs.Net.Text.{socket_v4_text}
 use Rattle.std.specs.declared.net.socket_addr.SocketAddrV4.{SocketAddrV4}
 use Rattle.traces.specs.Words.{longest_spread}
-use Rattle.live_ends.specs.Wording.{joined}
-use Rattle.live_ends.specs.declared.ending.About.{About}
-use Rattle.live_ends.specs.declared.ending.FileNames.{FileNames}
-use Rattle.live_ends.specs.Ending.{ending_text as common_text}
+use Rattle.live_system.specs.Wording.{joined}
+use Rattle.live_system.specs.declared.ending.About.{About}
+use Rattle.live_system.specs.declared.ending.FileNames.{FileNames}
+use Rattle.live_system.specs.Ending.{ending_text as common_text}
 use Rattle.rgwd_words.specs.declared.ending.TheConstants.{LAST_FIRST}
 use Rattle.rgwd_words.specs.declared.ending.Ending.{Ending}
 use Rattle.rgwd_words.specs.declared.ending.Ending.TheVariants.{Common, Checked, BadAgents, BadHosts, BadSize, BadFiles, AnyAddress, BadFirst, BadSpread, NoTimeOfDay, Replayed, Differs, NoTrace, Answered, Refused, NoAnswer}

@@ -3,7 +3,7 @@ use crate::ending::{Ending, Said};
 use crate::replaying::{REPLAY, replay_trace};
 use crate::telling::{TELL, tell_line};
 use crate::words::{Settings, read_words};
-use live_ends::CommonEnding;
+use live_system::CommonEnding;
 use live_outlets::Outlets;
 use std::net::Net;
 use std::rt::{Clock, Files};

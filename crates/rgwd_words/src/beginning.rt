@@ -4,7 +4,7 @@ use crate::ending::Ending;
 use crate::starting::Begun;
 use crate::words::Settings;
 use exchange_log::put_peer;
-use live_ends::{CaptureFiles, CommonEnding, Live, open_capture};
+use live_system::{CaptureFiles, CommonEnding, Live, open_capture};
 use live_outlets::{Outlet, Outlets, boxed};
 use mg_bytes::Draft;
 use plain_machine::Setup;

@@ -5,7 +5,7 @@ use crate::warnings::warnings_text;
 use crate::words::Settings;
 use config_flaws::{flaws_text, with_names};
 use gateway_core::Gateway;
-use live_ends::{CommonEnding, read_file};
+use live_system::{CommonEnding, read_file};
 use live_outlets::{Outlet, boxed};
 use plain_machine::Setup;
 use rgw_scenes::read_config;

@@ -1,16 +1,16 @@
 //! How the program ends: its status, and what it says then.
 ghost use Rattle.std.specs.Prelude.{◌≡◌, ◌≢◌, ◌⊎◌, ℕ, true, List, [], ◌++◌, OnOk, IfOk};
-ghost use Rattle.live_ends.specs.Ending.{status_of as common_status};
+ghost use Rattle.live_system.specs.Ending.{status_of as common_status};
 ghost use Rattle.rgwd_words.specs.Statuses.{status_of, is_asked, fails};
 ghost use Rattle.rgwd_words.specs.Texts.{unanswered_text, ending_text};
-ghost use Rattle.command_words.specs.Files.{HasNames};
+ghost use Rattle.live_system.specs.Files.{HasNames};
 ghost use Rattle.rgwd_words.specs.Names.{Says};
 
 use crate::help::of_program;
 use crate::parted::{MOST_FILES, MOST_MEGABYTES};
 use exchange_log::put_peer;
 use gateway_core::FIRSTS;
-use live_ends::{About, AddressWord, CommonEnding, FileNames, end, put_around, put_pieces};
+use live_system::{About, AddressWord, CommonEnding, FileNames, end, put_around, put_pieces};
 use live_outlets::Outlets;
 use mg_bytes::{Draft, OutOfMemory};
 use traces::LONGEST_SPREAD;

@@ -1,7 +1,7 @@
 //! What the program says of itself: how it is used, and its version.
 ghost use Rattle.rgwd_words.specs.Names.{IsOwn};
 
-use live_ends::{About, VERSION};
+use live_system::{About, VERSION};
 
 /// The address of the gateway's socket where no word says another. Its port is that of gateways
 /// (RFC 3435, 3.5). No other machine reaches it: the protocol has no passwords.

@@ -6,7 +6,7 @@ ghost use Rattle.rgwd_words.specs.Opening.{names_asked, RefusesNames, TellsPlace
 
 use crate::starting::Begun;
 use crate::words::{ListFault, Settings, hosts_in};
-use live_ends::{AddressWord, CommonEnding, Live, SocketWanted};
+use live_system::{AddressWord, CommonEnding, Live, SocketWanted};
 use page_http::HostNames;
 use std::alloc::Global;
 use std::net::{Ipv4Addr, Net, SocketAddrV4};

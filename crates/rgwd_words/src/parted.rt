@@ -4,7 +4,7 @@ ghost use Rattle.rgwd_words.specs.Parting.{number_within, files_of, parted_of, s
 ghost use Rattle.rgwd_words.specs.Statuses.{fails};
 
 use crate::ending::Ending;
-use live_ends::Parting;
+use live_system::Parting;
 use mg_bytes::decimal;
 
 /// So large a file of a capture may be at most, in MB.

@@ -5,7 +5,7 @@ ghost use Rattle.traces.specs.Waiting.{waited};
 ghost use Rattle.rgwd_words.specs.Starting.{first_of, ms_of, rest_of, until_next};
 
 use crate::words::Settings;
-use live_ends::time_of_day;
+use live_system::time_of_day;
 use mg_bytes::Draft;
 use traces::{FirstNumber, waited};
 use std::rt::Clock;

@@ -1,9 +1,9 @@
 //! What the words of the command line ask for.
 ghost use Rattle.std.specs.Prelude.{◌≡◌, ◌≢◌, ◌⊎◌, true, Some, None, IfOk, IfErr, codes, is_some, option_copied, option_map};
 ghost use Rattle.clap.specs.Matches.{found_of, first_value};
-ghost use Rattle.command_words.specs.Files.{name_of, HasNames};
-ghost use Rattle.command_words.specs.Values.{IsBehind, IsRead};
-ghost use Rattle.live_ends.specs.Addresses.{IsAddress};
+ghost use Rattle.live_system.specs.Files.{name_of, HasNames};
+ghost use Rattle.live_system.specs.Values.{IsBehind, IsRead};
+ghost use Rattle.live_system.specs.Addresses.{IsAddress};
 ghost use Rattle.traces.specs.Words.{first_in as first_read, spread_in as spread_read};
 ghost use Rattle.page_http.specs.Naming.{names_in, names_of};
 ghost use Rattle.surroundings.specs.Speaking.{admitted_by, admitted_in};
@@ -16,8 +16,7 @@ use crate::help::{LISTEN, PHONES, USAGE};
 use crate::parted::parting_of;
 use bad_network::Spoiling;
 use clap::{ArgMatches, Command};
-use command_words::{Kind, address_behind, matches_in, moment_behind};
-use live_ends::{AddressWord, CommonEnding, FileNames, Parting, VERSION, address_in, network_in};
+use live_system::{AddressWord, CommonEnding, FileNames, Kind, Parting, VERSION, address_behind, address_in, matches_in, moment_behind, network_in};
 use live_outlets::{Outlet, boxed};
 use traces::{FirstNumber, spread_in};
 use page_http::HostNames;

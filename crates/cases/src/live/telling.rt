@@ -3,7 +3,7 @@
 //! Who asks has a socket of the machine's, and so have the telephones here; the clock is the story's. Each time that it is looked at what
 //! comes next comes, at its moment.
 use crate::stories::{Clocks, Plan, Story, Transcript, put_sent};
-use live_ends::{AskFault, ask, put_printed};
+use live_system::{AskFault, ask, put_printed};
 use mg_bytes::OutOfMemory;
 use rgwd_words::answered_by;
 use scenario_files::parted;

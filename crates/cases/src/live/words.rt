@@ -1,8 +1,7 @@
 //! The words that `rgwd` is called with in a story, read as the program reads them.
 use crate::stories::unread_outlet;
 use clap::Command;
-use command_words::matches_in;
-use live_ends::CommonEnding;
+use live_system::{CommonEnding, matches_in};
 use mg_bytes::OutOfMemory;
 use rgwd_words::{Ending, Settings, WORDS, settings_in};
 use std::alloc::{AllocError, Global};

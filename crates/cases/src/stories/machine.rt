@@ -8,7 +8,7 @@ ghost use Rattle.surroundings.specs.Keeping.{told_by};
 use crate::stories::clocks::Clocks;
 use crate::stories::given::{put_answer, put_sent};
 use crate::stories::transcript::Transcript;
-use live_ends::LiveClock;
+use live_system::LiveClock;
 use mg_bytes::OutOfMemory;
 use std::alloc::{AllocError, Global};
 use std::collections::VecDeque;

@@ -5,7 +5,7 @@ use crate::stories::Transcript;
 use crate::stories::clocks::Clocks;
 use crate::stories::late_log::{LateLog, LateRecord};
 use crate::stories::story::Story;
-use live_ends::{CommonEnding, DayWatch};
+use live_system::{CommonEnding, DayWatch};
 use live_journal::{Journal, Trace};
 use live_outlets::{Finisher, Record, TEXT_ROOM, Written, boxed};
 use std::alloc::{AllocError, Global};

@@ -1,8 +1,8 @@
 use Rattle.std.proofs.Common.{◌≡◌, ◌⊎◌, ℕ, true, List, Option, inl, inr, ap, subst, ◌∙◌}
 use Rattle.std.specs.Prelude.{is_some}
 use Rattle.agent_config.specs.declared.config.AgentConfig.{AgentConfig}
-use Rattle.live_ends.specs.declared.ending.CommonEnding.{CommonEnding}
-use Rattle.live_ends.specs.declared.ending.CommonEnding.TheVariants.{OutOfMemory}
+use Rattle.live_system.specs.declared.ending.CommonEnding.{CommonEnding}
+use Rattle.live_system.specs.declared.ending.CommonEnding.TheVariants.{OutOfMemory}
 use Rattle.switchboard.specs.Opening.{BoardOf}
 use Rattle.switchboard.specs.declared.switchboard.Switchboard.{Switchboard}
 use Rattle.live_agent.specs.AnyAround.{ends_any, serves_any, serves_never, writes_any}

@@ -1,6 +1,6 @@
 use Rattle.std.proofs.Common.{◌≡◌, ℕ, List, ◌++◌, ◌∙◌, codes, ap, subst}
-use Rattle.live_ends.specs.Ending.{ending_text as common_text}
-use Rattle.live_ends.specs.Wording.{joined}
+use Rattle.live_system.specs.Ending.{ending_text as common_text}
+use Rattle.live_system.specs.Wording.{joined}
 use Rattle.live_outlets.specs.Reasons.{reason_of}
 use Rattle.rgca_words.specs.Texts.{ending_text}
 use Rattle.rgca_words.proofs.PieceLemmas.{joined_pieces}

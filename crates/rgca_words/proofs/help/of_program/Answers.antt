@@ -1,5 +1,5 @@
 use Rattle.std.proofs.Common.{ℕ, List, Bor, map, refl, ap}
-use Rattle.live_ends.specs.Wording.{piece_text}
+use Rattle.live_system.specs.Wording.{piece_text}
 use Rattle.rgca_words.proofs.help.of_program.Goals as goal
 
 pub returns : goal.returns

@@ -1,5 +1,5 @@
 use Rattle.std.proofs.Common.{List, false, ◌∙◌, ap}
-use Rattle.live_ends.specs.declared.readiness.Visit.{Visit}
+use Rattle.live_system.specs.declared.readiness.Visit.{Visit}
 use Rattle.page_server.proofs.site.Site.look.Goals as goal
 
 pub returns-clause-forgotten : goal.returns-clause-forgotten

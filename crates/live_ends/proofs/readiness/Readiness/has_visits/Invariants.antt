@@ -1,7 +1,0 @@
-use Rattle.std.proofs.Common.{◌≡◌, drop}
-use Rattle.std.specs.List.{list_any}
-use Rattle.live_ends.specs.Looking.{is_visit}
-use Rattle.live_ends.proofs.readiness.Readiness.has_visits.Given as goal
-
-abbrev pub invariant-loop-visit : goal.invariant-loop-visit
-invariant-loop-visit l = list_any is_visit (drop l.visit-index l.visit-items) ≡ list_any is_visit l.self.visits

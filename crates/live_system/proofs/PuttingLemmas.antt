@@ -1,0 +1,30 @@
+-- Loops that put what each of a list brings, and what is put where a socket can't be had.
+use Rattle.std.proofs.Common.{◌≡◌, ℕ, ◌+◌, ◌<◌, ◌≤◌, codes, List, [], ◌∷◌, ◌++◌, length, get_or, drop, sym, ap, ◌∙◌, subst, append_assoc, append-nil}
+use Rattle.std.specs.List.{flat_map}
+use Rattle.std.proofs.lemmas.List.{drop_more, at_drop_all}
+use Rattle.live_system.specs.Wording.{joined}
+
+-- what one brings is put, and what those behind it bring is left
+pub put_one : {X Y : Type 0} (brings : X → List Y) (list : List X) (place : ℕ) (one : X) (out next whole : List Y)
+    → place < length list → next ≡ out ++ brings (get_or list place one)
+    → out ++ flat_map brings (drop place list) ≡ whole → next ++ flat_map brings (drop (place + 1) list) ≡ whole
+put_one brings list place one out next whole within put so_far =
+    ap (λ front. front ++ flat_map brings (drop (place + 1) list)) put
+    ∙ append_assoc out (brings (get_or list place one)) (flat_map brings (drop (place + 1) list))
+    ∙ ap (λ left. out ++ flat_map brings left) (sym (drop_more list place one within))
+    ∙ so_far
+
+-- nothing is left
+pub put_each : {X Y : Type 0} (brings : X → List Y) (list : List X) (place : ℕ) (out whole : List Y) → length list ≤ place
+    → out ++ flat_map brings (drop place list) ≡ whole → out ≡ whole
+put_each brings list place out whole past so_far =
+    sym (append-nil out) ∙ ap (λ left. out ++ left) (sym (at_drop_all (flat_map brings) list place past)) ∙ so_far
+
+-- what is said where no socket can be had: the word that asks for it, its address, and the reason, each as it is told
+pub put_so : (So : List ℕ → Type 0) (word peer reason word_told peer_told reason_told : List ℕ) → word ≡ word_told → peer ≡ peer_told
+    → reason ≡ reason_told → So (joined (word ∷ codes " " ∷ peer ∷ codes ": no socket" ∷ reason ∷ codes "\n" ∷ []))
+    → So (joined (word_told ∷ codes " " ∷ peer_told ∷ codes ": no socket" ∷ reason_told ∷ codes "\n" ∷ []))
+put_so So word peer reason word_told peer_told reason_told same_word same_peer same_reason so =
+    subst (λ (w : List ℕ). So (joined (w ∷ codes " " ∷ peer_told ∷ codes ": no socket" ∷ reason_told ∷ codes "\n" ∷ []))) same_word
+    (subst (λ (p : List ℕ). So (joined (word ∷ codes " " ∷ p ∷ codes ": no socket" ∷ reason_told ∷ codes "\n" ∷ []))) same_peer
+    (subst (λ (r : List ℕ). So (joined (word ∷ codes " " ∷ peer ∷ codes ": no socket" ∷ r ∷ codes "\n" ∷ []))) same_reason so))

@@ -1,0 +1,12 @@
+pub mod Parting
+pub mod Looking
+pub mod Waiting
+pub mod Days
+pub mod AddressWords
+pub mod Addresses
+pub mod NetworkFaults
+pub mod Wording
+pub mod Printing
+pub mod Ending
+pub mod Values
+pub mod Files
