@@ -51,7 +51,7 @@ use std::collections::VecDeque;
 use std::mem;
 use std::net::{Ipv4Addr, Net, SocketAddrV4};
 use std::rc::Rc;
-use surroundings::Speakers;
+use live_io::Speakers;
 
 /// The program `rgwd`.
 #[derive(Clone, Copy)]

@@ -1,6 +1,6 @@
 //! Stories: what comes to a program that runs in memory, and what it gives at it. `docs/SCENARIOS.md` says how they are written.
 //!
-//! Its loop is the program's own. Its sockets are those of `surroundings`, by a script, and its clock is the program's own over a machine's
+//! Its loop is the program's own. Its sockets are those of `live_io`, by a script, and its clock is the program's own over a machine's
 //! that a story sets; so it runs just so each time.
 mod clocks;
 mod given;

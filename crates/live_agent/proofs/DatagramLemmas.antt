@@ -9,7 +9,7 @@ use Rattle.switchboard.specs.declared.switchboard.Switchboard.{Switchboard}
 use Rattle.live_agent.specs.declared.wire.Wire.{Wire}
 use Rattle.bad_network.specs.declared.network.BadNetwork.{BadNetwork}
 use Rattle.bad_network.specs.declared.packet.Way.TheVariants.{In}
-use Rattle.surroundings.specs.Around.{Around}
+use Rattle.live_io.specs.Around.{Around}
 use Rattle.live_agent.specs.Datagrams.{DealsIf, HearsBy, HearsDatagram, HearsOne, HearsTexts, SettlesIf, TakesAll, TakesEach, TakesElse, TakesFound, TakesLooked, TakesNext, TakesOver, TakesReceived}
 use Rattle.live_agent.specs.Handing.{OffersTo}
 use Rattle.live_agent.specs.Sending.{SendsAll, SendsOne}

@@ -7,7 +7,7 @@ use Rattle.call_agent.specs.declared.issuing.IssueFault.{IssueFault}
 use Rattle.machine_rules.specs.declared.refusal.Refusal.{Refusal}
 use Rattle.transmission.specs.declared.output.OutDatagram.{OutDatagram}
 use Rattle.live_agent.specs.declared.wire.Wire.{Wire}
-use Rattle.surroundings.specs.Around.{Around}
+use Rattle.live_io.specs.Around.{Around}
 use Rattle.bad_network.specs.declared.network.BadNetwork.{BadNetwork}
 use Rattle.bad_network.specs.declared.packet.Way.TheVariants.{Out}
 use Rattle.live_agent.specs.Handing.{Leaves, OffersTo}

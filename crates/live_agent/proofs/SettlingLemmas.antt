@@ -1,6 +1,6 @@
 -- What it leaves of a board and of a wire that lines are settled, line by line.
 use Rattle.std.proofs.Common.{◌≡◌, ℕ, ◌+◌, zero, suc, Bool, true, false, refl, sym, subst, arith}
-use Rattle.surroundings.specs.Around.{Around}
+use Rattle.live_io.specs.Around.{Around}
 use Rattle.switchboard.specs.declared.switchboard.Switchboard.{Switchboard}
 use Rattle.switchboard.specs.Boards.{settling_in}
 use Rattle.live_agent.specs.declared.wire.Wire.{Wire}

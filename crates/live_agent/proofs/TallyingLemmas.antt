@@ -5,7 +5,7 @@ use Rattle.agent_texts.specs.declared.tally.Tally.{Tally}
 use Rattle.agent_texts.specs.Counts.{with_handed_out}
 use Rattle.bad_network.specs.declared.network.BadNetwork.{BadNetwork}
 use Rattle.bad_network.specs.declared.packet.Way.TheVariants.{Out}
-use Rattle.surroundings.specs.declared.surroundings.Fault.{Fault}
+use Rattle.live_io.specs.declared.surroundings.Fault.{Fault}
 use Rattle.live_agent.specs.Tallying.{waited_counted, with_receive_fault, CountsLeaving, CountsOffer, CountsSent}
 
 -- no network spoils it, and it is put onto the machine's

@@ -1,8 +1,8 @@
 -- Surroundings of which a worked example asks nothing, and who writes and serves over them: of each a number.
 use Rattle.std.specs.Prelude.{◌≡◌, ⊤, ℕ, List, Result}
 use Rattle.agent_texts.specs.declared.journal.Journal.{Journal}
-use Rattle.surroundings.specs.Around.{Around, unasked}
-use Rattle.surroundings.specs.declared.surroundings.Fault.{Fault}
+use Rattle.live_io.specs.Around.{Around, unasked}
+use Rattle.live_io.specs.declared.surroundings.Fault.{Fault}
 use Rattle.live_outlets.specs.declared.written.Written.{Written}
 use Rattle.switchboard.specs.declared.switchboard.Switchboard.{Switchboard}
 use Rattle.live_agent.specs.declared.wire.Wire.{Wire}

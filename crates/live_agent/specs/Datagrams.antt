@@ -11,8 +11,8 @@ use Rattle.call_agent.specs.AgentStands.{AgentStays, AgentTook}
 use Rattle.call_agent.specs.Hearing.{hears}
 use Rattle.plain_machine.specs.Event.{datagram}
 use Rattle.machine_rules.specs.declared.refusal.Refusal.{Refusal}
-use Rattle.surroundings.specs.Around.{Around}
-use Rattle.surroundings.specs.declared.surroundings.Fault.{Fault}
+use Rattle.live_io.specs.Around.{Around}
+use Rattle.live_io.specs.declared.surroundings.Fault.{Fault}
 use Rattle.transmission.specs.declared.output.OutDatagram.{OutDatagram}
 use Rattle.transmission.specs.Texts.{texts_of}
 use Rattle.switchboard.specs.declared.switchboard.Switchboard.{Switchboard}

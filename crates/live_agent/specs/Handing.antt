@@ -10,9 +10,9 @@ use Rattle.bad_network.specs.declared.packet.Way.TheVariants.{In, Out}
 use Rattle.bad_network.specs.Drawing.{after_draws_on}
 use Rattle.bad_network.specs.Fates.{fate_on}
 use Rattle.bad_network.specs.Waiting.{copies_of, put_all, taken, IsPutInPart}
-use Rattle.surroundings.specs.Around.{Around}
-use Rattle.surroundings.specs.Sending.{Grows}
-use Rattle.surroundings.specs.declared.surroundings.Fault.{Fault}
+use Rattle.live_io.specs.Around.{Around}
+use Rattle.live_io.specs.Sending.{Grows}
+use Rattle.live_io.specs.declared.surroundings.Fault.{Fault}
 use Rattle.live_agent.specs.declared.wire.TheConstants.{MOST_AT_ONCE}
 use Rattle.live_agent.specs.declared.wire.Wire.{Wire}
 use Rattle.live_agent.specs.Tallying.{leaving_counted, with_fate, with_refusal, OnlyNotes}

@@ -6,7 +6,7 @@ use Rattle.agent_texts.specs.Counts.{with_handed_out}
 use Rattle.bad_network.specs.declared.network.BadNetwork.{BadNetwork}
 use Rattle.bad_network.specs.declared.packet.Way.TheVariants.{Out}
 use Rattle.machine_rules.specs.declared.refusal.Refusal.{Refusal}
-use Rattle.surroundings.specs.Around.{Around}
+use Rattle.live_io.specs.Around.{Around}
 use Rattle.transmission.specs.declared.output.OutDatagram.{OutDatagram}
 use Rattle.switchboard.specs.declared.switchboard.Switchboard.{Switchboard}
 use Rattle.live_agent.specs.declared.wire.Wire.{Wire}

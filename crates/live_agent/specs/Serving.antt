@@ -5,8 +5,8 @@ use Rattle.agent_texts.specs.declared.journal.Journal.{Journal}
 use Rattle.live_system.specs.declared.ending.CommonEnding.{CommonEnding}
 use Rattle.live_system.specs.declared.ending.CommonEnding.TheVariants.{OutOfMemory}
 use Rattle.live_outlets.specs.declared.written.Written.{Written}
-use Rattle.surroundings.specs.Around.{Around}
-use Rattle.surroundings.specs.declared.surroundings.Fault.{Fault}
+use Rattle.live_io.specs.Around.{Around}
+use Rattle.live_io.specs.declared.surroundings.Fault.{Fault}
 use Rattle.switchboard.specs.declared.switchboard.Switchboard.{Switchboard}
 use Rattle.switchboard.specs.Opening.{BoardOf}
 use Rattle.turns.specs.Schedule.{opening}

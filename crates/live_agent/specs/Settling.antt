@@ -3,7 +3,7 @@ use Rattle.std.specs.Prelude.{◌≡◌, ℕ, zero, suc, Bool, true, false, is_e
 use Rattle.call_agent.specs.declared.issuing.Issued.{Issued}
 use Rattle.call_agent.specs.declared.issuing.IssueFault.{IssueFault}
 use Rattle.call_office.specs.Showing.{ShowsIn}
-use Rattle.surroundings.specs.Around.{Around}
+use Rattle.live_io.specs.Around.{Around}
 use Rattle.switchboard.specs.declared.switchboard.Switchboard.{Switchboard}
 use Rattle.switchboard.specs.Boards.{settling_in, SettlesIn}
 use Rattle.switchboard.specs.Issuing.{IssuesSettled, SendsAtMost}

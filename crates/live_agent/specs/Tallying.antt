@@ -10,7 +10,7 @@ use Rattle.bad_network.specs.declared.network.BadNetwork.{BadNetwork}
 use Rattle.bad_network.specs.declared.packet.Way.{Way}
 use Rattle.bad_network.specs.declared.packet.Way.TheVariants.{Out}
 use Rattle.bad_network.specs.Fates.{fate_on}
-use Rattle.surroundings.specs.declared.surroundings.Fault.{Fault}
+use Rattle.live_io.specs.declared.surroundings.Fault.{Fault}
 
 -- a command was issued; something was refused for want of memory; a datagram didn't leave, or none could be looked for
 abbrev pub with_command : Tally → Tally

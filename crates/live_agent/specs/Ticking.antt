@@ -7,7 +7,7 @@ use Rattle.call_agent.specs.AgentStands.{AgentStays, AgentTook}
 use Rattle.call_agent.specs.Hearing.{hears}
 use Rattle.machine_rules.specs.declared.refusal.Refusal.{Refusal}
 use Rattle.plain_machine.specs.Event.{tick}
-use Rattle.surroundings.specs.Around.{Around}
+use Rattle.live_io.specs.Around.{Around}
 use Rattle.transmission.specs.declared.output.OutDatagram.{OutDatagram}
 use Rattle.switchboard.specs.declared.switchboard.Switchboard.{Switchboard}
 use Rattle.switchboard.specs.AgentClock.{tick_to}

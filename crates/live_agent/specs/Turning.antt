@@ -5,12 +5,12 @@ use Rattle.std.specs.Net.Socket.{socket_ip}
 use Rattle.std.specs.Str.{bytes_eq}
 use Rattle.std.specs.declared.net.socket_addr.SocketAddr.{SocketAddr}
 use Rattle.mg_bytes.specs.Lines.{line_of}
-use Rattle.surroundings.specs.Around.{Around}
-use Rattle.surroundings.specs.Hearing.{AnswersTo, Hears}
-use Rattle.surroundings.specs.Requests.{requests_from}
-use Rattle.surroundings.specs.Typing.{left_of, behind}
-use Rattle.surroundings.specs.declared.lines.Lines.{Lines}
-use Rattle.surroundings.specs.declared.surroundings.Fault.{Fault}
+use Rattle.live_io.specs.Around.{Around}
+use Rattle.live_io.specs.Hearing.{AnswersTo, Hears}
+use Rattle.live_io.specs.Requests.{requests_from}
+use Rattle.live_io.specs.Typing.{left_of, behind}
+use Rattle.live_io.specs.declared.lines.Lines.{Lines}
+use Rattle.live_io.specs.declared.surroundings.Fault.{Fault}
 use Rattle.turns.specs.Runs.{is_end}
 use Rattle.turns.specs.Schedule.{next_of}
 use Rattle.turns.specs.declared.turn.Pause.{Pause}

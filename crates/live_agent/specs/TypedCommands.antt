@@ -3,9 +3,9 @@ use Rattle.std.specs.Prelude.{◌≡◌, ◌⊎◌, ℕ, codes, decimal, List, [
 use Rattle.std.specs.declared.net.socket_addr.SocketAddr.{SocketAddr}
 use Rattle.mg_bytes.specs.Lines.{cut, line_of}
 use Rattle.call_agent.specs.declared.issuing.Issued.{Issued}
-use Rattle.surroundings.specs.Around.{Around}
-use Rattle.surroundings.specs.Hearing.{AnswersTo}
-use Rattle.surroundings.specs.Typing.{left_of}
+use Rattle.live_io.specs.Around.{Around}
+use Rattle.live_io.specs.Hearing.{AnswersTo}
+use Rattle.live_io.specs.Typing.{left_of}
 use Rattle.switchboard.specs.declared.switchboard.Switchboard.{Switchboard}
 use Rattle.switchboard.specs.declared.typed.TypedFault.{TypedFault}
 use Rattle.switchboard.specs.declared.typed.TypedFault.TheVariants.{OutOfMemory, NoMoreIds, BadCommand, NoSuchGateway, Unknown}

@@ -5,10 +5,10 @@ use Rattle.bad_network.specs.declared.network.BadNetwork.{BadNetwork}
 use Rattle.bad_network.specs.declared.spoiling.Spoiling.{Spoiling}
 use Rattle.bad_network.specs.Waiting.{first_due}
 use Rattle.mg_bytes.specs.Lists.{is_empty}
-use Rattle.surroundings.specs.Around.{Around}
-use Rattle.surroundings.specs.Typing.{left_of}
-use Rattle.surroundings.specs.declared.surroundings.Fault.{Fault}
-use Rattle.surroundings.specs.declared.surroundings.Told.{Told}
+use Rattle.live_io.specs.Around.{Around}
+use Rattle.live_io.specs.Typing.{left_of}
+use Rattle.live_io.specs.declared.surroundings.Fault.{Fault}
+use Rattle.live_io.specs.declared.surroundings.Told.{Told}
 use Rattle.turns.specs.Clock.{earlier, has_come}
 use Rattle.turns.specs.Runs.{is_end}
 use Rattle.turns.specs.Schedule.{next_of}

@@ -5,7 +5,7 @@ ghost use Rattle.std.specs.Prelude.{◌≡◌, ◌⊎◌, [], ◌∷◌, ℕ, Li
 ghost use Rattle.std.specs.declared.net.socket_addr.SocketAddr.{SocketAddr};
 ghost use Rattle.call_agent.specs.declared.issuing.Issued.{Issued};
 ghost use Rattle.mg_bytes.specs.Lines.{cut, line_of};
-ghost use Rattle.surroundings.specs.Typing.{left_of};
+ghost use Rattle.live_io.specs.Typing.{left_of};
 ghost use Rattle.switchboard.specs.Typed.{typed_text};
 ghost use Rattle.switchboard.specs.TypedCommands.{IssuesTyped};
 ghost use Rattle.switchboard.specs.declared.switchboard.Switchboard.{Switchboard};

@@ -8,7 +8,7 @@ ghost use Rattle.live_agent.specs.Serving.{Serves, ServesOver, ServesToEnd, Turn
 ghost use Rattle.live_agent.specs.Wiring.{SpoilsSo};
 ghost use Rattle.live_outlets.specs.Recording.{state_when};
 ghost use Rattle.live_outlets.specs.declared.record.RecordState.TheVariants as states;
-ghost use Rattle.surroundings.specs.Typing.{left_of};
+ghost use Rattle.live_io.specs.Typing.{left_of};
 ghost use Rattle.switchboard.specs.Opening.{BoardOf};
 
 use crate::recorder::{Recorder, Recording};
@@ -26,7 +26,7 @@ use std::io::Write;
 use std::net::{Net, SocketAddrV4};
 use std::rt::{Clock, Files};
 use std::time::Instant;
-use surroundings::Surroundings;
+use live_io::Surroundings;
 use switchboard::Switchboard;
 
 // Microseconds in a millisecond.

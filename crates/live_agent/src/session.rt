@@ -10,7 +10,7 @@ ghost use Rattle.transmission.specs.Texts.{texts_of};
 ghost use Rattle.turns.specs.Runs.{is_end};
 ghost use Rattle.live_agent.specs.Turning.{stop_request, line_request, AsksFirst, TakesTyped, DoesTurn};
 ghost use Rattle.live_agent.specs.TypedCommands.{fault_text, issued_text, DoesCommand, IsTypedNext};
-ghost use Rattle.surroundings.specs.Typing.{left_of};
+ghost use Rattle.live_io.specs.Typing.{left_of};
 ghost use Rattle.live_agent.specs.Wiring.{due_of, ms_until, longest_until, IsSituation, IsWaitedFor};
 
 use crate::recorder::Recorder;
@@ -23,7 +23,7 @@ use mg_bytes::{OutOfMemory, put_decimal};
 use plain_machine::{Outputs, Refusal};
 use std::alloc::Global;
 use std::net::SocketAddrV4;
-use surroundings::{Fault, Lines, Surroundings};
+use live_io::{Fault, Lines, Surroundings};
 use switchboard::{Switchboard, TypedFault, typed_text};
 use transmission::texts;
 use turns::{Ready, Schedule, Situation, Turn, earlier};

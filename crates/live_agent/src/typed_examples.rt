@@ -5,9 +5,9 @@ ghost use Rattle.std.specs.Prelude.{◌≡◌, ◌+◌, [], ◌∷◌, ℕ, List
 ghost use Rattle.std.specs.declared.net.socket_addr.SocketAddr.{SocketAddr};
 ghost use Rattle.std.specs.declared.net.socket_addr.SocketAddr.TheVariants.{V4, V6};
 ghost use Rattle.std.specs.declared.net.socket_addr.SocketAddrV4.{SocketAddrV4};
-ghost use Rattle.surroundings.specs.Example.{here, socket_at, there};
-ghost use Rattle.surroundings.specs.Typing.{left_of};
-ghost use Rattle.surroundings.specs.declared.lines.Lines.{Lines};
+ghost use Rattle.live_io.specs.Example.{here, socket_at, there};
+ghost use Rattle.live_io.specs.Typing.{left_of};
+ghost use Rattle.live_io.specs.declared.lines.Lines.{Lines};
 ghost use Rattle.live_agent.specs.declared.session.Request.{Request};
 ghost use Rattle.live_agent.specs.declared.session.Request.TheVariants as requests;
 ghost use Rattle.live_agent.specs.declared.wire.Wire.{Wire};

@@ -11,12 +11,12 @@ ghost use Rattle.live_agent.specs.Handing.{comes_in, HandsOver, Leaves, Offers, 
 ghost use Rattle.live_agent.specs.Sending.{SendsAll, SendsOne, SendsOver};
 ghost use Rattle.live_agent.specs.Tallying.{looked_counted, waited_counted, with_fate};
 ghost use Rattle.live_agent.specs.Tallying.{CountsLeaving, CountsOffer, CountsSent, OnlyCounts, OnlyNotes};
-ghost use Rattle.surroundings.specs.Hearing.{Hears, AnswersTo};
-ghost use Rattle.surroundings.specs.Requests.{requests_from};
-ghost use Rattle.surroundings.specs.Sending.{Grows};
-ghost use Rattle.surroundings.specs.Typing.{left_of, behind};
-ghost use Rattle.surroundings.specs.declared.surroundings.Fault.{Fault};
-ghost use Rattle.surroundings.specs.declared.surroundings.Told.{Told};
+ghost use Rattle.live_io.specs.Hearing.{Hears, AnswersTo};
+ghost use Rattle.live_io.specs.Requests.{requests_from};
+ghost use Rattle.live_io.specs.Sending.{Grows};
+ghost use Rattle.live_io.specs.Typing.{left_of, behind};
+ghost use Rattle.live_io.specs.declared.surroundings.Fault.{Fault};
+ghost use Rattle.live_io.specs.declared.surroundings.Told.{Told};
 
 use agent_texts::{Journal, Tally, count};
 use bad_network::{BadNetwork, Fate, Packet, Way};
@@ -26,7 +26,7 @@ use live_outlets::{Now, Record};
 use plain_machine::OutDatagram;
 use std::alloc::{AllocError, Global};
 use std::net::SocketAddrV4;
-use surroundings::{Lines, Surroundings};
+use live_io::{Lines, Surroundings};
 use turns::{Pause, Ready};
 
 /// So many packets are handed out at most at a turn, or commands given up, or lines woken, where more are due: the others are at the next.

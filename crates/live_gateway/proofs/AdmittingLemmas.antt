@@ -7,7 +7,7 @@ use Rattle.std.specs.declared.net.ipv4_addr.Ipv4Addr.{Ipv4Addr}
 use Rattle.endpoint_names.specs.declared.table.Host.{Host}
 use Rattle.endpoint_names.specs.Route.{addresses}
 use Rattle.plain_machine.specs.declared.setup.Setup.{Setup}
-use Rattle.surroundings.specs.Speaking.{Admitted, nobody, with_host}
+use Rattle.live_io.specs.Speaking.{Admitted, nobody, with_host}
 use Rattle.live_gateway.specs.Admitting.{hosts_of, with_hosts, known_hosts, known_to}
 use Rattle.live_gateway.specs.Naming.{Word, no_word, with_named_host, with_all, known_word}
 

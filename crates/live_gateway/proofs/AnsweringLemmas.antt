@@ -12,8 +12,8 @@ use Rattle.plain_machine.specs.Lists.{plain}
 use Rattle.plain_machine.specs.Refusing.{Ends, refusal_of}
 use Rattle.machine_rules.specs.declared.refusal.Refusal.{Refusal}
 use Rattle.traces.specs.Writing.{Input, typed}
-use Rattle.surroundings.specs.Speaking.{Admitted}
-use Rattle.surroundings.specs.declared.surroundings.Fault.{Fault}
+use Rattle.live_io.specs.Speaking.{Admitted}
+use Rattle.live_io.specs.declared.surroundings.Fault.{Fault}
 use Rattle.live_play.specs.Running.{Live, RanOf, TakesBy, Refuses, Asked}
 use Rattle.live_telephones.specs.Asking.{usage}
 use Rattle.live_telephones.specs.Watching.{AnswersWatch, BeginsToSee, IsUnasked}

@@ -1,7 +1,7 @@
 -- Which datagrams came in at entries, and which inputs were refused there.
 use Rattle.std.proofs.Common.{◌≡◌, inl, inr, ℕ, ◌+◌, ◌-◌, ◌≤◌, List, [], ◌∷◌, ◌++◌, refl, sym, ◌∙◌, ap, subst, arith}
 use Rattle.std.proofs.lemmas.Grind.{flat_map-append}
-use Rattle.surroundings.specs.Sending.{Received}
+use Rattle.live_io.specs.Sending.{Received}
 use Rattle.traces.specs.Writing.{Entry, showed, became}
 use Rattle.live_play.specs.Coming.{arrived_at, arrived_in, AreAllBut}
 use Rattle.live_play.specs.Running.{AreMarks}

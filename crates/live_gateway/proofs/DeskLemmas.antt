@@ -5,9 +5,9 @@ use Rattle.std.specs.Prelude.{not, is_ok, Result, Ok, Err, OnOk, OnErr, IfErr}
 use Rattle.std.specs.Global.{Box}
 use Rattle.std.specs.declared.net.socket_addr.SocketAddrV4.{SocketAddrV4}
 use Rattle.message_counts.specs.declared.reporting.Faults.{Faults}
-use Rattle.surroundings.specs.Sending.{Received, Sent, Traffic, Grows}
-use Rattle.surroundings.specs.Speaking.{Admitted}
-use Rattle.surroundings.proofs.TrafficLemmas.{grows_nothing, nothing_more, grows_on}
+use Rattle.live_io.specs.Sending.{Received, Sent, Traffic, Grows}
+use Rattle.live_io.specs.Speaking.{Admitted}
+use Rattle.live_io.proofs.TrafficLemmas.{grows_nothing, nothing_more, grows_on}
 use Rattle.gateway_core.specs.Wire.{counted}
 use Rattle.gateway_core.specs.declared.outcome.TextOutcome.{TextOutcome}
 use Rattle.gateway_core.specs.Changing.{Changes}

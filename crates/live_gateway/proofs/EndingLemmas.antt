@@ -25,8 +25,8 @@ use Rattle.live_gateway.specs.declared.desk.Desk.{Desk}
 use Rattle.live_gateway.specs.declared.exchange.Exchange.{Exchange}
 use Rattle.live_gateway.specs.Ending.{EndsAt, WroteTimes, WritesLast, AsksForEnd, is_record_refused, EndsWith, OnlyEnds}
 use Rattle.live_gateway.specs.Exchanging.{OnlyWrites}
-use Rattle.surroundings.specs.Hearing.{AnswersTo}
-use Rattle.surroundings.specs.declared.lines.Lines.{Lines}
+use Rattle.live_io.specs.Hearing.{AnswersTo}
+use Rattle.live_io.specs.declared.lines.Lines.{Lines}
 use Rattle.std.specs.declared.net.socket_addr.SocketAddr.{SocketAddr}
 use Rattle.live_journal.specs.declared.journal.Journal.{Journal}
 use Rattle.live_play.specs.declared.play.LivePlay.{LivePlay}

@@ -4,10 +4,10 @@ use Rattle.std.specs.Prelude.{nat_lt, if◌then◌else◌, true, false, Result, 
 use Rattle.std.specs.Global.{Box}
 use Rattle.message_counts.specs.declared.reporting.Faults.{Faults}
 use Rattle.page_state.specs.BoardShowing.{BoardState}
-use Rattle.surroundings.specs.Around.{Around}
-use Rattle.surroundings.specs.Sending.{Traffic}
-use Rattle.surroundings.specs.declared.lines.Lines.{Lines}
-use Rattle.surroundings.specs.declared.surroundings.Told.{Told}
+use Rattle.live_io.specs.Around.{Around}
+use Rattle.live_io.specs.Sending.{Traffic}
+use Rattle.live_io.specs.declared.lines.Lines.{Lines}
+use Rattle.live_io.specs.declared.surroundings.Told.{Told}
 use Rattle.turns.specs.declared.schedule.Schedule.{Schedule}
 use Rattle.turns.specs.declared.turn.Turn.{Turn}
 use Rattle.turns.specs.declared.turn.Turn.TheVariants.{End, Look, Wait, Tick, Command, Datagram, Visit, Note}

@@ -7,8 +7,8 @@ use Rattle.std.proofs.lemmas.List.{map-append}
 use Rattle.std.proofs.lemmas.List.Elements.{filter-append}
 use Rattle.bad_network.specs.declared.packet.Way.{Way}
 use Rattle.bad_network.specs.declared.packet.Way.TheVariants.{In, Out}
-use Rattle.surroundings.specs.Sending.{Sent, Received, Grows, found_by}
-use Rattle.surroundings.proofs.TrafficLemmas.{nothing_more, grows_on}
+use Rattle.live_io.specs.Sending.{Sent, Received, Grows, found_by}
+use Rattle.live_io.proofs.TrafficLemmas.{nothing_more, grows_on}
 use Rattle.live_gateway.specs.declared.admission.Admission.{Admission}
 use Rattle.live_gateway.specs.declared.spoilt_way.SpoiltWay.{SpoiltWay}
 use Rattle.live_gateway.specs.Admitting.{is_heard, heard_of, HeardSince}

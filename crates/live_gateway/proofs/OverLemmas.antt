@@ -11,8 +11,8 @@ use Rattle.live_journal.specs.declared.journal.Journal.{Journal}
 use Rattle.message_counts.specs.declared.reporting.Faults.{Faults}
 use Rattle.plain_machine.specs.Event.{GatewayEvent, datagram}
 use Rattle.gateway_core.specs.declared.sent.SentMessage.{SentMessage}
-use Rattle.surroundings.specs.Speaking.{Admitted}
-use Rattle.surroundings.specs.declared.surroundings.Fault.{Fault}
+use Rattle.live_io.specs.Speaking.{Admitted}
+use Rattle.live_io.specs.declared.surroundings.Fault.{Fault}
 use Rattle.told_messages.specs.declared.log.Log.{Log}
 use Rattle.traces.specs.Writing.{Input}
 use Rattle.traces.specs.declared.telling.Mark.{Mark}

@@ -1,6 +1,6 @@
 -- When the page is asked for its next act.
 use Rattle.std.proofs.Common.{◌≡◌, Bool, true, false, ◌&&◌, refl}
-use Rattle.surroundings.specs.declared.lines.Lines.{Lines}
+use Rattle.live_io.specs.declared.lines.Lines.{Lines}
 use Rattle.live_journal.specs.declared.journal.Journal.{Journal}
 use Rattle.live_telephones.specs.Paging.{TakesAct}
 use Rattle.live_gateway.specs.Leaving.{TakesIf}

@@ -4,9 +4,9 @@ use Rattle.std.specs.Prelude.{⊤, is_some, Result}
 use Rattle.std.specs.Global.{Box}
 use Rattle.std.specs.declared.net.socket_addr.SocketAddrV4.{SocketAddrV4}
 use Rattle.bad_network.specs.declared.packet.Packet.{Packet}
-use Rattle.surroundings.specs.Around.{Around}
-use Rattle.surroundings.specs.Sending.{Sent, Traffic}
-use Rattle.surroundings.specs.declared.surroundings.Fault.{Fault}
+use Rattle.live_io.specs.Around.{Around}
+use Rattle.live_io.specs.Sending.{Sent, Traffic}
+use Rattle.live_io.specs.declared.surroundings.Fault.{Fault}
 use Rattle.live_journal.specs.declared.journal.Journal.{Journal}
 use Rattle.live_gateway.specs.declared.admission.Admission.{Admission}
 use Rattle.live_gateway.specs.declared.exchange.Exchange.{Exchange}

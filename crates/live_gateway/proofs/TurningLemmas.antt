@@ -21,8 +21,8 @@ use Rattle.live_journal.specs.Writing.{WriterBy}
 use Rattle.live_play.specs.Running.{Live, Ran, Takes, TakesBy}
 use Rattle.live_gateway.specs.Desk.{Standing, with_input}
 use Rattle.live_play.specs.Readable.{first_unread}
-use Rattle.surroundings.specs.Speaking.{Admitted}
-use Rattle.surroundings.specs.declared.surroundings.Fault.{Fault}
+use Rattle.live_io.specs.Speaking.{Admitted}
+use Rattle.live_io.specs.declared.surroundings.Fault.{Fault}
 use Rattle.live_gateway.specs.declared.desk.Desk.{Desk}
 use Rattle.live_gateway.specs.declared.exchange.Exchange.{Exchange}
 use Rattle.live_gateway.specs.Exchanging.{OnlyWrites, IsTold, HandsOver, NotesTaken, NotesRefused, TakesOver}

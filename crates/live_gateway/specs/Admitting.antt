@@ -8,9 +8,9 @@ use Rattle.endpoint_names.specs.declared.route.Route.{Route}
 use Rattle.endpoint_names.specs.declared.table.Host.{Host}
 use Rattle.endpoint_names.specs.Route.{addresses, each_with}
 use Rattle.plain_machine.specs.declared.setup.Setup.{Setup}
-use Rattle.surroundings.specs.Requests.{is_anywhere}
-use Rattle.surroundings.specs.Sending.{Received, Grows}
-use Rattle.surroundings.specs.Speaking.{Admitted, nobody, with_host, admitted_by, may_speak}
+use Rattle.live_io.specs.Requests.{is_anywhere}
+use Rattle.live_io.specs.Sending.{Received, Grows}
+use Rattle.live_io.specs.Speaking.{Admitted, nobody, with_host, admitted_by, may_speak}
 use Rattle.live_gateway.specs.declared.admission.Admission.{Admission}
 
 -- Who may speak

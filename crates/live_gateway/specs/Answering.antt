@@ -7,13 +7,13 @@ use Rattle.std.specs.declared.net.socket_addr.SocketAddrV4.{SocketAddrV4}
 use Rattle.mg_bytes.specs.Lines.{line_of}
 use Rattle.mg_bytes.specs.Words.{words}
 use Rattle.mg_line.specs.declared.phone.Act.{Act}
-use Rattle.surroundings.specs.Around.{Around}
-use Rattle.surroundings.specs.Hearing.{AnswersTo}
-use Rattle.surroundings.specs.Requests.{requests_from}
-use Rattle.surroundings.specs.Speaking.{Admitted, admitted_by}
-use Rattle.surroundings.specs.Typing.{left_of, behind, v4_of}
-use Rattle.surroundings.specs.declared.lines.Lines.{Lines}
-use Rattle.surroundings.specs.declared.surroundings.Fault.{Fault}
+use Rattle.live_io.specs.Around.{Around}
+use Rattle.live_io.specs.Hearing.{AnswersTo}
+use Rattle.live_io.specs.Requests.{requests_from}
+use Rattle.live_io.specs.Speaking.{Admitted, admitted_by}
+use Rattle.live_io.specs.Typing.{left_of, behind, v4_of}
+use Rattle.live_io.specs.declared.lines.Lines.{Lines}
+use Rattle.live_io.specs.declared.surroundings.Fault.{Fault}
 use Rattle.page_state.specs.declared.ring.Kind.TheVariants.{Act as OfAct, Told as OfTold}
 use Rattle.told_messages.specs.Showing.{nobody, GoesOn, Happened}
 use Rattle.plain_machine.specs.Event.{GatewayEvent, phone}

@@ -8,7 +8,7 @@ use Rattle.machine_rules.specs.declared.refusal.Refusal.{Refusal}
 use Rattle.plain_machine.specs.Event.{GatewayEvent}
 use Rattle.plain_machine.specs.Lists.{plain}
 use Rattle.plain_machine.specs.Refusing.{Ends, refusal_of}
-use Rattle.surroundings.specs.Sending.{Received, Traffic, Grows}
+use Rattle.live_io.specs.Sending.{Received, Traffic, Grows}
 use Rattle.rgw_scripts.specs.Moves.{give, pass, ask, sends, refuses, tells}
 use Rattle.traces.specs.Writing.{Entry, showed, became}
 use Rattle.live_play.specs.Coming.{Came, arrived_in, AreAllBut}

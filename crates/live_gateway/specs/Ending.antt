@@ -3,8 +3,8 @@ use Rattle.std.specs.Prelude.{◌≡◌, ◌⊎◌, ◌||◌, ℕ, zero, suc, Bo
 use Rattle.std.specs.Net.Addr.{IsLoopbackV4, IsLoopbackV6, MatchIp}
 use Rattle.std.specs.Net.Socket.{socket_ip}
 use Rattle.mg_bytes.specs.Lines.{line_of}
-use Rattle.surroundings.specs.Typing.{left_of}
-use Rattle.surroundings.specs.declared.lines.Lines.{Lines}
+use Rattle.live_io.specs.Typing.{left_of}
+use Rattle.live_io.specs.declared.lines.Lines.{Lines}
 use Rattle.plain_machine.specs.Event.{GatewayEvent}
 use Rattle.plain_machine.specs.Lists.{plain}
 use Rattle.gateway_core.specs.GatewayState.{GatewayState}

@@ -29,9 +29,9 @@ use Rattle.live_play.specs.Coming.{Came}
 use Rattle.live_play.specs.Readable.{first_unread}
 use Rattle.live_play.specs.Running.{Live, TakesBy}
 use Rattle.std.specs.declared.net.socket_addr.SocketAddrV4.{SocketAddrV4}
-use Rattle.surroundings.specs.Sending.{Sent, Received, Traffic, found_by}
-use Rattle.surroundings.specs.Speaking.{Admitted}
-use Rattle.surroundings.specs.declared.surroundings.Fault.{Fault}
+use Rattle.live_io.specs.Sending.{Sent, Received, Traffic, found_by}
+use Rattle.live_io.specs.Speaking.{Admitted}
+use Rattle.live_io.specs.declared.surroundings.Fault.{Fault}
 use Rattle.traces.specs.Writing.{Input}
 use Rattle.traces.specs.declared.telling.Mark.{Mark}
 use Rattle.traces.specs.declared.telling.Mark.TheVariants.{Unsent, Lost}

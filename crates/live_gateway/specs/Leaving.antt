@@ -6,11 +6,11 @@ use Rattle.gateway_core.specs.Stands.{Stands}
 use Rattle.plain_machine.specs.Event.{GatewayEvent}
 use Rattle.plain_machine.specs.Lists.{plain}
 use Rattle.page_state.specs.BoardShowing.{BoardState}
-use Rattle.surroundings.specs.Around.{Around}
-use Rattle.surroundings.specs.Typing.{left_of}
-use Rattle.surroundings.specs.declared.lines.Lines.{Lines}
-use Rattle.surroundings.specs.declared.surroundings.Fault.{Fault}
-use Rattle.surroundings.specs.declared.surroundings.Told.{Told}
+use Rattle.live_io.specs.Around.{Around}
+use Rattle.live_io.specs.Typing.{left_of}
+use Rattle.live_io.specs.declared.lines.Lines.{Lines}
+use Rattle.live_io.specs.declared.surroundings.Fault.{Fault}
+use Rattle.live_io.specs.declared.surroundings.Told.{Told}
 use Rattle.exchange_log.specs.Pausing.{pause_line}
 use Rattle.told_messages.specs.Recording.{Records}
 use Rattle.turns.specs.declared.turn.Pause.{Pause}

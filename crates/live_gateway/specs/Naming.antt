@@ -8,8 +8,8 @@ use Rattle.endpoint_names.specs.declared.table.Host.{Host}
 use Rattle.endpoint_names.specs.Route.{addresses}
 use Rattle.mg_bytes.specs.Lists.{is_empty}
 use Rattle.plain_machine.specs.declared.setup.Setup.{Setup}
-use Rattle.surroundings.specs.Speaking.{Admitted, admitted_by, nobody, with_host, may_speak}
-use Rattle.surroundings.specs.declared.speaking.Speakers.{Speakers}
+use Rattle.live_io.specs.Speaking.{Admitted, admitted_by, nobody, with_host, may_speak}
+use Rattle.live_io.specs.declared.speaking.Speakers.{Speakers}
 use Rattle.live_gateway.specs.Admitting.{hosts_of}
 
 -- a word so far, and whom it admits

@@ -9,8 +9,8 @@ use Rattle.gateway_core.specs.Wire.{counted}
 use Rattle.page_state.specs.declared.ring.Kind.TheVariants.{Received as OfReceived}
 use Rattle.plain_machine.specs.Event.{GatewayEvent, datagram, phone, tick}
 use Rattle.gateway_core.specs.declared.sent.SentMessage.{SentMessage}
-use Rattle.surroundings.specs.Speaking.{Admitted}
-use Rattle.surroundings.specs.declared.surroundings.Fault.{Fault}
+use Rattle.live_io.specs.Speaking.{Admitted}
+use Rattle.live_io.specs.declared.surroundings.Fault.{Fault}
 use Rattle.told_messages.specs.declared.log.Log.{Log}
 use Rattle.told_messages.specs.Explaining.{reason_text}
 use Rattle.told_messages.specs.Recording.{Records, unsent_text}

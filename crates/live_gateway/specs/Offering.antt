@@ -10,8 +10,8 @@ use Rattle.bad_network.specs.declared.packet.Way.TheVariants.{In, Out}
 use Rattle.bad_network.specs.Drawing.{after_draws_on}
 use Rattle.bad_network.specs.Fates.{fate_on}
 use Rattle.bad_network.specs.Waiting.{copies_of as packets_of, put_all, taken, IsPutInPart}
-use Rattle.surroundings.specs.Keeping.{copies_of}
-use Rattle.surroundings.specs.Sending.{Sent, Received}
+use Rattle.live_io.specs.Keeping.{copies_of}
+use Rattle.live_io.specs.Sending.{Sent, Received}
 use Rattle.live_gateway.specs.declared.spoilt_way.SpoiltWay.{SpoiltWay}
 
 -- all that was offered on the way out, where that is kept

@@ -15,8 +15,8 @@ use Rattle.message_counts.specs.declared.message_tally.MessageTally.{MessageTall
 use Rattle.page_state.specs.Keeping.{nothing_yet}
 use Rattle.page_state.specs.BoardShowing.{BoardState}
 use Rattle.live_outlets.specs.Recording.{state_when}
-use Rattle.surroundings.specs.Typing.{left_of}
-use Rattle.surroundings.specs.declared.lines.Lines.{Lines}
+use Rattle.live_io.specs.Typing.{left_of}
+use Rattle.live_io.specs.declared.lines.Lines.{Lines}
 use Rattle.told_messages.specs.declared.log.Log.{Log}
 use Rattle.traces.specs.Writing.{opening_script}
 use Rattle.live_journal.specs.Recording.{Begins}

@@ -5,8 +5,8 @@ use Rattle.std.specs.declared.net.socket_addr.SocketAddrV4.{SocketAddrV4}
 use Rattle.bad_network.specs.declared.packet.Packet.{Packet}
 use Rattle.bad_network.specs.declared.packet.Way.TheVariants.{In, Out}
 use Rattle.exchange_log.specs.declared.note.Note.TheVariants as notes
-use Rattle.surroundings.specs.Around.{Around}
-use Rattle.surroundings.specs.declared.surroundings.Fault.{Fault}
+use Rattle.live_io.specs.Around.{Around}
+use Rattle.live_io.specs.declared.surroundings.Fault.{Fault}
 use Rattle.told_messages.specs.Logging.{LeavesOut}
 use Rattle.live_gateway.specs.declared.admission.Admission.{Admission}
 use Rattle.live_gateway.specs.declared.exchange.Exchange.{Exchange}

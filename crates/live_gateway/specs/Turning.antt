@@ -10,12 +10,12 @@ use Rattle.machine_rules.specs.declared.refusal.Refusal.{Refusal}
 use Rattle.plain_machine.specs.Event.{GatewayEvent, datagram, tick}
 use Rattle.plain_machine.specs.Falling.{first_due}
 use Rattle.plain_machine.specs.Lists.{plain}
-use Rattle.surroundings.specs.Around.{Around}
-use Rattle.surroundings.specs.Hearing.{Hears}
-use Rattle.surroundings.specs.Speaking.{Admitted, admitted_by}
-use Rattle.surroundings.specs.Typing.{left_of}
-use Rattle.surroundings.specs.declared.surroundings.Fault.{Fault}
-use Rattle.surroundings.specs.declared.surroundings.Told.{Told}
+use Rattle.live_io.specs.Around.{Around}
+use Rattle.live_io.specs.Hearing.{Hears}
+use Rattle.live_io.specs.Speaking.{Admitted, admitted_by}
+use Rattle.live_io.specs.Typing.{left_of}
+use Rattle.live_io.specs.declared.surroundings.Fault.{Fault}
+use Rattle.live_io.specs.declared.surroundings.Told.{Told}
 use Rattle.traces.specs.Writing.{Input, arrived, passed}
 use Rattle.transmission.specs.Texts.{largest_datagram}
 use Rattle.turns.specs.Clock.{earlier, has_come}

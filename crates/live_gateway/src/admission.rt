@@ -1,14 +1,14 @@
 //! Who may speak to a gateway, whom it hears, and who may type.
 ghost use Rattle.std.specs.Prelude.{◌≡◌, ◌++◌, OnOk, IfOk};
 ghost use Rattle.endpoint_names.specs.Route.{addresses};
-ghost use Rattle.surroundings.specs.Speaking.{admitted_by};
+ghost use Rattle.live_io.specs.Speaking.{admitted_by};
 ghost use Rattle.live_gateway.specs.Admitting.{hosts_of, known_hosts, known_to, is_sent_by, is_heard};
 
 use endpoint_names::Route;
 use plain_machine::Setup;
 use std::alloc::{AllocError, Global};
 use std::net::{Ipv4Addr, SocketAddrV4};
-use surroundings::Speakers;
+use live_io::Speakers;
 
 /// Whom a gateway hears, and whether its telephones are open to other machines.
 pub struct Admission {

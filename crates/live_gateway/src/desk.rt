@@ -13,7 +13,7 @@ ghost use Rattle.live_telephones.specs.Losses.{counts_text};
 ghost use Rattle.live_telephones.specs.Asking.{AsksFor};
 ghost use Rattle.live_telephones.specs.Watching.{IsUnwatched};
 ghost use Rattle.rgw_scripts.specs.declared.step.ScriptLine.{ScriptLine};
-ghost use Rattle.surroundings.specs.Hearing.{AnswersTo};
+ghost use Rattle.live_io.specs.Hearing.{AnswersTo};
 ghost use Rattle.live_gateway.specs.Desk.{at_desk, GoesOn};
 ghost use Rattle.live_gateway.specs.Ending.{EndsAt, AsksForEnd};
 ghost use Rattle.live_gateway.specs.Exchanging.{OnlyWrites};
@@ -38,7 +38,7 @@ use live_telephones::{
     question_answer, request_in, short_answer, show, typist_of,
 };
 use std::alloc::{AllocError, Global};
-use surroundings::{Lines, Surroundings, Teller};
+use live_io::{Lines, Surroundings, Teller};
 use turns::{Schedule, Turn};
 
 /// A gateway that runs, all that it stands on, and what is kept of it.

@@ -1,6 +1,6 @@
 //! How a gateway that runs ends.
 ghost use Rattle.std.specs.Prelude.{◌≡◌, codes, IfOk, OnErr};
-ghost use Rattle.surroundings.specs.Hearing.{AnswersTo};
+ghost use Rattle.live_io.specs.Hearing.{AnswersTo};
 ghost use Rattle.live_system.specs.Ending.{served_ending};
 ghost use Rattle.live_outlets.specs.Written.{faults_in};
 ghost use Rattle.live_gateway.specs.Ending.{AsksForEnd, is_record_refused, WritesLast, EndsWith, OnlyEnds};
@@ -11,7 +11,7 @@ use live_journal::{Journal, Recorder, Trace};
 use live_outlets::{Finisher, Written};
 use std::alloc::AllocError;
 use std::rt::Clock;
-use surroundings::Surroundings;
+use live_io::Surroundings;
 
 // Whether memory was refused for something that is recorded.
 fn is_record_refused(trace: &Trace, journal: &Journal) -> bool

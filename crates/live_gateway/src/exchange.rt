@@ -1,9 +1,9 @@
 //! What goes between the gateway and others: over sockets, behind a bad network where one is asked for; and its journal.
 ghost use Rattle.std.specs.Prelude.{◌≡◌, ◌<◌, ◌≤◌, ◌∷◌, ◌⊎◌, ⊤, [], true, false, length, take, ℕ, Bool, List, Option, Result, IfOk, IfSome, is_some, option_map};
 ghost use Rattle.small_rules.specs.Counting.{counted};
-ghost use Rattle.surroundings.specs.declared.surroundings.Fault.{Fault};
-ghost use Rattle.surroundings.specs.Hearing.{Hears};
-ghost use Rattle.surroundings.specs.Sending.{Sent, Grows, found_by};
+ghost use Rattle.live_io.specs.declared.surroundings.Fault.{Fault};
+ghost use Rattle.live_io.specs.Hearing.{Hears};
+ghost use Rattle.live_io.specs.Sending.{Sent, Grows, found_by};
 ghost use Rattle.live_gateway.specs.Admitting.{is_heard};
 ghost use Rattle.live_gateway.specs.Offering.{brought, TakesDue};
 ghost use Rattle.live_gateway.specs.Exchanging.{handed_by, received_by, came_by, next_due, moment_at, with_read, faults_by, Waits, Becomes, HandsOver, LosesOver, IsSameTurn, LooksOnce, CountsReceived, FoundSince};
@@ -29,7 +29,7 @@ use message_counts::{Faults, Taken};
 use small_rules::count;
 use std::alloc::{AllocError, Global};
 use std::net::SocketAddrV4;
-use surroundings::{Fault, Lines, Surroundings};
+use live_io::{Fault, Lines, Surroundings};
 use traces::Mark;
 
 /// So many packets are handed out at most where the network before the socket is looked for one that comes in.

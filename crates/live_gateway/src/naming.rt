@@ -8,7 +8,7 @@ use mg_bytes::{Draft, OutOfMemory};
 use plain_machine::Setup;
 use std::alloc::Global;
 use std::net::Ipv4Addr;
-use surroundings::Speakers;
+use live_io::Speakers;
 
 // An address is named behind the others of a word, which admits these: where it isn't admitted yet; commas part those that are.
 fn name(

@@ -1,10 +1,10 @@
 //! What a turn does that needs no gateway, but what that tells: who has one pays for the layout of all that it holds.
 ghost use Rattle.std.specs.Prelude.{◌≡◌, ◌<◌, ◌⊎◌, ◌&&◌, ℕ, Bool, Option, Result};
 ghost use Rattle.mg_bytes.specs.Lists.{is_empty};
-ghost use Rattle.surroundings.specs.Speaking.{admitted_by};
-ghost use Rattle.surroundings.specs.Typing.{left_of};
-ghost use Rattle.surroundings.specs.declared.surroundings.Fault.{Fault};
-ghost use Rattle.surroundings.specs.declared.surroundings.Told.{Told};
+ghost use Rattle.live_io.specs.Speaking.{admitted_by};
+ghost use Rattle.live_io.specs.Typing.{left_of};
+ghost use Rattle.live_io.specs.declared.surroundings.Fault.{Fault};
+ghost use Rattle.live_io.specs.declared.surroundings.Told.{Told};
 ghost use Rattle.turns.specs.Clock.{earlier, has_come};
 ghost use Rattle.live_gateway.specs.Exchanging.{Explains, Notes, next_due, moment_at, faults_by};
 ghost use Rattle.live_gateway.specs.Leaving.{OnlyShows, IsAsked, TakesIf};
@@ -20,7 +20,7 @@ use live_telephones::take_act;
 use small_rules::count;
 use std::alloc::Global;
 use std::net::SocketAddrV4;
-use surroundings::{Lines, Speakers, Surroundings};
+use live_io::{Lines, Speakers, Surroundings};
 use turns::{Ready, Situation, earlier};
 
 // Whether something falls due by this moment.

@@ -2,7 +2,7 @@
 ghost use Rattle.std.specs.Prelude.{◌≡◌, [], false, true, IfOk, IfSome};
 ghost use Rattle.live_outlets.specs.Backlog.{room_left};
 ghost use Rattle.live_outlets.specs.Recording.{is_open, is_refused};
-ghost use Rattle.surroundings.specs.Sending.{Grows};
+ghost use Rattle.live_io.specs.Sending.{Grows};
 ghost use Rattle.live_journal.specs.Reporting.{counts_with};
 ghost use Rattle.live_journal.specs.Writing.{IsKept, IsKeptFor, KeepsLog, KeepsCapture, IsWritten};
 
@@ -12,7 +12,7 @@ use live_outlets::{Outlet, Outlets, Record, TEXT_ROOM};
 use message_counts::{Faults, report_text};
 use std::alloc::{AllocError, Global};
 use std::io::Write;
-use surroundings::Teller;
+use live_io::Teller;
 
 /// Where what was recorded is written. What it makes of that is its own; that it was told to write it is said.
 pub trait Recorder<T: Teller> {

@@ -7,7 +7,7 @@ use live_outlets::{Outlet, Record, TEXT_ROOM};
 use mg_bytes::{Draft, OutOfMemory};
 use std::alloc::Global;
 use std::io::Write;
-use surroundings::Teller;
+use live_io::Teller;
 use traces::{broken_off_line, put_first};
 
 /// The trace of a gateway. What it is told has its place in what is kept for its outlet at once, and so before anything goes out that

@@ -15,10 +15,10 @@ use Rattle.gateway_core.specs.GatewayState.{GatewayState}
 use Rattle.gateway_core.specs.Stands.{Stands}
 use Rattle.plain_machine.specs.Event.{GatewayEvent}
 use Rattle.plain_machine.specs.declared.setup.Setup.{Setup}
-use Rattle.surroundings.specs.Speaking.{nobody, with_host}
-use Rattle.surroundings.specs.Typing.{left_of}
-use Rattle.surroundings.specs.declared.lines.Lines.{Lines}
-use Rattle.surroundings.specs.declared.surroundings.Fault.{Fault}
+use Rattle.live_io.specs.Speaking.{nobody, with_host}
+use Rattle.live_io.specs.Typing.{left_of}
+use Rattle.live_io.specs.declared.lines.Lines.{Lines}
+use Rattle.live_io.specs.declared.surroundings.Fault.{Fault}
 use Rattle.live_telephones.specs.Asking.{request_in, usage}
 use Rattle.live_telephones.specs.declared.telephones.TelephoneRequest.{TelephoneRequest}
 use Rattle.live_telephones.specs.declared.telephones.TelephoneRequest.TheVariants.{Counts, OutOfMemory}

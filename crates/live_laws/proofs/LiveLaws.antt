@@ -1,7 +1,7 @@
 -- What the trace of a live run was told.
 use Rattle.std.proofs.Common.{◌≡◌, inl, inr, ℕ, ◌+◌, ◌-◌, ◌<◌, ◌^◌, Bool, true, false, cond, List, [], ◌∷◌, refl, sym, ◌∙◌, ap, subst, arith, ◌≤◌, ◌++◌, length, Some, append_assoc}
 use Rattle.std.specs.Prelude.{⊤, ◌&&◌, not, nat_lt}
-use Rattle.surroundings.specs.Sending.{Received}
+use Rattle.live_io.specs.Sending.{Received}
 use Rattle.gateway_core.specs.Wire.{counted}
 use Rattle.traces.specs.Writing.{Entry, arrived, typed, passed, showed, became, datagrams_in, clock_text, opening_script, written, script_after, whole_text}
 use Rattle.live_play.specs.Coming.{arrived_in, AreAllBut}
@@ -13,7 +13,7 @@ use Rattle.live_gateway.specs.Desk.{IsHeard, Standing, refusals_in, GoesOnBy}
 use Rattle.std.specs.List.{AllByRecursion}
 use Rattle.std.specs.declared.net.socket_addr.SocketAddrV4.{SocketAddrV4}
 use Rattle.std.proofs.lemmas.Bool.{ltb-true}
-use Rattle.surroundings.specs.Speaking.{admitted_by, may_speak}
+use Rattle.live_io.specs.Speaking.{admitted_by, may_speak}
 use Rattle.gateway_core.specs.Stands.{Stands}
 use Rattle.traces.specs.declared.script.Script.{Script}
 use Rattle.live_play.proofs.RunLemmas.{told_known, script_known}

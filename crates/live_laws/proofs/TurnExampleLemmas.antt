@@ -11,8 +11,8 @@ use Rattle.told_messages.specs.Labelling.{sent_label}
 use Rattle.told_messages.specs.Showing.{GoesOn, HappenedWith}
 use Rattle.traces.specs.declared.telling.Mark.{Mark}
 use Rattle.traces.specs.declared.telling.Mark.TheVariants.{Unsent}
-use Rattle.surroundings.specs.Speaking.{anybody}
-use Rattle.surroundings.specs.declared.surroundings.Fault.{Fault}
+use Rattle.live_io.specs.Speaking.{anybody}
+use Rattle.live_io.specs.declared.surroundings.Fault.{Fault}
 use Rattle.live_system.specs.declared.ending.CommonEnding.{CommonEnding}
 use Rattle.live_system.specs.declared.ending.CommonEnding.TheVariants.{OutOfMemory as LacksMemory}
 use Rattle.live_outlets.specs.declared.record.RecordState.{RecordState}

@@ -20,9 +20,9 @@ use Rattle.message_counts.specs.declared.reporting.Faults.{Faults}
 use Rattle.page_state.specs.BoardShowing.{BoardState}
 use Rattle.gateway_core.specs.declared.sent.SentMessage.{SentMessage}
 use Rattle.gateway_core.specs.GatewayState.{GatewayState}
-use Rattle.surroundings.specs.Sending.{Received, Grows, found_by}
-use Rattle.surroundings.specs.declared.surroundings.Fault.{Fault}
-use Rattle.surroundings.specs.declared.lines.Lines.{Lines}
+use Rattle.live_io.specs.Sending.{Received, Grows, found_by}
+use Rattle.live_io.specs.declared.surroundings.Fault.{Fault}
+use Rattle.live_io.specs.declared.lines.Lines.{Lines}
 use Rattle.traces.specs.declared.telling.Mark.{Mark}
 use Rattle.traces.specs.declared.telling.Mark.TheVariants.{Lost}
 use Rattle.traces.specs.Writing.{Entry, became}

@@ -8,7 +8,7 @@ use Rattle.plain_machine.specs.Machine.{opening}
 use Rattle.gateway_core.specs.Accounts.{account_of, no_account}
 use Rattle.gateway_core.specs.GatewayState.{GatewayState}
 use Rattle.gateway_core.specs.Outcomes.{outcomes_of}
-use Rattle.surroundings.specs.Sending.{Received}
+use Rattle.live_io.specs.Sending.{Received}
 use Rattle.call_routing.specs.declared.told.Told.TheVariants.{OffHook, OnHook}
 use Rattle.call_routing.specs.Exchange.{ExchangeState}
 use Rattle.rgw_scripts.specs.Moves.{give, sends as shows}

@@ -10,11 +10,11 @@ use Rattle.gateway_core.specs.declared.sent.SentMessage.{SentMessage}
 use Rattle.plain_machine.specs.Event.{GatewayEvent}
 use Rattle.plain_machine.specs.Machine.{Machine}
 use Rattle.plain_machine.specs.Refusing.{refusal_of, takes_none}
-use Rattle.surroundings.specs.Around.{Around, unasked}
-use Rattle.surroundings.specs.Speaking.{anybody}
+use Rattle.live_io.specs.Around.{Around, unasked}
+use Rattle.live_io.specs.Speaking.{anybody}
 use Rattle.traces.specs.declared.telling.Mark.{Mark}
 use Rattle.traces.specs.Writing.{Input}
-use Rattle.surroundings.specs.declared.surroundings.Fault.{Fault}
+use Rattle.live_io.specs.declared.surroundings.Fault.{Fault}
 use Rattle.turns.specs.declared.turn.Turn.{Turn}
 use Rattle.std.specs.Global.{Box}
 use Rattle.message_counts.specs.Tallying.{with_stranger}

@@ -7,9 +7,9 @@ use Rattle.bad_network.specs.declared.packet.Packet.{Packet}
 use Rattle.bad_network.specs.declared.packet.Way.TheVariants.{In}
 use Rattle.bad_network.specs.Waiting.{packet_of}
 use Rattle.gateway_core.specs.GatewayState.{GatewayState}
-use Rattle.surroundings.specs.Around.{Around, unasked}
-use Rattle.surroundings.specs.Sending.{Received, Traffic}
-use Rattle.surroundings.specs.declared.surroundings.Fault.{Fault}
+use Rattle.live_io.specs.Around.{Around, unasked}
+use Rattle.live_io.specs.Sending.{Received, Traffic}
+use Rattle.live_io.specs.declared.surroundings.Fault.{Fault}
 use Rattle.live_gateway.specs.declared.exchange.Exchange.{Exchange}
 use Rattle.live_gateway.specs.Exchanging.{LooksBetween}
 use Rattle.live_gateway.specs.Offering.{Offers}

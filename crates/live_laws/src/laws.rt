@@ -1,7 +1,7 @@
 //! What a stranger sends changes nothing, nor does what a gateway sends itself, and what comes from others is an event: laws, whose
 //! functions do nothing.
 ghost use Rattle.std.specs.Prelude.{◌≡◌, ◌+◌, ◌++◌, ◌<◌, ◌-◌, ◌^◌, ℕ, true, codes, List, [], ◌∷◌, map, Some};
-ghost use Rattle.surroundings.specs.Sending.{Sent, Received};
+ghost use Rattle.live_io.specs.Sending.{Sent, Received};
 ghost use Rattle.gateway_core.specs.Stands.{Stands};
 ghost use Rattle.plain_machine.specs.Event.{GatewayEvent};
 ghost use Rattle.machine_rules.specs.declared.refusal.Refusal.{Refusal};

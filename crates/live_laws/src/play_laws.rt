@@ -1,7 +1,7 @@
 //! A live run is a play, and what its trace says of it, played again, is what the gateway did: laws of definitions, whose functions do
 //! nothing.
 ghost use Rattle.std.specs.Prelude.{◌≡◌, ◌++◌, ℕ, List, map, Some};
-ghost use Rattle.surroundings.specs.Sending.{Sent};
+ghost use Rattle.live_io.specs.Sending.{Sent};
 ghost use Rattle.plain_machine.specs.Event.{GatewayEvent};
 ghost use Rattle.gateway_core.specs.Stands.{Stands};
 ghost use Rattle.traces.specs.Writing.{Entry, IsPlay, taken_after, sent_in, written, script_after};

@@ -7,8 +7,8 @@ use Rattle.std.proofs.lemmas.Grind.{flat_map-append}
 use Rattle.std.specs.declared.net.socket_addr.SocketAddrV4.{SocketAddrV4}
 use Rattle.mg_bytes.specs.Words.{words}
 use Rattle.mg_line.specs.declared.phone.Act.{Act}
-use Rattle.surroundings.specs.Sending.{Sent, Grows}
-use Rattle.surroundings.proofs.TrafficLemmas.{grows_nothing, grows_on, known}
+use Rattle.live_io.specs.Sending.{Sent, Grows}
+use Rattle.live_io.proofs.TrafficLemmas.{grows_nothing, grows_on, known}
 use Rattle.transmission.specs.declared.output.OutDatagram.{OutDatagram}
 use Rattle.plain_machine.specs.declared.setup.Setup.{Setup}
 use Rattle.gateway_core.specs.declared.sent.SentMessage.{SentMessage}

@@ -1,7 +1,7 @@
 -- What comes to a gateway that runs, and which of it is taken.
 use Rattle.std.specs.Prelude.{◌≡◌, ◌⊎◌, ℕ, ◌+◌, List, [], ◌∷◌, Option}
 use Rattle.std.specs.List.{flat_map}
-use Rattle.surroundings.specs.Sending.{Received}
+use Rattle.live_io.specs.Sending.{Received}
 use Rattle.traces.specs.Writing.{Entry, arrived, typed, passed, showed, became}
 
 -- all datagrams that came, in their order, where that is told; and how many inputs were refused, of datagrams, acts and ticks

@@ -1,7 +1,7 @@
 -- How a gateway runs live.
 use Rattle.std.specs.Prelude.{◌≡◌, ⊤, ◌⊎◌, ℕ, zero, suc, ◌+◌, ◌<◌, ◌≤◌, List, [], ◌∷◌, ◌++◌, length, map, Option, Some, None, IfSome}
 use Rattle.std.specs.declared.net.socket_addr.SocketAddrV4.{SocketAddrV4}
-use Rattle.surroundings.specs.Sending.{Sent, Grows}
+use Rattle.live_io.specs.Sending.{Sent, Grows}
 use Rattle.transmission.specs.declared.output.OutDatagram.{OutDatagram}
 use Rattle.plain_machine.specs.declared.setup.Setup.{Setup}
 use Rattle.gateway_core.specs.declared.sent.SentMessage.{SentMessage}

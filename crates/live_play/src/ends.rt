@@ -1,6 +1,6 @@
 //! What a gateway's datagrams are handed to.
 ghost use Rattle.std.specs.Prelude.{◌≡◌, ◌∷◌, []};
-ghost use Rattle.surroundings.specs.Sending.{Grows};
+ghost use Rattle.live_io.specs.Sending.{Grows};
 
 use gateway_core::{Gateway, SentMessage};
 use std::net::SocketAddrV4;
@@ -11,7 +11,7 @@ pub trait Outlet {
     ghost use Rattle.std.specs.Prelude.{ℕ, List, Option};
     ghost use Rattle.std.specs.declared.net.socket_addr.SocketAddrV4.{SocketAddrV4};
     ghost use Rattle.gateway_core.specs.GatewayState.{GatewayState};
-    ghost use Rattle.surroundings.specs.Sending.{Sent};
+    ghost use Rattle.live_io.specs.Sending.{Sent};
     ghost use Rattle.gateway_core.specs.declared.sent.SentMessage.{SentMessage};
     ghost use Rattle.traces.specs.declared.telling.Mark.{Mark};
     ghost use Rattle.live_play.specs.Coming.{Came};

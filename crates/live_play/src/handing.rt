@@ -11,7 +11,7 @@ use crate::placed::Placed;
 use crate::telling::tell_mark;
 use gateway_core::{OutDatagram, SentMessage, split_sent};
 use std::alloc::Global;
-use surroundings::Teller;
+use live_io::Teller;
 
 /// The first place that isn't read again, of 19 digits.
 pub const FIRST_UNREAD: u64 = 1_000_000_000_000_000_000;

@@ -1,9 +1,9 @@
 //! That a trace is told of an event before what the gateway sends at it is handed out.
 ghost use Rattle.std.specs.Prelude.{◌≡◌, None};
-ghost use Rattle.surroundings.specs.Sending.{Grows};
+ghost use Rattle.live_io.specs.Sending.{Grows};
 
 use mg_bytes::Draft;
-use surroundings::Teller;
+use live_io::Teller;
 
 /// What a trace has to tell has its place in what is kept of it. It is made by telling alone, and whoever hands datagrams out uses one up:
 /// so none goes out of which the trace wasn't told before.

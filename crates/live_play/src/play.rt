@@ -1,7 +1,7 @@
 //! The play.
 ghost use Rattle.std.specs.Prelude.{◌≡◌, is_ok, ◌∷◌, [], List, Option, Some, None, IfOk, IfErr, IfSome, OnOk, OnErr};
 ghost use Rattle.std.specs.Result.{result_err};
-ghost use Rattle.surroundings.specs.Sending.{Sent, Grows};
+ghost use Rattle.live_io.specs.Sending.{Sent, Grows};
 ghost use Rattle.mg_bytes.specs.Words.{words};
 ghost use Rattle.plain_machine.specs.Event.{GatewayEvent, event_of, datagram, phone, tick};
 ghost use Rattle.plain_machine.specs.Lists.{plain};
@@ -25,7 +25,7 @@ use mg_line::Act;
 use rgw_scripts::put_refusal;
 use std::alloc::Global;
 use std::net::SocketAddrV4;
-use surroundings::Teller;
+use live_io::Teller;
 use traces::Script;
 
 /// A gateway that runs, and its trace.

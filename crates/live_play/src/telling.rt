@@ -1,6 +1,6 @@
 //! What the trace of a gateway that runs is told.
 ghost use Rattle.std.specs.Prelude.{◌≡◌, ◌++◌, IfSome, OnOk, OnErr};
-ghost use Rattle.surroundings.specs.Sending.{Grows};
+ghost use Rattle.live_io.specs.Sending.{Grows};
 ghost use Rattle.rgw_scripts.specs.Moves.{sends};
 ghost use Rattle.rgw_scripts.specs.Printing.{printed_line, refusal_line};
 ghost use Rattle.traces.specs.Telling.{told_mark, told_text};
@@ -13,7 +13,7 @@ use mg_bytes::{Draft, OutOfMemory};
 use rgw_scripts::put_refusal;
 use std::alloc::Global;
 use std::net::SocketAddrV4;
-use surroundings::Teller;
+use live_io::Teller;
 use traces::{Mark, Script, put_mark};
 
 /// A tick, and what was sent at it.

@@ -3,7 +3,7 @@ ghost use Rattle.std.specs.Prelude.{◌≡◌, [], Some};
 ghost use Rattle.live_play.specs.Keeping.{kept_text};
 
 use std::alloc::Global;
-use surroundings::Teller;
+use live_io::Teller;
 
 /// A trace of which all is kept, until memory is refused.
 #[derive(Drop)]

@@ -12,7 +12,7 @@ use std::io;
 use std::io::ErrorKind;
 use std::net::{Ipv4Addr, Net, SocketAddr, SocketAddrV4};
 use std::rt::Clock;
-use surroundings::{Fault, Surroundings, Told};
+use live_io::{Fault, Surroundings, Told};
 
 // Who types the line that a signal stands for: somebody of this machine, who can't be answered.
 fn nobody() -> SocketAddr {
@@ -137,7 +137,7 @@ impl<'a, R: Net + Clock> Live<'a, R> {
 }
 
 impl<R: Net + Clock> Surroundings for Live<'_, R> {
-    ghost use Rattle.surroundings.specs.Around.{unasked};
+    ghost use Rattle.live_io.specs.Around.{unasked};
 
     ghost around = { record unasked { sockets = λ live. live.own } };
 

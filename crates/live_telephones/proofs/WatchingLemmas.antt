@@ -7,7 +7,7 @@ use Rattle.line_changes.specs.declared.change.Change.{Change}
 use Rattle.line_changes.specs.declared.watchers.Watcher.{Watcher}
 use Rattle.line_changes.specs.declared.watchers.Watchers.{Watchers}
 use Rattle.line_changes.specs.Watching.{is_watched}
-use Rattle.surroundings.specs.Hearing.{AnswersTo}
+use Rattle.live_io.specs.Hearing.{AnswersTo}
 use Rattle.gateway_core.specs.Changing.{is_marked}
 use Rattle.gateway_core.specs.GatewayState.{GatewayState}
 use Rattle.gateway_core.specs.Stands.{Stands}

@@ -13,8 +13,8 @@ use Rattle.page_state.specs.MetricsShowing.{lines_of}
 use Rattle.page_state.specs.Sums.{next_number}
 use Rattle.page_state.specs.Acts.{act_line}
 use Rattle.page_state.specs.BoardShowing.{BoardState}
-use Rattle.surroundings.specs.declared.lines.Lines.{Lines}
-use Rattle.surroundings.specs.Hearing.{Begins}
+use Rattle.live_io.specs.declared.lines.Lines.{Lines}
+use Rattle.live_io.specs.Hearing.{Begins}
 use Rattle.live_journal.specs.declared.journal.Journal.{Journal}
 use Rattle.message_counts.specs.declared.reporting.Faults.{Faults}
 use Rattle.live_telephones.specs.Picturing.{with_numbers, by_name, files_written, verbs_from, codes_from}

@@ -16,7 +16,7 @@ use Rattle.plain_machine.specs.declared.setup.Setup.{Setup}
 use Rattle.plain_machine.specs.Event.{GatewayEvent}
 use Rattle.plain_machine.specs.Lists.{plain}
 use Rattle.plain_machine.specs.Machine.{Machine}
-use Rattle.surroundings.specs.Hearing.{AnswersTo}
+use Rattle.live_io.specs.Hearing.{AnswersTo}
 use Rattle.live_telephones.specs.declared.watch.Watch.{Watch}
 use Rattle.live_telephones.specs.Seeing.{seen_of}
 

@@ -2,9 +2,9 @@
 ghost use Rattle.std.specs.Prelude.{◌≡◌, ◌≢◌, List, codes, IfOk, IfErr, Err};
 ghost use Rattle.plain_machine.specs.Event.{GatewayEvent};
 ghost use Rattle.gateway_core.specs.Stands.{Stands};
-ghost use Rattle.surroundings.specs.Hearing.{AnswersTo};
-ghost use Rattle.surroundings.specs.Requests.{requests_from};
-ghost use Rattle.surroundings.specs.Typing.{left_of, behind};
+ghost use Rattle.live_io.specs.Hearing.{AnswersTo};
+ghost use Rattle.live_io.specs.Requests.{requests_from};
+ghost use Rattle.live_io.specs.Typing.{left_of, behind};
 ghost use Rattle.live_telephones.specs.Asking.{short_text};
 ghost use Rattle.live_telephones.specs.Paging.{TakesAct, ShowsPage};
 ghost use Rattle.live_play.specs.Running.{lines_shown};
@@ -20,7 +20,7 @@ use live_play::put_shown;
 use message_counts::Faults;
 use mg_bytes::{Draft, OutOfMemory};
 use std::alloc::Global;
-use surroundings::{Lines, Surroundings};
+use live_io::{Lines, Surroundings};
 
 /// The answer to a line that says nothing that can be done.
 pub const UNKNOWN: &[u8] =

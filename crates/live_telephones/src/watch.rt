@@ -6,7 +6,7 @@ ghost use Rattle.gateway_core.specs.Changing.{is_marked};
 ghost use Rattle.gateway_core.specs.Stands.{Stands};
 ghost use Rattle.line_changes.specs.Telling.{with_changes, watching_line};
 ghost use Rattle.line_changes.specs.Watching.{longest_watch, nobody, is_watched, with_watcher};
-ghost use Rattle.surroundings.specs.Hearing.{AnswersTo};
+ghost use Rattle.live_io.specs.Hearing.{AnswersTo};
 ghost use Rattle.live_telephones.specs.Asking.{usage};
 ghost use Rattle.live_telephones.specs.Watching.{changes_behind, sender_at, with_seen, lines_seen, BeginsToSee, IsUnasked, IsUnwatched, RefusesLine, TellsEach, TellsIf, TellsLine, TellsLines, TellsSome, WatchesOn, WatchesStill, AnswersWatch};
 
@@ -20,7 +20,7 @@ use live_outlets::NO_MEMORY;
 use mg_bytes::OutOfMemory;
 use std::alloc::Global;
 use std::net::{SocketAddr, SocketAddrV4};
-use surroundings::Surroundings;
+use live_io::Surroundings;
 
 /// Who watches, and what was seen of the lines when that was told last. While nobody watches nothing is looked at, and else only the lines
 /// at which an event may have changed something.

@@ -22,7 +22,7 @@ use std::os::fd::AsRawFd;
 use std::random::RandomSource;
 use std::rc::Rc;
 use std::rt::{Clock, Env, Files};
-use surroundings::Surroundings;
+use live_io::Surroundings;
 
 // Where the page is, if there is one that tells it.
 fn page_address<P: Reception>(visitors: &Option<Box<PageReception<P>>>) -> Option<SocketAddrV4>

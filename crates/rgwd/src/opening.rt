@@ -1,6 +1,6 @@
 //! Opens the page's site, if the words ask for one; and says whom a gateway hears, and what is asked of its desk.
 ghost use Rattle.std.specs.Prelude.{◌≡◌, true, Some, is_some, IfOk, IfErr, IfNone, IfSome};
-ghost use Rattle.surroundings.specs.Speaking.{admitted_by, admitted_in};
+ghost use Rattle.live_io.specs.Speaking.{admitted_by, admitted_in};
 ghost use Rattle.live_gateway.specs.Admitting.{known_to};
 ghost use Rattle.rgwd_words.specs.Opening.{names_asked, RefusesSpeakers, TellsSocket};
 ghost use Rattle.rgwd_words.specs.Statuses.{fails};

@@ -15,7 +15,7 @@ use Rattle.rgwd_words.specs.declared.ending.Ending.{Ending}
 use Rattle.rgwd_words.specs.declared.ending.Ending.TheVariants.{Common, NoAnswer}
 use Rattle.rgwd_words.specs.declared.words.ListFault.{ListFault}
 use Rattle.rgwd_words.specs.declared.words.ListFault.TheVariants as faults
-use Rattle.surroundings.specs.Speaking.{admitted_in}
+use Rattle.live_io.specs.Speaking.{admitted_in}
 
 -- the further names under which the page may be asked, where the words say some; none else
 abbrev pub names_asked : Option (Bor (List ℕ)) → Option (List (List ℕ))

@@ -1,6 +1,6 @@
 -- How the program ends by an answer at a gateway's telephones, which is printed.
 use Rattle.std.specs.Prelude.{ℕ, if◌then◌else◌, List}
-use Rattle.surroundings.specs.Requests.{is_marked}
+use Rattle.live_io.specs.Requests.{is_marked}
 use Rattle.rgwd_words.specs.declared.ending.Ending.{Ending}
 use Rattle.rgwd_words.specs.declared.ending.Ending.TheVariants.{Answered, Refused}
 

@@ -13,7 +13,7 @@ use std::alloc::{AllocError, Global};
 use std::io::{ErrorKind, Write};
 use std::net::{Net, SocketAddrV4};
 use std::rt::{Clock, Files};
-use surroundings::Surroundings;
+use live_io::Surroundings;
 
 // Puts an address behind its word; nothing where there is none.
 fn put_behind(out: &mut Draft, word: &[u8], address: Option<SocketAddrV4>) {

@@ -29,7 +29,7 @@ ghost use Rattle.page_http.specs.Naming.{names_in};
 ghost use Rattle.rgw_scenes.specs.declared.flaw.Flaw.TheVariants as flaws;
 ghost use Rattle.rgw_scenes.specs.Wording.{Tells};
 ghost use Rattle.small_rules.specs.Numbering.{first_at};
-ghost use Rattle.surroundings.specs.Speaking.{admitted_in};
+ghost use Rattle.live_io.specs.Speaking.{admitted_in};
 ghost use Rattle.traces.specs.declared.verdict.Verdict.TheVariants as verdicts;
 ghost use Rattle.rgwd_words.specs.declared.ending.Ending.{Ending};
 ghost use Rattle.rgwd_words.specs.declared.ending.Ending.TheVariants.{Common, Checked, BadAgents, BadHosts, BadSize, BadFiles, AnyAddress, BadFirst, BadSpread, NoTimeOfDay, Replayed, Differs, NoTrace, Answered, Refused, NoAnswer};

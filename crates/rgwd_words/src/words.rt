@@ -6,7 +6,7 @@ ghost use Rattle.live_system.specs.Values.{IsBehind, IsRead};
 ghost use Rattle.live_system.specs.Addresses.{IsAddress};
 ghost use Rattle.traces.specs.Words.{first_in as first_read, spread_in as spread_read};
 ghost use Rattle.page_http.specs.Naming.{names_in, names_of};
-ghost use Rattle.surroundings.specs.Speaking.{admitted_by, admitted_in};
+ghost use Rattle.live_io.specs.Speaking.{admitted_by, admitted_in};
 ghost use Rattle.rgwd_words.specs.Asking.{spoiling_read, IsAt, AsksSockets, Asks};
 ghost use Rattle.rgwd_words.specs.Parting.{parting_of};
 ghost use Rattle.rgwd_words.specs.Statuses.{fails};
@@ -23,7 +23,7 @@ use page_http::HostNames;
 use std::alloc::{AllocError, Global};
 use std::io::Write;
 use std::net::SocketAddrV4;
-use surroundings::Speakers;
+use live_io::Speakers;
 
 /// The sockets that the program is asked to open, and whom it is to hear there.
 #[derive(Clone, Copy)]

@@ -6,7 +6,7 @@ use Rattle.exchange_log.specs.Lines.{note_line}
 use Rattle.gateway_core.specs.Wire.{counted}
 use Rattle.live_outlets.specs.Backlog.{sum_within}
 use Rattle.gateway_core.specs.declared.sent.SentMessage.{SentMessage}
-use Rattle.surroundings.specs.Speaking.{Admitted, may_speak}
+use Rattle.live_io.specs.Speaking.{Admitted, may_speak}
 use Rattle.message_counts.specs.Waiting.{is_own}
 use Rattle.told_messages.specs.declared.strangers.Quiet.{Quiet}
 

@@ -12,7 +12,7 @@ ghost use Rattle.exchange_log.specs.Lines.{note_line, refused_line};
 ghost use Rattle.gateway_core.specs.declared.outcome.Reply.TheVariants.{First, Again, Silence, NoRoom};
 ghost use Rattle.gateway_core.specs.declared.outcome.TextOutcome.TheVariants.{NoMessage, Command, Response};
 ghost use Rattle.plain_machine.specs.declared.label.What.TheVariants as whats;
-ghost use Rattle.surroundings.specs.Speaking.{nobody, with_host};
+ghost use Rattle.live_io.specs.Speaking.{nobody, with_host};
 ghost use Rattle.message_counts.specs.Example.{host, said};
 ghost use Rattle.told_messages.specs.Example.{quiet_until};
 ghost use Rattle.told_messages.specs.Strangers.{told_at, quiet_after, unheard_text};

@@ -1,7 +1,7 @@
 //! Datagrams of who may not speak, and what is sent to them: what the log says of it.
 ghost use Rattle.std.specs.Prelude.{◌≡◌, ◌++◌, OnOk};
 ghost use Rattle.std.specs.List.{flat_map};
-ghost use Rattle.surroundings.specs.Speaking.{admitted_by};
+ghost use Rattle.live_io.specs.Speaking.{admitted_by};
 ghost use Rattle.told_messages.specs.Recording.{Records};
 ghost use Rattle.told_messages.specs.Strangers.{lasts, told_at, quiet_after, unheard_text, text_of_stranger, stranger_text};
 
@@ -14,7 +14,7 @@ use mg_bytes::OutOfMemory;
 use small_rules::count;
 use std::alloc::Global;
 use std::net::SocketAddrV4;
-use surroundings::Speakers;
+use live_io::Speakers;
 
 // So long no other stranger is told of, in microseconds.
 const BETWEEN: u64 = 1_000_000;

@@ -14,7 +14,7 @@ use std::rc::Rc;
 use std::rt::Clock;
 use std::time::Duration;
 use std::{io, mem};
-use surroundings::{Coming, Happening};
+use live_io::{Coming, Happening};
 
 // No datagram has more bytes (RFC 768).
 const ROOM: usize = 65_535;

@@ -3,7 +3,7 @@
 //! What comes and goes is that of `Scripted`. Beside it a socket is told of as a machine does that, where the program waits for it or
 //! looks; and time goes by while something is read or sent, where a story says so.
 ghost use Rattle.std.specs.Prelude.{◌≡◌};
-ghost use Rattle.surroundings.specs.Keeping.{told_by};
+ghost use Rattle.live_io.specs.Keeping.{told_by};
 
 use crate::stories::clocks::Clocks;
 use crate::stories::given::{put_answer, put_sent};
@@ -14,7 +14,7 @@ use std::alloc::{AllocError, Global};
 use std::collections::VecDeque;
 use std::net::{SocketAddr, SocketAddrV4};
 use std::rc::Rc;
-use surroundings::{Coming, Fault, Happening, Scripted, Surroundings, Told};
+use live_io::{Coming, Fault, Happening, Scripted, Surroundings, Told};
 
 /// What changes on a machine.
 #[derive(Clone, Copy)]
@@ -281,8 +281,8 @@ impl<'c> Machine<'c> {
 }
 
 impl Surroundings for Machine<'_> {
-    ghost use Rattle.surroundings.specs.Around.{unasked};
-    ghost use Rattle.surroundings.specs.Keeping.{told_by, Answers};
+    ghost use Rattle.live_io.specs.Around.{unasked};
+    ghost use Rattle.live_io.specs.Keeping.{told_by, Answers};
 
     ghost around = { record unasked {
       traffic = λ machine. told_by machine.sockets;

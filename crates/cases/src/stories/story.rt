@@ -14,7 +14,7 @@ use std::collections::VecDeque;
 use std::mem;
 use std::net::{SocketAddr, SocketAddrV4};
 use std::rc::Rc;
-use surroundings::{Coming, Happening};
+use live_io::{Coming, Happening};
 
 /// Where a program is, where a story says nothing else.
 #[derive(Clone, Copy)]

@@ -1,6 +1,6 @@
 //! The trace of a desk replays.
 ghost use Rattle.std.specs.Prelude.{[], ℕ, List};
-ghost use Rattle.surroundings.specs.Sending.{Received};
+ghost use Rattle.live_io.specs.Sending.{Received};
 ghost use Rattle.gateway_core.specs.Stands.{Stands};
 ghost use Rattle.traces.specs.Writing.{Entry};
 ghost use Rattle.live_gateway.specs.declared.admission.Admission.{Admission};

@@ -4,8 +4,8 @@ use Rattle.std.specs.Fmt.{digits}
 use Rattle.std.specs.declared.net.socket_addr.SocketAddr.{SocketAddr}
 use Rattle.call_agent.specs.declared.issuing.Issued.{Issued}
 use Rattle.mg_bytes.specs.Lines.{cut}
-use Rattle.surroundings.specs.Around.{Around}
-use Rattle.surroundings.specs.Hearing.{AnswersTo}
+use Rattle.live_io.specs.Around.{Around}
+use Rattle.live_io.specs.Hearing.{AnswersTo}
 use Rattle.switchboard.specs.declared.switchboard.Switchboard.{Switchboard}
 use Rattle.switchboard.specs.declared.typed.TypedFault.{TypedFault}
 use Rattle.switchboard.specs.declared.typed.TypedFault.TheVariants.{OutOfMemory, Unknown}

@@ -4,7 +4,7 @@ use Rattle.switchboard.specs.Steps.{WaitsIn}
 use Rattle.std.specs.declared.net.socket_addr.SocketAddrV4.{SocketAddrV4}
 use Rattle.agent_texts.specs.declared.journal.Journal.{Journal}
 use Rattle.agent_texts.specs.Counts.{with_notification}
-use Rattle.surroundings.specs.declared.surroundings.Fault.{Fault}
+use Rattle.live_io.specs.declared.surroundings.Fault.{Fault}
 use Rattle.switchboard.specs.declared.gateway.Gateway.{Gateway}
 use Rattle.switchboard.specs.declared.switchboard.Switchboard.{Switchboard}
 use Rattle.switchboard.specs.Tallying.{counted_if}

@@ -3,7 +3,7 @@ use Rattle.std.specs.Prelude.{⊤, codes}
 use Rattle.std.specs.declared.net.socket_addr.SocketAddrV4.{SocketAddrV4}
 use Rattle.agent_texts.specs.declared.journal.Journal.{Journal}
 use Rattle.bad_network.specs.declared.network.BadNetwork.{BadNetwork}
-use Rattle.surroundings.specs.declared.surroundings.Fault.{Fault}
+use Rattle.live_io.specs.declared.surroundings.Fault.{Fault}
 use Rattle.switchboard.specs.Issuing.{IssuesSettled}
 use Rattle.live_agent.specs.declared.wire.Wire.{Wire}
 use Rattle.live_agent.specs.AnyAround.{anywhere}

@@ -1,7 +1,7 @@
 use Rattle.std.proofs.Common.{ℕ, Bool, ◌∙◌, ap}
 use Rattle.std.specs.Prelude.{⊤, Result}
 use Rattle.live_system.specs.Waiting.{longest_wait}
-use Rattle.surroundings.specs.declared.surroundings.Fault.{Fault}
+use Rattle.live_io.specs.declared.surroundings.Fault.{Fault}
 use Rattle.live_agent.specs.Tallying.{waited_counted}
 use Rattle.live_agent.specs.Wiring.{longest_until}
 use Rattle.agent_texts.specs.declared.journal.Journal.{Journal}

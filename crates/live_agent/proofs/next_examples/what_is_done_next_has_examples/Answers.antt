@@ -1,5 +1,5 @@
 use Rattle.std.proofs.Common.{ℕ, Result, Ok, Err, ap}
-use Rattle.surroundings.specs.declared.surroundings.Fault.{Fault}
+use Rattle.live_io.specs.declared.surroundings.Fault.{Fault}
 use Rattle.live_agent.specs.declared.wire.Wire.{Wire}
 use Rattle.live_agent.proofs.next_examples.what_is_done_next_has_examples.Goals as goal
 

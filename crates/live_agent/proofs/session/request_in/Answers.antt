@@ -1,5 +1,5 @@
 use Rattle.live_agent.proofs.TypingLemmas.{asks_for, asks_nothing}
-use Rattle.surroundings.specs.Typing.{left_of}
+use Rattle.live_io.specs.Typing.{left_of}
 use Rattle.live_agent.proofs.session.request_in.Goals as goal
 
 pub returns-in-Some : goal.returns-in-Some

@@ -3,10 +3,10 @@ use Rattle.std.specs.Prelude.{codes, IsTrue, IsSomeAnd}
 use Rattle.std.specs.Net.Addr.{IsLoopbackV4, IsLoopbackV6, MatchIp}
 use Rattle.std.specs.Net.Socket.{socket_ip}
 use Rattle.std.specs.declared.net.socket_addr.SocketAddr.{SocketAddr}
-use Rattle.surroundings.proofs.Computing.{on_examples}
-use Rattle.surroundings.specs.Example.{there}
-use Rattle.surroundings.specs.Typing.{left_of}
-use Rattle.surroundings.specs.declared.lines.Lines.{Lines}
+use Rattle.live_io.proofs.Computing.{on_examples}
+use Rattle.live_io.specs.Example.{there}
+use Rattle.live_io.specs.Typing.{left_of}
+use Rattle.live_io.specs.declared.lines.Lines.{Lines}
 use Rattle.live_agent.specs.declared.session.Request.{Request}
 use Rattle.live_agent.specs.declared.session.Request.TheVariants.{Nothing, Counts, Stop, StopFromAfar}
 use Rattle.live_agent.specs.Turning.{first_request, AsksFirst}

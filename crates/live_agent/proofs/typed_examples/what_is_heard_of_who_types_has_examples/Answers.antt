@@ -1,7 +1,7 @@
 use Rattle.std.proofs.Common.{ℕ, List, [], Bool, Option, ◌∙◌, refl, ap, subst}
 use Rattle.std.specs.declared.net.socket_addr.SocketAddr.{SocketAddr}
 use Rattle.mg_bytes.specs.Lists.{is_empty}
-use Rattle.surroundings.specs.Hearing.{Looked}
+use Rattle.live_io.specs.Hearing.{Looked}
 use Rattle.live_agent.specs.Wiring.{one_more, with_read}
 use Rattle.live_agent.specs.declared.wire.Wire.{Wire}
 use Rattle.live_agent.proofs.typed_examples.what_is_heard_of_who_types_has_examples.Goals as goal

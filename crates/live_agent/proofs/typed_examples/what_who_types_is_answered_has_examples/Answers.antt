@@ -1,10 +1,10 @@
 use Rattle.std.proofs.Common.{◌≡◌, ◌+◌, ℕ, List, [], ◌∷◌, Option, ◌∙◌, refl, ap, subst}
 use Rattle.std.specs.Prelude.{codes}
 use Rattle.std.specs.declared.net.socket_addr.SocketAddr.{SocketAddr}
-use Rattle.surroundings.proofs.Computing.{on_examples}
-use Rattle.surroundings.specs.Hearing.{AnswersTo}
-use Rattle.surroundings.specs.Requests.{requests_from}
-use Rattle.surroundings.specs.Typing.{behind}
+use Rattle.live_io.proofs.Computing.{on_examples}
+use Rattle.live_io.specs.Hearing.{AnswersTo}
+use Rattle.live_io.specs.Requests.{requests_from}
+use Rattle.live_io.specs.Typing.{behind}
 use Rattle.live_agent.specs.declared.wire.Wire.{Wire}
 use Rattle.live_agent.proofs.typed_examples.what_who_types_is_answered_has_examples.Goals as goal
 

@@ -1,5 +1,5 @@
 use Rattle.std.proofs.Common.{◌≡◌, take}
-use Rattle.surroundings.specs.Speaking.{admitted_by, nobody}
+use Rattle.live_io.specs.Speaking.{admitted_by, nobody}
 use Rattle.live_gateway.specs.Admitting.{with_hosts}
 use Rattle.live_gateway.proofs.admission.speakers_of.Given as goal
 

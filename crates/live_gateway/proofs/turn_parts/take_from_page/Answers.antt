@@ -1,6 +1,6 @@
 use Rattle.std.proofs.Common.{sym, ◌∙◌}
 use Rattle.mg_bytes.specs.Lists.{is_empty}
-use Rattle.surroundings.specs.Typing.{left_of}
+use Rattle.live_io.specs.Typing.{left_of}
 use Rattle.live_gateway.proofs.PageLemmas.{unasked, still_left, asked_next}
 use Rattle.live_gateway.proofs.turn_parts.take_from_page.Goals as goal
 

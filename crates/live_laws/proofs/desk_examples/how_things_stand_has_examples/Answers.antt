@@ -1,7 +1,7 @@
 use Rattle.std.proofs.Common.{ℕ, Bool, Option, ◌∙◌, ap}
 use Rattle.std.specs.Prelude.{not}
 use Rattle.mg_bytes.specs.Lists.{is_empty}
-use Rattle.surroundings.specs.Typing.{left_of}
+use Rattle.live_io.specs.Typing.{left_of}
 use Rattle.turns.specs.Clock.{earlier}
 use Rattle.live_gateway.specs.Exchanging.{next_due}
 use Rattle.live_gateway.specs.Turning.{ready_at}

@@ -1,6 +1,6 @@
 use Rattle.std.proofs.Common.{ℕ, List, Option, ap, subst}
 use Rattle.std.specs.declared.net.socket_addr.SocketAddr.{SocketAddr}
-use Rattle.surroundings.specs.Hearing.{AnswersTo}
+use Rattle.live_io.specs.Hearing.{AnswersTo}
 use Rattle.live_gateway.specs.declared.desk.Desk.{Desk}
 use Rattle.live_laws.proofs.DeskExampleLemmas.{no_line_left, page_asks, put_so}
 use Rattle.live_laws.proofs.desk_examples.what_a_line_is_answered_has_examples.Goals as goal

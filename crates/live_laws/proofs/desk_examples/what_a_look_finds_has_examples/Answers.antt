@@ -1,7 +1,7 @@
 use Rattle.std.proofs.Common.{ℕ, Option, ◌∙◌, sym, ap, true≢false}
 use Rattle.std.specs.Prelude.{Result}
 use Rattle.std.specs.declared.net.socket_addr.SocketAddrV4.{SocketAddrV4}
-use Rattle.surroundings.specs.declared.surroundings.Fault.{Fault}
+use Rattle.live_io.specs.declared.surroundings.Fault.{Fault}
 use Rattle.live_gateway.specs.Exchanging.{faults_at}
 use Rattle.live_laws.proofs.DeskExampleLemmas.{nothing_found, nothing_heard, nothing_received}
 use Rattle.live_laws.proofs.desk_examples.what_a_look_finds_has_examples.Goals as goal

@@ -1,5 +1,5 @@
 use Rattle.std.proofs.Common.{refl}
-use Rattle.surroundings.proofs.TrafficLemmas.{known}
+use Rattle.live_io.proofs.TrafficLemmas.{known}
 use Rattle.live_play.proofs.RunLemmas.{ran_stays}
 use Rattle.live_gateway.proofs.DeskLemmas.{refused_by}
 use Rattle.live_laws.proofs.LiveLaws.{all_are_taken, none_refused}

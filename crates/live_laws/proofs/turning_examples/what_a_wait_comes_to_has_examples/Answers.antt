@@ -1,7 +1,7 @@
 use Rattle.std.proofs.Common.{Bool, ◌∙◌, ap}
 use Rattle.std.specs.Prelude.{⊤, Result}
 use Rattle.live_system.specs.Waiting.{longest_wait}
-use Rattle.surroundings.specs.declared.surroundings.Fault.{Fault}
+use Rattle.live_io.specs.declared.surroundings.Fault.{Fault}
 use Rattle.live_gateway.specs.Exchanging.{faults_behind}
 use Rattle.live_laws.proofs.turning_examples.what_a_wait_comes_to_has_examples.Goals as goal
 

@@ -1,7 +1,7 @@
 use Rattle.std.proofs.Common.{false, Bool, ◌∙◌, ap}
 use Rattle.std.specs.Prelude.{not}
 use Rattle.mg_bytes.specs.Lists.{is_empty}
-use Rattle.surroundings.specs.Typing.{left_of}
+use Rattle.live_io.specs.Typing.{left_of}
 use Rattle.live_laws.proofs.WayExampleLemmas.{line_left}
 use Rattle.live_laws.proofs.way_examples.the_page_is_asked_by_turns.Goals as goal
 

@@ -1,5 +1,5 @@
 use Rattle.std.proofs.Common.{List, [], ◌∷◌, Option, Some, subst}
-use Rattle.surroundings.specs.Sending.{Sent, Grows}
+use Rattle.live_io.specs.Sending.{Sent, Grows}
 use Rattle.transmission.specs.declared.output.OutDatagram.{OutDatagram}
 use Rattle.live_play.specs.Example.{loses_the_second, keeps}
 use Rattle.live_play.specs.Running.{sent_of, HandsEach}

@@ -1,7 +1,7 @@
 use Rattle.std.proofs.Common.{ℕ, Bool, ◌∙◌, ap}
 use Rattle.live_journal.specs.declared.journal.Journal.{Journal}
 use Rattle.live_play.specs.declared.play.LivePlay.{LivePlay}
-use Rattle.surroundings.specs.declared.lines.Lines.{Lines}
+use Rattle.live_io.specs.declared.lines.Lines.{Lines}
 use Rattle.live_gateway.specs.declared.desk.Desk.{Desk}
 use Rattle.live_gateway.specs.declared.exchange.Exchange.{Exchange}
 use Rattle.live_laws.proofs.way_examples.what_stays_of_an_exchange_has_examples.Goals as goal

@@ -1,4 +1,4 @@
-use Rattle.surroundings.specs.Speaking.{admitted_by}
+use Rattle.live_io.specs.Speaking.{admitted_by}
 use Rattle.told_messages.specs.Strangers.{unheard_text}
 use Rattle.told_messages.proofs.PuttingLemmas.{put_each}
 use Rattle.told_messages.proofs.strangers.put_all_unheard.Goals as goal

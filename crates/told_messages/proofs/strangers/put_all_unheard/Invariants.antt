@@ -1,6 +1,6 @@
 use Rattle.std.proofs.Common.{◌≡◌, ◌++◌, drop}
 use Rattle.std.specs.List.{flat_map}
-use Rattle.surroundings.specs.Speaking.{admitted_by}
+use Rattle.live_io.specs.Speaking.{admitted_by}
 use Rattle.told_messages.specs.Strangers.{unheard_text}
 use Rattle.told_messages.proofs.strangers.put_all_unheard.Given as goal
 

@@ -1,6 +1,6 @@
 use Rattle.std.proofs.Common.{◌≡◌, refl, sym, ap, inl, rules}
 use Rattle.std.specs.Prelude.{⊤, Result}
-use Rattle.surroundings.specs.declared.surroundings.Fault.{Fault}
+use Rattle.live_io.specs.declared.surroundings.Fault.{Fault}
 use Rattle.live_agent.specs.Tallying.{leaving_counted}
 use Rattle.live_agent.proofs.HandingLemmas.{left_counted}
 use Rattle.live_agent.proofs.wire.Wire.transmit.Goals as goal

@@ -1,6 +1,6 @@
 use Rattle.std.proofs.Common.{List, ℕ, refl}
-use Rattle.surroundings.specs.Hearing.{AnswersTo}
-use Rattle.surroundings.specs.Typing.{v4_of}
+use Rattle.live_io.specs.Hearing.{AnswersTo}
+use Rattle.live_io.specs.Typing.{v4_of}
 use Rattle.plain_machine.specs.Event.{GatewayEvent}
 use Rattle.plain_machine.specs.Lists.{plain}
 use Rattle.live_play.specs.Running.{lines_shown}

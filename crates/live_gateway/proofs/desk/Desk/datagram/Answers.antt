@@ -1,6 +1,6 @@
 use Rattle.std.proofs.Common.{None, Some, refl, ◌∙◌, ap}
 use Rattle.std.specs.Prelude.{is_ok}
-use Rattle.surroundings.specs.Speaking.{admitted_by}
+use Rattle.live_io.specs.Speaking.{admitted_by}
 use Rattle.live_play.specs.Coming.{Came}
 use Rattle.live_gateway.specs.Desk.{Standing, at_desk}
 use Rattle.live_gateway.proofs.DeskLemmas.{standing_of, counted_in, hears_nobody, hears}

@@ -2,7 +2,7 @@ use Rattle.std.proofs.Common.{◌≡◌, ℕ, [], false, refl, ◌∙◌, ap, su
 use Rattle.std.specs.Prelude.{not}
 use Rattle.gateway_core.specs.GatewayState.{GatewayState}
 use Rattle.plain_machine.specs.Event.{tick}
-use Rattle.surroundings.specs.Speaking.{admitted_by}
+use Rattle.live_io.specs.Speaking.{admitted_by}
 use Rattle.traces.specs.Writing.{passed}
 use Rattle.live_outlets.specs.declared.now.Now.{Now}
 use Rattle.live_play.specs.Coming.{Came}

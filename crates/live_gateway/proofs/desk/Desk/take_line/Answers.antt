@@ -1,6 +1,6 @@
 use Rattle.std.proofs.Common.{◌≡◌, [], inr, refl, ap}
 use Rattle.plain_machine.specs.Event.{phone}
-use Rattle.surroundings.specs.Speaking.{admitted_by}
+use Rattle.live_io.specs.Speaking.{admitted_by}
 use Rattle.live_play.specs.Coming.{Came}
 use Rattle.live_telephones.specs.declared.telephones.TelephoneRequest.TheVariants.{Act as AsksAct, Show}
 use Rattle.live_gateway.specs.Desk.{at_desk}

@@ -1,4 +1,4 @@
-use Rattle.surroundings.specs.Keeping.{copies_of}
+use Rattle.live_io.specs.Keeping.{copies_of}
 use Rattle.live_gateway.proofs.HearingLemmas.{came_copies}
 use Rattle.live_gateway.proofs.spoilt_way.SpoiltWay.hand_over.Goals as goal
 
