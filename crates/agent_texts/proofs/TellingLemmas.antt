@@ -2,10 +2,10 @@
 use Rattle.std.proofs.Common.{inl, inr, ◌≡◌, ℕ, Bool, true, false, List, [], ◌∷◌, ◌++◌, Option, Some, refl, sym, ap, subst, ◌∙◌, append_assoc, append-nil}
 use Rattle.std.specs.Prelude.{if◌then◌else◌, codes, decimal}
 use Rattle.std.specs.Borrow.{Bor}
-use Rattle.live_outlets.specs.declared.record.Record.{Record}
-use Rattle.live_outlets.specs.declared.record.RecordState.{RecordState}
-use Rattle.live_outlets.specs.declared.record.RecordState.TheVariants as records
-use Rattle.live_outlets.specs.Recording.{is_told}
+use Rattle.output_queues.specs.declared.record.Record.{Record}
+use Rattle.output_queues.specs.declared.record.RecordState.{RecordState}
+use Rattle.output_queues.specs.declared.record.RecordState.TheVariants as records
+use Rattle.output_queues.specs.Recording.{is_told}
 use Rattle.agent_texts.specs.Refusals.{code_told, is_code, refusal_line}
 use Rattle.agent_texts.specs.Stations.{number_at}
 use Rattle.agent_texts.specs.Telling.{call_line, line_of_pieces, Tells}

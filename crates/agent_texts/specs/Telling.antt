@@ -3,9 +3,9 @@ use Rattle.std.specs.Prelude.{◌≡◌, ◌⊎◌, ℕ, Bool, false, ◌==◌, 
 use Rattle.std.specs.List.{flat_map}
 use Rattle.std.specs.Borrow.{Bor}
 use Rattle.exchange_log.specs.Escaping.{shown}
-use Rattle.live_outlets.specs.declared.record.Record.{Record}
-use Rattle.live_outlets.specs.declared.record.RecordState.TheVariants as records
-use Rattle.live_outlets.specs.Recording.{is_told}
+use Rattle.output_queues.specs.declared.record.Record.{Record}
+use Rattle.output_queues.specs.declared.record.RecordState.TheVariants as records
+use Rattle.output_queues.specs.Recording.{is_told}
 use Rattle.agent_texts.specs.declared.standing.Progress.{Progress}
 use Rattle.agent_texts.specs.declared.standing.Progress.TheVariants.{Ringing, Answered, Connected}
 use Rattle.agent_texts.specs.declared.standing.Standing.{Standing}

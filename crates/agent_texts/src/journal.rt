@@ -1,9 +1,9 @@
 //! What is told of the conversation: on standard output, in the log, in a capture, and in counts.
 ghost use Rattle.std.specs.Prelude.{◌≡◌, ◌⊎◌, ◌++◌, true, false, [], IfOk, OnOk};
-ghost use Rattle.live_outlets.specs.declared.record.RecordState.TheVariants as states;
-ghost use Rattle.live_outlets.specs.Recording.{state_when};
+ghost use Rattle.output_queues.specs.declared.record.RecordState.TheVariants as states;
+ghost use Rattle.output_queues.specs.Recording.{state_when};
 ghost use Rattle.exchange_log.specs.File.{file_head};
-ghost use Rattle.live_outlets.specs.Written.{faults_in, written_line};
+ghost use Rattle.output_queues.specs.Written.{faults_in, written_line};
 ghost use Rattle.agent_texts.specs.Counts.{counts_text, nothing_counted, with_answer, with_notification, with_announcement, with_strange_name};
 ghost use Rattle.agent_texts.specs.Counts.{with_given_up, with_received, with_handed_out};
 ghost use Rattle.agent_texts.specs.Telling.{plain, line_of_pieces, Tells};
@@ -16,7 +16,7 @@ use exchange_log::{
     Note, Packet, Stamp, Way, put_given_up, put_head, put_message, put_note, put_packet,
     write_shown,
 };
-use live_outlets::{Outlets, Record, Written};
+use output_queues::{Outlets, Record, Written};
 use mg_bytes::{Draft, OutOfMemory, lines};
 use mgcp_text::parts;
 use std::alloc::Global;

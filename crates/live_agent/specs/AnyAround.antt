@@ -3,7 +3,7 @@ use Rattle.std.specs.Prelude.{◌≡◌, ⊤, ℕ, List, Result}
 use Rattle.agent_texts.specs.declared.journal.Journal.{Journal}
 use Rattle.live_io.specs.Around.{Around, unasked}
 use Rattle.live_io.specs.declared.surroundings.Fault.{Fault}
-use Rattle.live_outlets.specs.declared.written.Written.{Written}
+use Rattle.output_queues.specs.declared.written.Written.{Written}
 use Rattle.switchboard.specs.declared.switchboard.Switchboard.{Switchboard}
 use Rattle.live_agent.specs.declared.wire.Wire.{Wire}
 

@@ -4,10 +4,10 @@ use Rattle.agent_texts.specs.declared.journal.Journal.{Journal}
 use Rattle.agent_texts.specs.Counts.{counts_text}
 use Rattle.live_system.specs.declared.ending.CommonEnding.{CommonEnding}
 use Rattle.live_system.specs.declared.ending.CommonEnding.TheVariants.{Clock, OutOfMemory}
-use Rattle.live_outlets.specs.declared.written.Written.{Written}
+use Rattle.output_queues.specs.declared.written.Written.{Written}
 use Rattle.live_system.specs.Ending.{served_ending}
-use Rattle.live_outlets.specs.Recording.{is_refused}
-use Rattle.live_outlets.specs.Written.{faults_in, written_line}
+use Rattle.output_queues.specs.Recording.{is_refused}
+use Rattle.output_queues.specs.Written.{faults_in, written_line}
 
 -- memory was refused for something that is recorded: for what is told, the log or the capture
 abbrev pub is_record_refused : Journal → Bool

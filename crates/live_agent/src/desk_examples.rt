@@ -28,7 +28,7 @@ ghost use Rattle.turns.specs.Schedule.{next_of};
 ghost use Rattle.turns.specs.declared.schedule.Schedule.{Schedule};
 ghost use Rattle.turns.specs.declared.turn.Pause.{Pause};
 ghost use Rattle.mg_bytes.specs.Lines.{cut, line_of};
-ghost use Rattle.live_outlets.specs.declared.written.Written.{Written};
+ghost use Rattle.output_queues.specs.declared.written.Written.{Written};
 ghost use Rattle.switchboard.specs.declared.gateway.Gateway.{Gateway};
 ghost use Rattle.live_agent.specs.declared.session.Request.TheVariants as requests;
 ghost use Rattle.switchboard.specs.declared.switchboard.Switchboard.{Switchboard};

@@ -4,7 +4,7 @@ ghost use Rattle.mg_bytes.specs.Lists.{is_empty};
 
 use agent_texts::Journal;
 use live_system::DayWatch;
-use live_outlets::{Finisher, Outlets, Written};
+use output_queues::{Finisher, Outlets, Written};
 use std::alloc::Global;
 use std::rt::{Clock, Files};
 

@@ -18,7 +18,7 @@ use crate::wire::{MOST_AT_ONCE, Wire, log_pause};
 use agent_texts::count;
 use bad_network::Way;
 use call_agent::{IssueFault, Issued};
-use live_outlets::{DONE, NO_MEMORY, STOP_FROM_AFAR};
+use output_queues::{DONE, NO_MEMORY, STOP_FROM_AFAR};
 use mg_bytes::{OutOfMemory, put_decimal};
 use plain_machine::{Outputs, Refusal};
 use std::alloc::Global;

@@ -22,7 +22,7 @@ use agent_texts::{Journal, Tally, count};
 use bad_network::{BadNetwork, Fate, Packet, Way};
 use exchange_log::{Note, Stamp, put_pause};
 use live_system::longest_wait;
-use live_outlets::{Now, Record};
+use output_queues::{Now, Record};
 use plain_machine::OutDatagram;
 use std::alloc::{AllocError, Global};
 use std::net::SocketAddrV4;

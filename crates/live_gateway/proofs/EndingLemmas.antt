@@ -14,9 +14,9 @@ use Rattle.turns.specs.Schedule.{next_of}
 use Rattle.turns.proofs.ScheduleLaws.{ends_when_over}
 use Rattle.live_system.specs.declared.ending.CommonEnding.{CommonEnding}
 use Rattle.live_system.specs.declared.ending.CommonEnding.TheVariants.{OutOfMemory}
-use Rattle.live_outlets.specs.declared.written.Written.{Written}
+use Rattle.output_queues.specs.declared.written.Written.{Written}
 use Rattle.live_system.specs.Ending.{served_ending}
-use Rattle.live_outlets.specs.Written.{faults_in}
+use Rattle.output_queues.specs.Written.{faults_in}
 use Rattle.live_journal.specs.declared.trace.Trace.{Trace}
 use Rattle.live_journal.specs.Reporting.{counts_with}
 use Rattle.live_telephones.specs.Losses.{counts_text, lost_of_lines}

@@ -11,7 +11,7 @@ use Rattle.live_io.specs.declared.surroundings.Told.{Told}
 use Rattle.turns.specs.declared.schedule.Schedule.{Schedule}
 use Rattle.turns.specs.declared.turn.Turn.{Turn}
 use Rattle.turns.specs.declared.turn.Turn.TheVariants.{End, Look, Wait, Tick, Command, Datagram, Visit, Note}
-use Rattle.live_outlets.specs.declared.now.Now.{Now}
+use Rattle.output_queues.specs.declared.now.Now.{Now}
 use Rattle.live_journal.specs.declared.journal.Journal.{Journal}
 use Rattle.live_telephones.specs.Paging.{IsSameBeside}
 use Rattle.live_gateway.specs.declared.desk.Desk.{Desk}

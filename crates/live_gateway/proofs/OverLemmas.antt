@@ -6,7 +6,7 @@ use Rattle.gateway_core.specs.GatewayState.{GatewayState}
 use Rattle.gateway_core.specs.Wire.{counted}
 use Rattle.gateway_core.proofs.ServeLemmas.{counted_on}
 use Rattle.gateway_core.specs.declared.outcome.TextOutcome.{TextOutcome}
-use Rattle.live_outlets.specs.declared.now.Now.{Now}
+use Rattle.output_queues.specs.declared.now.Now.{Now}
 use Rattle.live_journal.specs.declared.journal.Journal.{Journal}
 use Rattle.message_counts.specs.declared.reporting.Faults.{Faults}
 use Rattle.plain_machine.specs.Event.{GatewayEvent, datagram}

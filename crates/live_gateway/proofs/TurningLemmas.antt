@@ -16,7 +16,7 @@ use Rattle.turns.specs.declared.turn.Turn.{Turn}
 use Rattle.turns.specs.declared.turn.Turn.TheVariants.{Tick}
 use Rattle.turns.specs.Schedule.{next_of}
 use Rattle.turns.proofs.ScheduleLaws.{ticks_within}
-use Rattle.live_outlets.specs.declared.now.Now.{Now}
+use Rattle.output_queues.specs.declared.now.Now.{Now}
 use Rattle.live_journal.specs.Writing.{WriterBy}
 use Rattle.live_play.specs.Running.{Live, Ran, Takes, TakesBy}
 use Rattle.live_gateway.specs.Desk.{Standing, with_input}

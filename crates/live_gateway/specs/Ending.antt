@@ -12,10 +12,10 @@ use Rattle.gateway_core.specs.Stands.{Stands}
 use Rattle.turns.specs.Clock.{has_come}
 use Rattle.live_system.specs.declared.ending.CommonEnding.{CommonEnding}
 use Rattle.live_system.specs.declared.ending.CommonEnding.TheVariants.{OutOfMemory}
-use Rattle.live_outlets.specs.declared.written.Written.{Written}
+use Rattle.output_queues.specs.declared.written.Written.{Written}
 use Rattle.live_system.specs.Ending.{served_ending}
-use Rattle.live_outlets.specs.Recording.{is_refused}
-use Rattle.live_outlets.specs.Written.{faults_in}
+use Rattle.output_queues.specs.Recording.{is_refused}
+use Rattle.output_queues.specs.Written.{faults_in}
 use Rattle.live_journal.specs.declared.journal.Journal.{Journal}
 use Rattle.live_journal.specs.declared.trace.Trace.{Trace}
 use Rattle.live_telephones.specs.Losses.{counts_text}

@@ -17,7 +17,7 @@ use Rattle.told_messages.specs.Recording.{Records, unsent_text}
 use Rattle.told_messages.specs.Logging.{Receives, LeavesOut, explained_at}
 use Rattle.told_messages.specs.Showing.{GoesOn, Happened}
 use Rattle.told_messages.specs.Strangers.{quiet_after, stranger_text, unheard_text}
-use Rattle.live_outlets.specs.declared.now.Now.{Now}
+use Rattle.output_queues.specs.declared.now.Now.{Now}
 use Rattle.live_journal.specs.declared.journal.Journal.{Journal}
 use Rattle.live_journal.specs.Capturing.{Captures}
 use Rattle.message_counts.specs.Tallying.{with_received, with_stranger}

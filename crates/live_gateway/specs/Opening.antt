@@ -14,7 +14,7 @@ use Rattle.message_counts.specs.SentCounting.{tally_in, no_tally}
 use Rattle.message_counts.specs.declared.message_tally.MessageTally.{MessageTally}
 use Rattle.page_state.specs.Keeping.{nothing_yet}
 use Rattle.page_state.specs.BoardShowing.{BoardState}
-use Rattle.live_outlets.specs.Recording.{state_when}
+use Rattle.output_queues.specs.Recording.{state_when}
 use Rattle.live_io.specs.Typing.{left_of}
 use Rattle.live_io.specs.declared.lines.Lines.{Lines}
 use Rattle.told_messages.specs.declared.log.Log.{Log}

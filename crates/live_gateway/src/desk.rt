@@ -31,7 +31,7 @@ use crate::turn_parts::{note_datagram, note_taken, situation, take_from_page};
 use crate::visitors::Visitors;
 use gateway_core::{DATAGRAM_ROOM, Gateway};
 use live_journal::{Recorder, Trace, report_with};
-use live_outlets::{DONE, boxed};
+use output_queues::{DONE, boxed};
 use live_play::LivePlay;
 use live_telephones::{
     PHONES_FROM_AFAR, TelephoneRequest, Watch, act_answer, all_shown, answer_put, lost_of,

@@ -2,13 +2,13 @@
 ghost use Rattle.std.specs.Prelude.{◌≡◌, codes, IfOk, OnErr};
 ghost use Rattle.live_io.specs.Hearing.{AnswersTo};
 ghost use Rattle.live_system.specs.Ending.{served_ending};
-ghost use Rattle.live_outlets.specs.Written.{faults_in};
+ghost use Rattle.output_queues.specs.Written.{faults_in};
 ghost use Rattle.live_gateway.specs.Ending.{AsksForEnd, is_record_refused, WritesLast, EndsWith, OnlyEnds};
 
 use crate::desk::Desk;
 use live_system::CommonEnding;
 use live_journal::{Journal, Recorder, Trace};
-use live_outlets::{Finisher, Written};
+use output_queues::{Finisher, Written};
 use std::alloc::AllocError;
 use std::rt::Clock;
 use live_io::Surroundings;

@@ -23,7 +23,7 @@ use exchange_log::Note;
 use gateway_core::{Gateway, SentMessage};
 use live_system::longest_wait;
 use live_journal::Journal;
-use live_outlets::Now;
+use output_queues::Now;
 use live_play::{FIRST_UNREAD, Outlet};
 use message_counts::{Faults, Taken};
 use small_rules::count;

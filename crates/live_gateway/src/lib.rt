@@ -24,4 +24,4 @@ pub use crate::naming::agents_line;
 pub use crate::opening::DeskSettings;
 pub use crate::spoilt_way::SpoiltWay;
 pub use crate::visitors::Visitors;
-pub use live_outlets::boxed;
+pub use output_queues::boxed;

@@ -6,7 +6,7 @@ ghost use Rattle.live_gateway.specs.Opening.{CountsNothing, BeginsBoard, BeginsL
 use crate::spoilt_way::SpoiltWay;
 use bad_network::{BadNetwork, Spoiling};
 use live_journal::{Capture, Journal};
-use live_outlets::{Written, boxed};
+use output_queues::{Written, boxed};
 use message_counts::MessageTally;
 use page_state::Board;
 use std::alloc::{AllocError, Global};

@@ -1,9 +1,9 @@
 -- What a capture has as another file begins, by whether it is told all.
 use Rattle.std.proofs.Common.{inl, inr, ◌≡◌, ℕ, true, false, List, [], ◌++◌}
 use Rattle.exchange_log.specs.File.{file_head}
-use Rattle.live_outlets.specs.declared.record.RecordState.{RecordState}
-use Rattle.live_outlets.specs.declared.record.RecordState.TheVariants.{Off, On, OutOfMemory}
-use Rattle.live_outlets.specs.Recording.{is_told}
+use Rattle.output_queues.specs.declared.record.RecordState.{RecordState}
+use Rattle.output_queues.specs.declared.record.RecordState.TheVariants.{Off, On, OutOfMemory}
+use Rattle.output_queues.specs.Recording.{is_told}
 use Rattle.live_journal.specs.Capturing.{BeginsFile}
 
 pub has_head : (was : RecordState) (were are : List ℕ) (state : RecordState) → is_told was ≡ true → state ≡ was → are ≡ file_head ++ were → BeginsFile was were state are

@@ -2,8 +2,8 @@
 use Rattle.std.specs.Prelude.{◌≡◌, ◌⊎◌, ℕ, List, [], ◌++◌}
 use Rattle.exchange_log.specs.File.{file_head, record_of}
 use Rattle.exchange_log.specs.Packet.{Packet}
-use Rattle.live_outlets.specs.declared.record.RecordState.{RecordState}
-use Rattle.live_outlets.specs.declared.record.RecordState.TheVariants.{Off, On, OutOfMemory}
+use Rattle.output_queues.specs.declared.record.RecordState.{RecordState}
+use Rattle.output_queues.specs.declared.record.RecordState.TheVariants.{Off, On, OutOfMemory}
 use Rattle.told_messages.specs.Recording.{Records}
 use Rattle.live_journal.specs.declared.capture.Capture.{Capture}
 

@@ -2,9 +2,9 @@
 use Rattle.std.specs.Prelude.{◌≡◌, ◌⊎◌, ℕ, ◌+◌, Bool, ◌==◌, ◌&&◌, ◌||◌, not, length, nat_eq, codes, if◌then◌else◌, List, [], ◌∷◌, ◌++◌}
 use Rattle.std.specs.List.{ends_with}
 use Rattle.mg_bytes.specs.Lists.{is_empty}
-use Rattle.live_outlets.specs.declared.record.Record.{Record}
-use Rattle.live_outlets.specs.declared.record.RecordState.TheVariants.{OutOfMemory}
-use Rattle.live_outlets.specs.Recording.{state_when, is_told}
+use Rattle.output_queues.specs.declared.record.Record.{Record}
+use Rattle.output_queues.specs.declared.record.RecordState.TheVariants.{OutOfMemory}
+use Rattle.output_queues.specs.Recording.{state_when, is_told}
 use Rattle.told_messages.specs.Recording.{Puts}
 use Rattle.live_journal.specs.declared.trace.Trace.{Trace}
 use Rattle.traces.specs.Telling.{told_first}

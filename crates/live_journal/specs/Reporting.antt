@@ -1,6 +1,6 @@
 -- All that is told of what was counted, and of what couldn't be written.
 use Rattle.std.specs.Prelude.{ℕ, List, ◌++◌}
-use Rattle.live_outlets.specs.Written.{written_line}
+use Rattle.output_queues.specs.Written.{written_line}
 use Rattle.message_counts.specs.Reporting.{report_text}
 use Rattle.message_counts.specs.declared.reporting.Faults.{Faults}
 use Rattle.live_journal.specs.declared.journal.Journal.{Journal}

@@ -6,7 +6,7 @@ use Rattle.bad_network.specs.declared.fate.Fate.TheVariants as fates
 use Rattle.exchange_log.specs.declared.note.Note.{Note}
 use Rattle.exchange_log.specs.declared.note.Note.TheVariants as notes
 use Rattle.exchange_log.specs.Lines.{note_line}
-use Rattle.live_outlets.specs.declared.record.Record.{Record}
+use Rattle.output_queues.specs.declared.record.Record.{Record}
 use Rattle.told_messages.specs.Recording.{Records}
 
 -- nothing, where it comes at once

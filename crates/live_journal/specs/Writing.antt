@@ -1,12 +1,12 @@
 -- What is left of what was recorded once it is kept for its outlets, and what is told of it.
 use Rattle.std.specs.Prelude.{◌≡◌, ⊤, ℕ, Bool, [], Option, Some, None}
 use Rattle.std.specs.Global.{Box}
-use Rattle.live_outlets.specs.declared.outlet.Outlet.{Outlet}
-use Rattle.live_outlets.specs.declared.outlets.Outlets.{Outlets}
-use Rattle.live_outlets.specs.declared.record.Record.{Record}
-use Rattle.live_outlets.specs.declared.written.Written.{Written}
-use Rattle.live_outlets.specs.Backlog.{sum_within}
-use Rattle.live_outlets.specs.Recording.{faults_of}
+use Rattle.output_queues.specs.declared.outlet.Outlet.{Outlet}
+use Rattle.output_queues.specs.declared.outlets.Outlets.{Outlets}
+use Rattle.output_queues.specs.declared.record.Record.{Record}
+use Rattle.output_queues.specs.declared.written.Written.{Written}
+use Rattle.output_queues.specs.Backlog.{sum_within}
+use Rattle.output_queues.specs.Recording.{faults_of}
 use Rattle.told_messages.specs.declared.log.Log.{Log}
 use Rattle.live_journal.specs.declared.capture.Capture.{Capture}
 use Rattle.live_journal.specs.declared.journal.Journal.{Journal}

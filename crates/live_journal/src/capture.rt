@@ -5,7 +5,7 @@ ghost use Rattle.live_journal.specs.Recording.{Begins};
 ghost use Rattle.live_journal.specs.Capturing.{BeginsFile, Captures};
 
 use exchange_log::{Packet, put_head, put_packet};
-use live_outlets::Record;
+use output_queues::Record;
 use mg_bytes::{OutOfMemory, Text};
 use std::alloc::Global;
 use std::net::SocketAddrV4;

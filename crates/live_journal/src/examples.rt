@@ -5,8 +5,8 @@ ghost use Rattle.std.specs.Prelude.{◌≡◌, ◌+◌, ◌++◌, codes, true, f
 ghost use Rattle.exchange_log.specs.declared.note.Note.TheVariants as notes;
 ghost use Rattle.exchange_log.specs.Lines.{note_line};
 ghost use Rattle.bad_network.specs.declared.fate.Fate.TheVariants.{Lost, Once, Twice};
-ghost use Rattle.live_outlets.specs.declared.record.Record.{Record};
-ghost use Rattle.live_outlets.specs.declared.record.RecordState.TheVariants.{Off, On, OutOfMemory};
+ghost use Rattle.output_queues.specs.declared.record.Record.{Record};
+ghost use Rattle.output_queues.specs.declared.record.RecordState.TheVariants.{Off, On, OutOfMemory};
 ghost use Rattle.message_counts.specs.Example.{host};
 ghost use Rattle.told_messages.specs.Recording.{Records};
 ghost use Rattle.live_journal.specs.declared.trace.Trace.{Trace};

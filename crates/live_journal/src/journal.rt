@@ -18,7 +18,7 @@ use crate::capture::Capture;
 use bad_network::Fate;
 use exchange_log::Note;
 use gateway_core::SentMessage;
-use live_outlets::{Now, Written};
+use output_queues::{Now, Written};
 use message_counts::{MessageTally, Taken};
 use page_state::{Board, Kind};
 use std::net::SocketAddrV4;

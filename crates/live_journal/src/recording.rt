@@ -1,14 +1,14 @@
 //! What was recorded is kept for its outlets, and written as far as these take it; and what is told of that, and of what was counted.
 ghost use Rattle.std.specs.Prelude.{◌≡◌, [], false, true, IfOk, IfSome};
-ghost use Rattle.live_outlets.specs.Backlog.{room_left};
-ghost use Rattle.live_outlets.specs.Recording.{is_open, is_refused};
+ghost use Rattle.output_queues.specs.Backlog.{room_left};
+ghost use Rattle.output_queues.specs.Recording.{is_open, is_refused};
 ghost use Rattle.live_io.specs.Sending.{Grows};
 ghost use Rattle.live_journal.specs.Reporting.{counts_with};
 ghost use Rattle.live_journal.specs.Writing.{IsKept, IsKeptFor, KeepsLog, KeepsCapture, IsWritten};
 
 use crate::journal::Journal;
 use crate::trace::Trace;
-use live_outlets::{Outlet, Outlets, Record, TEXT_ROOM};
+use output_queues::{Outlet, Outlets, Record, TEXT_ROOM};
 use message_counts::{Faults, report_text};
 use std::alloc::{AllocError, Global};
 use std::io::Write;

@@ -1,9 +1,9 @@
 //! The trace, as a record keeps it until it is written.
 ghost use Rattle.std.specs.Prelude.{◌≡◌, ◌≤◌, ◌<◌, ◌-◌, ◌++◌, length, true, false, [], OnOk, None};
-ghost use Rattle.live_outlets.specs.declared.record.RecordState.TheVariants.{Off, OutOfMemory};
+ghost use Rattle.output_queues.specs.declared.record.RecordState.TheVariants.{Off, OutOfMemory};
 ghost use Rattle.live_journal.specs.Recording.{whole_lines, trace_head, Begins, is_telling, has_ended, HasPlace};
 
-use live_outlets::{Outlet, Record, TEXT_ROOM};
+use output_queues::{Outlet, Record, TEXT_ROOM};
 use mg_bytes::{Draft, OutOfMemory};
 use std::alloc::Global;
 use std::io::Write;

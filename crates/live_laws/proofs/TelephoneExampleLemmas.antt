@@ -5,8 +5,8 @@ use Rattle.std.specs.Global.{Box}
 use Rattle.exchange_log.specs.File.{file_head}
 use Rattle.gateway_core.specs.GatewayState.{GatewayState}
 use Rattle.message_counts.specs.declared.reporting.Faults.{Faults}
-use Rattle.live_outlets.specs.declared.record.Record.{Record}
-use Rattle.live_outlets.specs.declared.record.RecordState.TheVariants.{On}
+use Rattle.output_queues.specs.declared.record.Record.{Record}
+use Rattle.output_queues.specs.declared.record.RecordState.TheVariants.{On}
 use Rattle.live_journal.specs.Capturing.{BeginsFile}
 use Rattle.live_journal.specs.Writing.{KeepsCapture}
 use Rattle.live_journal.specs.declared.capture.Capture.{Capture}

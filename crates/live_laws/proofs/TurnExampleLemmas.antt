@@ -15,16 +15,16 @@ use Rattle.live_io.specs.Speaking.{anybody}
 use Rattle.live_io.specs.declared.surroundings.Fault.{Fault}
 use Rattle.live_system.specs.declared.ending.CommonEnding.{CommonEnding}
 use Rattle.live_system.specs.declared.ending.CommonEnding.TheVariants.{OutOfMemory as LacksMemory}
-use Rattle.live_outlets.specs.declared.record.RecordState.{RecordState}
-use Rattle.live_outlets.specs.declared.record.RecordState.TheVariants.{Off, On, OutOfMemory}
+use Rattle.output_queues.specs.declared.record.RecordState.{RecordState}
+use Rattle.output_queues.specs.declared.record.RecordState.TheVariants.{Off, On, OutOfMemory}
 use Rattle.exchange_log.specs.declared.note.Note.{Note}
-use Rattle.live_outlets.specs.declared.record.Record.{Record}
+use Rattle.output_queues.specs.declared.record.Record.{Record}
 use Rattle.told_messages.specs.Recording.{Puts}
 use Rattle.told_messages.specs.declared.log.Log.{Log}
 use Rattle.live_journal.specs.Spoiling.{fate_note, Notes as NotesOf}
-use Rattle.live_outlets.specs.declared.written.Written.{Written}
+use Rattle.output_queues.specs.declared.written.Written.{Written}
 use Rattle.live_system.specs.Ending.{served_ending}
-use Rattle.live_outlets.specs.Written.{faults_in}
+use Rattle.output_queues.specs.Written.{faults_in}
 use Rattle.live_journal.specs.declared.trace.Trace.{Trace}
 use Rattle.live_gateway.specs.declared.admission.Admission.{Admission}
 use Rattle.live_gateway.specs.declared.desk.Desk.{Desk}

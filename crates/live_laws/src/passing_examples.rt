@@ -5,7 +5,7 @@ ghost use Rattle.std.specs.Prelude.{◌≡◌, ◌⊎◌, [], ◌∷◌, true, f
 ghost use Rattle.std.specs.declared.net.socket_addr.SocketAddrV4.{SocketAddrV4};
 ghost use Rattle.bad_network.specs.declared.packet.Packet.{Packet};
 ghost use Rattle.bad_network.specs.declared.packet.Way.TheVariants.{In, Out};
-ghost use Rattle.live_outlets.specs.Recording.{is_told};
+ghost use Rattle.output_queues.specs.Recording.{is_told};
 ghost use Rattle.message_counts.specs.Tallying.{with_received, with_stranger};
 ghost use Rattle.live_journal.specs.declared.journal.Journal.{Journal};
 ghost use Rattle.live_gateway.specs.declared.admission.Admission.{Admission};

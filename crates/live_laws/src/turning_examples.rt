@@ -42,7 +42,7 @@ ghost use Rattle.traces.specs.declared.telling.Mark.TheVariants.{Unsent, Lost};
 ghost use Rattle.live_gateway.specs.Leaving.{OnlyShows, OnlyTells, OnlyPlays, OnlyTicks, OnlyLogs, NotesPause, OnlyHears, OnlyReplies, OnlyWaits, TakesIf, DoesVisit};
 ghost use Rattle.exchange_log.specs.Pausing.{pause_line};
 ghost use Rattle.exchange_log.specs.declared.note.Note.TheVariants as notes;
-ghost use Rattle.live_outlets.specs.declared.record.RecordState.TheVariants.{Off, On};
+ghost use Rattle.output_queues.specs.declared.record.RecordState.TheVariants.{Off, On};
 ghost use Rattle.live_gateway.specs.Turning.{ready_at, RunsTurns};
 ghost use Rattle.live_io.specs.declared.surroundings.Fault.{Fault};
 ghost use Rattle.turns.specs.Schedule.{next_of};

@@ -12,7 +12,7 @@ use Rattle.live_system.specs.declared.ending.CommonEnding.TheVariants.{Served, H
 use Rattle.live_system.specs.declared.ending.CommonEnding.TheVariants.{Unreadable, Unwritable, Unbound, Clock, Write, OutOfMemory}
 use Rattle.live_system.specs.AddressWords.{word_text}
 use Rattle.live_system.specs.NetworkFaults.{wanted_by}
-use Rattle.live_outlets.specs.Reasons.{reason_of}
+use Rattle.output_queues.specs.Reasons.{reason_of}
 use Rattle.live_system.specs.Wording.{piece_text, joined}
 
 -- The exit status: 0: it did what was asked; 2: words, or a configuration, are refused; 3: memory, a file, a socket, a stream or the

@@ -4,7 +4,7 @@ use Rattle.std.specs.Prelude.{Option, Some, None}
 use Rattle.std.specs.Cmp.Lexicographic.{pointwise}
 use Rattle.mg_bytes.specs.Option.{◌>>=◌}
 use Rattle.mg_bytes.specs.Numbers.{decimal_of}
-use Rattle.live_outlets.specs.Backlog.{sum_within}
+use Rattle.output_queues.specs.Backlog.{sum_within}
 
 -- what stands behind this front of a text, if the text begins so
 abbrev pub behind_front : List ℕ → List ℕ → Option (List ℕ)

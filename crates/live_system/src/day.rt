@@ -4,7 +4,7 @@ ghost use Rattle.live_system.specs.Days.{jump_from};
 
 use crate::clock::time_of_day;
 use exchange_log::{Notice, put_notice};
-use live_outlets::Record;
+use output_queues::Record;
 use std::alloc::Global;
 use std::rt::Clock;
 use std::time::Instant;

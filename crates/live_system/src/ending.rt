@@ -1,8 +1,8 @@
 //! How a program ends, as far as programs have that in common: the status, and what is said then.
 ghost use Rattle.std.specs.Prelude.{◌≡◌, ◌≢◌, ◌++◌, Ok, Err, Some, None, OnOk, IfOk, IfErr, IfSome};
 ghost use Rattle.bad_network.specs.Parts.{spoiling_of};
-ghost use Rattle.live_outlets.specs.Reasons.{reason_of};
-ghost use Rattle.live_outlets.specs.Written.{faults_in};
+ghost use Rattle.output_queues.specs.Reasons.{reason_of};
+ghost use Rattle.output_queues.specs.Written.{faults_in};
 ghost use Rattle.live_system.specs.AddressWords.{word_text};
 ghost use Rattle.live_system.specs.Ending.{status_of, is_asked, served_ending, refused_text};
 ghost use Rattle.live_system.specs.Ending.{unbound_text, ending_text};
@@ -11,7 +11,7 @@ use crate::address_words::AddressWord;
 use crate::network_faults::wanted_by;
 use crate::wording::put_pieces;
 use bad_network::{Spoiling, SpoilingFault};
-use live_outlets::{Written, reason_of};
+use output_queues::{Written, reason_of};
 use mg_bytes::OutOfMemory;
 use std::alloc::Global;
 use std::io::ErrorKind;

@@ -19,7 +19,7 @@ ghost use Rattle.live_system.specs.AddressWords.{word_text};
 ghost use Rattle.live_system.specs.Addresses.{local_port, local_address, IsAddress};
 ghost use Rattle.live_system.specs.Ending.{status_of, is_asked, served_ending, ending_text};
 ghost use Rattle.live_system.specs.NetworkFaults.{wanted_by};
-ghost use Rattle.live_outlets.specs.Reasons.{reason_of};
+ghost use Rattle.output_queues.specs.Reasons.{reason_of};
 ghost use Rattle.live_system.specs.Wording.{piece_text};
 
 /// Each sentence at an example.

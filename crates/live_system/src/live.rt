@@ -5,7 +5,7 @@ use crate::address_words::AddressWord;
 use crate::clock::LiveClock;
 use crate::ending::CommonEnding;
 use crate::readiness::Readiness;
-use live_outlets::boxed;
+use output_queues::boxed;
 use mio::net::UdpSocket;
 use std::alloc::Global;
 use std::io;

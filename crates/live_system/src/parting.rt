@@ -1,9 +1,9 @@
 //! The files of a capture that is parted: `calls.pcap.7`, of which so many are kept.
 ghost use Rattle.std.specs.Prelude.{◌≡◌};
-ghost use Rattle.live_outlets.specs.Backlog.{sum_within};
+ghost use Rattle.output_queues.specs.Backlog.{sum_within};
 ghost use Rattle.live_system.specs.Parting.{number_behind, is_old, is_full};
 
-use live_outlets::{Outlet, make_for_owner};
+use output_queues::{Outlet, make_for_owner};
 use mg_bytes::decimal;
 use std::alloc::{AllocError, Global};
 use std::fs::{read_dir, remove_file};

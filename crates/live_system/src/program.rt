@@ -4,7 +4,7 @@ ghost use Rattle.live_system.specs.Ending.{status_of};
 
 use crate::ending::CommonEnding;
 use crate::standing::hold_standard;
-use live_outlets::{Outlet, Outlets, Stream, make_for_owner};
+use output_queues::{Outlet, Outlets, Stream, make_for_owner};
 use mg_bytes::OutOfMemory;
 use std::alloc::Global;
 use std::env;

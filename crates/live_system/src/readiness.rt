@@ -3,7 +3,7 @@ ghost use Rattle.std.specs.Prelude.{◌≡◌, replicate};
 ghost use Rattle.live_system.specs.Looking.{no_visit, has_visits, may_have_more};
 
 use crate::system_signals::SystemSignals;
-use live_outlets::boxed;
+use output_queues::boxed;
 use mio::net::{TcpListener, TcpStream, UdpSocket};
 use mio::{Events, Interest, Poll, Token};
 use std::alloc::Global;

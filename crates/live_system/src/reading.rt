@@ -7,7 +7,7 @@ use crate::table::{Kind, with_words};
 use clap::error::ErrorKind;
 use clap::{ArgMatches, Command, Error};
 use crate::ending::CommonEnding;
-use live_outlets::Outlet;
+use output_queues::Outlet;
 use std::alloc::{AllocError, Global};
 use std::io::Write;
 

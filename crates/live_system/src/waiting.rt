@@ -2,7 +2,7 @@
 ghost use Rattle.std.specs.Prelude.{◌≡◌};
 ghost use Rattle.live_system.specs.Waiting.{longest_wait};
 
-use live_outlets::NEXT_OFFER;
+use output_queues::NEXT_OFFER;
 
 /// So long a loop waits at most, in ms, that has nothing to do for so long: where something that was recorded waits to be taken, no
 /// longer than until that is offered again.

@@ -2,7 +2,7 @@
 use Rattle.std.proofs.Common.{◌≡◌, ℕ, suc, ◌+◌, Some, refl, arith}
 use Rattle.plain_machine.specs.Lists.{lost_of}
 use Rattle.plain_machine.specs.Machine.{Machine}
-use Rattle.live_outlets.specs.Backlog.{sum_within}
+use Rattle.output_queues.specs.Backlog.{sum_within}
 use Rattle.live_telephones.specs.Losses.{lost_of_lines}
 
 pub none_lost : (m : Machine) → 0 ≡ lost_of_lines m 0

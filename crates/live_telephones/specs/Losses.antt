@@ -4,7 +4,7 @@ use Rattle.std.specs.Option.{unwrap_or}
 use Rattle.plain_machine.specs.Lists.{lost_of}
 use Rattle.plain_machine.specs.Machine.{Machine}
 use Rattle.plain_machine.specs.declared.setup.Setup.{Setup}
-use Rattle.live_outlets.specs.Backlog.{sum_within}
+use Rattle.output_queues.specs.Backlog.{sum_within}
 use Rattle.live_journal.specs.declared.journal.Journal.{Journal}
 use Rattle.message_counts.specs.declared.reporting.Faults.{Faults}
 use Rattle.live_journal.specs.Reporting.{counts_with}

@@ -15,7 +15,7 @@ use crate::telephones::TelephoneRequest;
 use gateway_core::{Gateway, Refusal};
 use line_changes::MOST_WATCHERS;
 use live_journal::Journal;
-use live_outlets::{DONE, NO_MEMORY, STOP_FROM_AFAR};
+use output_queues::{DONE, NO_MEMORY, STOP_FROM_AFAR};
 use live_play::put_shown;
 use message_counts::Faults;
 use mg_bytes::{Draft, OutOfMemory};

@@ -16,7 +16,7 @@ use gateway_core::Gateway;
 use line_changes::{
     Change, ChangeText, SeenLine, Watcher, Watchers, put_changes, put_watching, told_at,
 };
-use live_outlets::NO_MEMORY;
+use output_queues::NO_MEMORY;
 use mg_bytes::OutOfMemory;
 use std::alloc::Global;
 use std::net::{SocketAddr, SocketAddrV4};

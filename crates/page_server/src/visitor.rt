@@ -8,7 +8,7 @@ use crate::desk::Desk;
 use http_server::{Config, Connection};
 use http1::Limits;
 use live_system::Visit;
-use live_outlets::boxed;
+use output_queues::boxed;
 use mio::net::TcpStream;
 use page_http::Seat;
 use std::alloc::{AllocError, Global};

@@ -6,7 +6,7 @@ ghost use Rattle.rgca_words.specs.Names.{Says};
 use agent_config::AgentConfig;
 use live_agent::{WireSettings, serve_agent};
 use live_system::{AddressWord, CommonEnding, SocketWanted, begin};
-use live_outlets::Outlets;
+use output_queues::Outlets;
 use rgca_words::{Ending, Said, Settings, asked_by, config_at};
 use std::alloc::Global;
 use std::net::Net;

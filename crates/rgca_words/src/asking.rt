@@ -5,7 +5,7 @@ ghost use Rattle.rgca_words.specs.Words.{moved_by};
 use crate::ending::{Ending, Moved, Said};
 use crate::words::{Settings, read_words};
 use live_system::CommonEnding;
-use live_outlets::Outlet;
+use output_queues::Outlet;
 use std::alloc::Global;
 use std::io::Write;
 

@@ -9,7 +9,7 @@ ghost use Rattle.rgca_words.specs.Names.{Says};
 
 use crate::help::of_program;
 use live_system::{About, CommonEnding, FileNames, end, put_pieces};
-use live_outlets::Outlets;
+use output_queues::Outlets;
 use mg_bytes::OutOfMemory;
 use std::alloc::Global;
 use std::io::Write;

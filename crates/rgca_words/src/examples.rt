@@ -10,7 +10,7 @@ ghost use Rattle.live_system.specs.declared.ending.CommonEnding.{CommonEnding};
 ghost use Rattle.live_system.specs.declared.ending.CommonEnding.TheVariants.{Served, Help, Version, Usage, Unreadable, Unwritable};
 ghost use Rattle.live_system.specs.Ending.{status_of as common_status, is_asked as is_commonly_asked, ending_text as common_text};
 ghost use Rattle.live_system.specs.Wording.{joined};
-ghost use Rattle.live_outlets.specs.Reasons.{reason_of};
+ghost use Rattle.output_queues.specs.Reasons.{reason_of};
 ghost use Rattle.rgca_words.specs.declared.help.TheConstants.{USAGE};
 ghost use Rattle.rgca_words.specs.declared.ending.Moved.{Moved as Part};
 ghost use Rattle.rgca_words.specs.declared.ending.Moved.TheVariants.{Check, Phones, Load};

@@ -11,7 +11,7 @@ use crate::help::{CONTROL, USAGE};
 use bad_network::Spoiling;
 use clap::{ArgMatches, Command};
 use live_system::{AddressWord, CommonEnding, FileNames, Kind, VERSION, address_behind, matches_in, moment_behind, network_in};
-use live_outlets::{Outlet, boxed};
+use output_queues::{Outlet, boxed};
 use std::alloc::Global;
 use std::io::Write;
 use std::net::SocketAddrV4;

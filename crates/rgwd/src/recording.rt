@@ -1,7 +1,7 @@
 //! What a gateway's records go to: its outlets, and the files of its capture, of which the next is made where one is full.
 use live_system::{CaptureFiles, DayWatch};
 use live_journal::{Capture, Journal, Recorder, Trace};
-use live_outlets::{Finisher, Outlet, Outlets, Written};
+use output_queues::{Finisher, Outlet, Outlets, Written};
 use std::cell::Cell;
 use std::io::Write;
 use std::rc::Rc;

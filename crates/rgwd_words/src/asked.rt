@@ -4,7 +4,7 @@ use crate::replaying::{REPLAY, replay_trace};
 use crate::telling::{TELL, tell_line};
 use crate::words::{Settings, read_words};
 use live_system::CommonEnding;
-use live_outlets::Outlets;
+use output_queues::Outlets;
 use std::net::Net;
 use std::rt::{Clock, Files};
 

@@ -5,7 +5,7 @@ use crate::starting::Begun;
 use crate::words::Settings;
 use exchange_log::put_peer;
 use live_system::{CaptureFiles, CommonEnding, Live, open_capture};
-use live_outlets::{Outlet, Outlets, boxed};
+use output_queues::{Outlet, Outlets, boxed};
 use mg_bytes::Draft;
 use plain_machine::Setup;
 use rgw_scenes::told_setup;

@@ -6,7 +6,7 @@ use crate::words::Settings;
 use config_flaws::{flaws_text, with_names};
 use gateway_core::Gateway;
 use live_system::{CommonEnding, read_file};
-use live_outlets::{Outlet, boxed};
+use output_queues::{Outlet, boxed};
 use plain_machine::Setup;
 use rgw_scenes::read_config;
 use rgw_scripts::LIMIT;

@@ -11,7 +11,7 @@ use crate::parted::{MOST_FILES, MOST_MEGABYTES};
 use exchange_log::put_peer;
 use gateway_core::FIRSTS;
 use live_system::{About, AddressWord, CommonEnding, FileNames, end, put_around, put_pieces};
-use live_outlets::Outlets;
+use output_queues::Outlets;
 use mg_bytes::{Draft, OutOfMemory};
 use traces::LONGEST_SPREAD;
 use std::alloc::Global;

@@ -24,7 +24,7 @@ ghost use Rattle.live_system.specs.Wording.{joined};
 ghost use Rattle.clap.specs.Matches.{first_value, one_text};
 ghost use Rattle.clap.specs.declared.parser.matches.Found.{Found};
 ghost use Rattle.live_system.specs.Values.{IsBehind, IsRead};
-ghost use Rattle.live_outlets.specs.Reasons.{reason_of};
+ghost use Rattle.output_queues.specs.Reasons.{reason_of};
 ghost use Rattle.page_http.specs.Naming.{names_in};
 ghost use Rattle.rgw_scenes.specs.declared.flaw.Flaw.TheVariants as flaws;
 ghost use Rattle.rgw_scenes.specs.Wording.{Tells};

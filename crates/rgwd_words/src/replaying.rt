@@ -6,7 +6,7 @@ ghost use Rattle.rgwd_words.specs.Replaying.{replayed_by};
 use crate::ending::{Ending, Said};
 use crate::words::unless_help;
 use live_system::{CommonEnding, FileNames};
-use live_outlets::Outlets;
+use output_queues::Outlets;
 use mg_bytes::Draft;
 use std::alloc::{AllocError, Global};
 use std::fs::File;

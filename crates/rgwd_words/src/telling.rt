@@ -6,7 +6,7 @@ ghost use Rattle.rgwd_words.specs.Telling.{answered_by};
 use crate::ending::Ending;
 use crate::words::unless_help;
 use live_system::{AddressWord, AskFault, CommonEnding, address_in, ask, put_printed};
-use live_outlets::Outlet;
+use output_queues::Outlet;
 use std::io::Write;
 use std::net::{Net, SocketAddrV4};
 use std::rt::Clock;

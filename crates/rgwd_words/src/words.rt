@@ -17,7 +17,7 @@ use crate::parted::parting_of;
 use bad_network::Spoiling;
 use clap::{ArgMatches, Command};
 use live_system::{AddressWord, CommonEnding, FileNames, Kind, Parting, VERSION, address_behind, address_in, matches_in, moment_behind, network_in};
-use live_outlets::{Outlet, boxed};
+use output_queues::{Outlet, boxed};
 use traces::{FirstNumber, spread_in};
 use page_http::HostNames;
 use std::alloc::{AllocError, Global};

@@ -1,8 +1,8 @@
 -- What is put into a record, by whether it is told all.
 use Rattle.std.proofs.Common.{inl, inr, ◌≡◌, ℕ, true, false, List, [], ◌++◌, refl, sym, append-nil}
-use Rattle.live_outlets.specs.declared.record.RecordState.{RecordState}
-use Rattle.live_outlets.specs.declared.record.RecordState.TheVariants.{Off, On, OutOfMemory}
-use Rattle.live_outlets.specs.Recording.{is_told}
+use Rattle.output_queues.specs.declared.record.RecordState.{RecordState}
+use Rattle.output_queues.specs.declared.record.RecordState.TheVariants.{Off, On, OutOfMemory}
+use Rattle.output_queues.specs.Recording.{is_told}
 use Rattle.told_messages.specs.Recording.{Puts}
 
 pub puts_text : (was : RecordState) (were text are : List ℕ) (state : RecordState) → is_told was ≡ true → state ≡ was → are ≡ were ++ text → Puts was were text state are

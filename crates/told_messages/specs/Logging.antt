@@ -4,7 +4,7 @@ use Rattle.std.specs.List.{flat_map}
 use Rattle.exchange_log.specs.declared.note.Note.{Note}
 use Rattle.exchange_log.specs.declared.stamp.Stamp.{Stamp}
 use Rattle.gateway_core.specs.declared.outcome.TextOutcome.{TextOutcome}
-use Rattle.live_outlets.specs.Recording.{is_told}
+use Rattle.output_queues.specs.Recording.{is_told}
 use Rattle.plain_machine.specs.declared.given_up.GivenUpCommand.{GivenUpCommand}
 use Rattle.gateway_core.specs.declared.sent.SentMessage.{SentMessage}
 use Rattle.gateway_core.specs.Outgoing.{texts_within}

@@ -4,7 +4,7 @@ use Rattle.std.specs.declared.net.socket_addr.SocketAddrV4.{SocketAddrV4}
 use Rattle.exchange_log.specs.declared.note.Note.TheVariants as notes
 use Rattle.exchange_log.specs.Lines.{note_line}
 use Rattle.gateway_core.specs.Wire.{counted}
-use Rattle.live_outlets.specs.Backlog.{sum_within}
+use Rattle.output_queues.specs.Backlog.{sum_within}
 use Rattle.gateway_core.specs.declared.sent.SentMessage.{SentMessage}
 use Rattle.live_io.specs.Speaking.{Admitted, may_speak}
 use Rattle.message_counts.specs.Waiting.{is_own}

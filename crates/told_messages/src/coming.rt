@@ -7,7 +7,7 @@ ghost use Rattle.told_messages.specs.Logging.{turned_text, Receives, Turns};
 use crate::log::{Arrival, LastCommands, Log, ms_between};
 use exchange_log::{Note, Stamp, Way, put_given_up, put_message, put_note};
 use gateway_core::{GivenUpCommand, TextOutcome};
-use live_outlets::Now;
+use output_queues::Now;
 use message_counts::Taken;
 use mg_bytes::{OutOfMemory, Text};
 use mgcp_text::TransactionId;

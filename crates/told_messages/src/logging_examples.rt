@@ -2,7 +2,7 @@
 #![tactic(auto, unfolding(crate::proofs::Computing::on_examples))]
 
 ghost use Rattle.std.specs.Prelude.{◌≡◌, ◌++◌, ◌∷◌, [], ℕ, List, codes, false, Some, None};
-ghost use Rattle.live_outlets.specs.declared.record.RecordState.TheVariants.{On};
+ghost use Rattle.output_queues.specs.declared.record.RecordState.TheVariants.{On};
 ghost use Rattle.mgcp_text.specs.declared.message.Verb.TheVariants.{Rqnt, Ntfy, Rsip};
 ghost use Rattle.exchange_log.specs.declared.note.Note.TheVariants as notes;
 ghost use Rattle.exchange_log.specs.declared.stamp.Way.TheVariants as ways;

@@ -7,7 +7,7 @@ ghost use Rattle.told_messages.specs.Sending.{own_line, begun_by, sent_text, dat
 use crate::log::{LastCommands, Log, OwnCommand, ms_between};
 use exchange_log::{Note, Stamp, Way, put_message, put_note};
 use gateway_core::{Label, SentMessage, What, Whose, split_text};
-use live_outlets::Now;
+use output_queues::Now;
 use mg_bytes::{OutOfMemory, Text};
 use std::alloc::Global;
 use std::net::SocketAddrV4;

@@ -11,7 +11,7 @@ ghost use Rattle.told_messages.specs.Recording.{Records};
 
 use crate::log::Log;
 use exchange_log::{Note, Stamp, Way, put_message, put_note, put_pause};
-use live_outlets::Now;
+use output_queues::Now;
 use mg_bytes::OutOfMemory;
 use mgcp_text::parts;
 use std::alloc::Global;

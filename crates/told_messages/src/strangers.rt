@@ -8,7 +8,7 @@ ghost use Rattle.told_messages.specs.Strangers.{lasts, told_at, quiet_after, unh
 use crate::log::Log;
 use exchange_log::{Note, Stamp, put_note};
 use gateway_core::SentMessage;
-use live_outlets::Now;
+use output_queues::Now;
 use message_counts::is_own;
 use mg_bytes::OutOfMemory;
 use small_rules::count;

@@ -4,7 +4,7 @@ ghost use Rattle.std.specs.Prelude.{◌≡◌};
 use crate::stories::clocks::Clocks;
 use crate::stories::transcript::Transcript;
 use live_journal::{Journal, Trace};
-use live_outlets::{Finisher, Outlet, Outlets, Stream, Written};
+use output_queues::{Finisher, Outlet, Outlets, Stream, Written};
 use std::alloc::{AllocError, Global};
 use std::cell::Cell;
 use std::io::{self, ErrorKind, Write};

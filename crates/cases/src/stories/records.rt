@@ -7,7 +7,7 @@ use crate::stories::late_log::{LateLog, LateRecord};
 use crate::stories::story::Story;
 use live_system::{CommonEnding, DayWatch};
 use live_journal::{Journal, Trace};
-use live_outlets::{Finisher, Record, TEXT_ROOM, Written, boxed};
+use output_queues::{Finisher, Record, TEXT_ROOM, Written, boxed};
 use std::alloc::{AllocError, Global};
 use std::rc::Rc;
 use std::rt::Clock;

@@ -6,7 +6,7 @@ use crate::stories::machine::{Change, Changing, Machine, Plan};
 use crate::stories::transcript::Transcript;
 use exchange_log::put_peer;
 use live_gateway::boxed;
-use live_outlets::{TEXT_ROOM, Written};
+use output_queues::{TEXT_ROOM, Written};
 use mg_bytes::{Draft, OutOfMemory};
 use scenario_files::{bytes_of, in_full, number_in, parted, put_line};
 use std::alloc::Global;

@@ -1,5 +1,5 @@
 //! The words that a program is called with in a story, as its own reader is given them.
-use live_outlets::{Outlet, Stream};
+use output_queues::{Outlet, Stream};
 use mg_bytes::OutOfMemory;
 use scenario_files::parted;
 use std::alloc::Global;

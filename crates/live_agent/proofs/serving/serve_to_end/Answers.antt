@@ -1,7 +1,7 @@
 use Rattle.std.proofs.Common.{◌≡◌, Bool, inl, inr, refl, sym, ap, ◌∙◌}
 use Rattle.agent_texts.specs.declared.journal.Journal.{Journal}
 use Rattle.live_system.specs.Ending.{served_ending}
-use Rattle.live_outlets.specs.Written.{faults_in}
+use Rattle.output_queues.specs.Written.{faults_in}
 use Rattle.live_agent.specs.Ending.{counted_in, ending_of, is_record_refused}
 use Rattle.live_agent.proofs.serving.serve_to_end.Goals as goal
 

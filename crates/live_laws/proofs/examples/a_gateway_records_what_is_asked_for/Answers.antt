@@ -1,8 +1,8 @@
 use Rattle.std.proofs.Common.{◌≡◌, [], refl, ap}
-use Rattle.live_outlets.specs.Written.{faults_in}
-use Rattle.live_outlets.specs.declared.written.Written.{Written}
+use Rattle.output_queues.specs.Written.{faults_in}
+use Rattle.output_queues.specs.declared.written.Written.{Written}
 use Rattle.exchange_log.specs.File.{file_head}
-use Rattle.live_outlets.specs.declared.record.RecordState.TheVariants.{On}
+use Rattle.output_queues.specs.declared.record.RecordState.TheVariants.{On}
 use Rattle.told_messages.specs.declared.strangers.Quiet.{Quiet}
 use Rattle.live_laws.proofs.TurnExampleLemmas.{noted_on}
 use Rattle.live_laws.proofs.examples.a_gateway_records_what_is_asked_for.Goals as goal

@@ -1,6 +1,6 @@
 use Rattle.std.proofs.Common.{ℕ, Option, ◌∙◌, ap}
 use Rattle.std.specs.Global.{Box}
-use Rattle.live_outlets.specs.declared.outlet.Outlet.{Outlet}
+use Rattle.output_queues.specs.declared.outlet.Outlet.{Outlet}
 use Rattle.told_messages.specs.declared.log.Log.{Log}
 use Rattle.live_journal.specs.Writing.{capture_faults}
 use Rattle.live_journal.specs.declared.capture.Capture.{Capture}

@@ -1,5 +1,5 @@
 use Rattle.std.proofs.Common.{◌≡◌, ℕ, List, []}
-use Rattle.live_outlets.specs.declared.written.Written.{Written}
+use Rattle.output_queues.specs.declared.written.Written.{Written}
 use Rattle.live_laws.proofs.TurnExampleLemmas.{refused_ends, counts_end}
 use Rattle.live_laws.proofs.turning_examples.a_desk_ends_as_its_records_and_counts_say.Goals as goal
 

@@ -1,7 +1,7 @@
 use Rattle.std.proofs.Common.{◌≡◌, ℕ, List, ◌++◌, ◌∙◌, codes, ap, subst}
 use Rattle.live_system.specs.Ending.{ending_text as common_text}
 use Rattle.live_system.specs.Wording.{joined}
-use Rattle.live_outlets.specs.Reasons.{reason_of}
+use Rattle.output_queues.specs.Reasons.{reason_of}
 use Rattle.rgca_words.specs.Texts.{ending_text}
 use Rattle.rgca_words.proofs.PieceLemmas.{joined_pieces}
 use Rattle.rgca_words.proofs.examples.an_ending_names_what_fails.Goals as goal

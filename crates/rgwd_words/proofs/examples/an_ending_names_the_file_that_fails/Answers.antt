@@ -1,7 +1,7 @@
 use Rattle.std.proofs.Common.{◌≡◌, ℕ, List, ◌++◌, ◌∙◌, codes, ap, subst}
 use Rattle.live_system.specs.Ending.{ending_text as common_text}
 use Rattle.live_system.specs.Wording.{joined}
-use Rattle.live_outlets.specs.Reasons.{reason_of}
+use Rattle.output_queues.specs.Reasons.{reason_of}
 use Rattle.rgwd_words.specs.Texts.{ending_text}
 use Rattle.rgwd_words.proofs.EndingLemmas.{joined_pieces}
 use Rattle.rgwd_words.proofs.examples.an_ending_names_the_file_that_fails.Goals as goal

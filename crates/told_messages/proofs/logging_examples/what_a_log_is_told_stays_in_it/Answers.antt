@@ -1,5 +1,5 @@
 use Rattle.std.proofs.Common.{ap}
-use Rattle.live_outlets.specs.Recording.{is_told}
+use Rattle.output_queues.specs.Recording.{is_told}
 use Rattle.told_messages.specs.declared.log.Log.{Log}
 use Rattle.told_messages.proofs.Computing.{on_examples}
 use Rattle.told_messages.proofs.logging_examples.what_a_log_is_told_stays_in_it.Goals as goal

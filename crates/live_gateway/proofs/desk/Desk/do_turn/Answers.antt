@@ -4,7 +4,7 @@ use Rattle.gateway_core.specs.GatewayState.{GatewayState}
 use Rattle.plain_machine.specs.Event.{tick}
 use Rattle.live_io.specs.Speaking.{admitted_by}
 use Rattle.traces.specs.Writing.{passed}
-use Rattle.live_outlets.specs.declared.now.Now.{Now}
+use Rattle.output_queues.specs.declared.now.Now.{Now}
 use Rattle.live_play.specs.Coming.{Came}
 use Rattle.live_gateway.specs.Desk.{at_desk}
 use Rattle.live_gateway.specs.Exchanging.{Waits}

@@ -3,11 +3,11 @@ use Rattle.std.specs.Prelude.{◌≡◌, ◌≢◌, ◌⊎◌, ℕ, ◌-◌, ◌
 use Rattle.mg_bytes.specs.Lists.{is_empty}
 use Rattle.exchange_log.specs.declared.note.Notice.TheVariants.{Dropped}
 use Rattle.exchange_log.specs.Lines.{notice_line}
-use Rattle.live_outlets.specs.declared.record.RecordState.{RecordState}
-use Rattle.live_outlets.specs.declared.record.RecordState.TheVariants.{Off, On, OutOfMemory}
-use Rattle.live_outlets.specs.declared.outlet.OutletState.{OutletState}
-use Rattle.live_outlets.specs.declared.outlet.OutletState.TheVariants.{Open, BrokenOff, Failed}
-use Rattle.live_outlets.specs.Backlog.{BacklogState, is_kept, with_text, offered, may_note, noted, closed}
+use Rattle.output_queues.specs.declared.record.RecordState.{RecordState}
+use Rattle.output_queues.specs.declared.record.RecordState.TheVariants.{Off, On, OutOfMemory}
+use Rattle.output_queues.specs.declared.outlet.OutletState.{OutletState}
+use Rattle.output_queues.specs.declared.outlet.OutletState.TheVariants.{Open, BrokenOff, Failed}
+use Rattle.output_queues.specs.Backlog.{BacklogState, is_kept, with_text, offered, may_note, noted, closed}
 
 -- Records
 

@@ -1,6 +1,6 @@
 //! What became of what was recorded.
 ghost use Rattle.std.specs.Prelude.{◌≡◌, ◌++◌, OnOk};
-ghost use Rattle.live_outlets.specs.Written.{name_text, numbers_text, names_text, faults_in, written_line};
+ghost use Rattle.output_queues.specs.Written.{name_text, numbers_text, names_text, faults_in, written_line};
 
 use exchange_log::write_shown;
 use mg_bytes::{Draft, OutOfMemory};

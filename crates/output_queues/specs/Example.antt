@@ -1,7 +1,7 @@
 -- What the worked examples speak of.
 use Rattle.std.specs.Prelude.{ℕ, false, true, List}
-use Rattle.live_outlets.specs.declared.written.Written.{Written}
-use Rattle.live_outlets.specs.Backlog.{BacklogState}
+use Rattle.output_queues.specs.declared.written.Written.{Written}
+use Rattle.output_queues.specs.Backlog.{BacklogState}
 
 -- this waits, and nothing was dropped
 abbrev pub waits : List ℕ → BacklogState

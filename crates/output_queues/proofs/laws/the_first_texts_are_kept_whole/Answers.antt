@@ -1,5 +1,5 @@
-use Rattle.live_outlets.proofs.BacklogLaws.{kept, counted, few}
-use Rattle.live_outlets.proofs.laws.the_first_texts_are_kept_whole.Goals as goal
+use Rattle.output_queues.proofs.BacklogLaws.{kept, counted, few}
+use Rattle.output_queues.proofs.laws.the_first_texts_are_kept_whole.Goals as goal
 
 pub returns-clause-kept : goal.returns-clause-kept
 returns-clause-kept c = kept

@@ -1,6 +1,6 @@
 //! Why the system refused a socket or a file, in words. A program ends the line that tells of it with what stands here.
 ghost use Rattle.std.specs.Prelude.{◌≡◌};
-ghost use Rattle.live_outlets.specs.Reasons.{reason_of};
+ghost use Rattle.output_queues.specs.Reasons.{reason_of};
 
 use std::io::ErrorKind;
 

@@ -1,8 +1,8 @@
 //! Laws of the definitions. Each function has an empty body: its clauses are the theorems.
 ghost use Rattle.std.specs.Prelude.{◌≡◌, ◌≤◌, ◌+◌, ◌-◌, ◌^◌, ◌++◌, ◌∷◌, ℕ, true, List, length, take, drop};
 ghost use Rattle.std.specs.List.{concat};
-ghost use Rattle.live_outlets.specs.Backlog.{BacklogState, is_kept, room_left, sum_within, offered_all, kept_of, lines_of_all};
-ghost use Rattle.live_outlets.specs.declared.backlog.TheConstants.{MOST_KEPT, NOTE_ROOM, TEXT_ROOM};
+ghost use Rattle.output_queues.specs.Backlog.{BacklogState, is_kept, room_left, sum_within, offered_all, kept_of, lines_of_all};
+ghost use Rattle.output_queues.specs.declared.backlog.TheConstants.{MOST_KEPT, NOTE_ROOM, TEXT_ROOM};
 
 /// Of texts that are offered one behind the other the first are kept, whole and in their order, and all others are dropped, whose lines
 /// are counted; no more bytes wait than there is room for.

@@ -1,8 +1,8 @@
 -- What is told of what wasn't recorded.
 use Rattle.std.specs.Prelude.{ℕ, nat_lt, codes, decimal, if◌then◌else◌, List, [], ◌++◌, Option, Some, None}
 use Rattle.exchange_log.specs.Escaping.{shown}
-use Rattle.live_outlets.specs.declared.written.Written.{Written}
-use Rattle.live_outlets.specs.Backlog.{sum_within}
+use Rattle.output_queues.specs.declared.written.Written.{Written}
+use Rattle.output_queues.specs.Backlog.{sum_within}
 
 -- where that failed its name stands, behind a blank
 unfoldable pub name_text : ℕ → List ℕ → List ℕ

@@ -1,7 +1,7 @@
 use Rattle.std.proofs.Common.{codes}
-use Rattle.live_outlets.specs.Written.{name_text}
-use Rattle.live_outlets.proofs.WrittenLemmas.{three_put}
-use Rattle.live_outlets.proofs.written.put_names.Goals as goal
+use Rattle.output_queues.specs.Written.{name_text}
+use Rattle.output_queues.proofs.WrittenLemmas.{three_put}
+use Rattle.output_queues.proofs.written.put_names.Goals as goal
 
 pub returns : goal.returns
 returns c =

@@ -1,8 +1,8 @@
 //! The outlets of a program: standard output, standard error, and the file of a capture.
 ghost use Rattle.std.specs.Prelude.{◌≡◌, ◌&&◌, IfSome, IfNone};
 ghost use Rattle.mg_bytes.specs.Lists.{is_empty};
-ghost use Rattle.live_outlets.specs.Backlog.{sum_within};
-ghost use Rattle.live_outlets.specs.Recording.{faults_of, offer_left};
+ghost use Rattle.output_queues.specs.Backlog.{sum_within};
+ghost use Rattle.output_queues.specs.Recording.{faults_of, offer_left};
 
 use crate::outlet::Outlet;
 use crate::stream::{Stream, wait_for_streams};

@@ -1,6 +1,6 @@
 //! Where something is written that nobody may read: by no write that waits.
 ghost use Rattle.std.specs.Prelude.{◌≡◌};
-ghost use Rattle.live_outlets.specs.declared.stream.Way.TheVariants.{Own};
+ghost use Rattle.output_queues.specs.declared.stream.Way.TheVariants.{Own};
 
 use libc::net::{POLLNVAL, POLLOUT, poll};
 use libc::types::pollfd;

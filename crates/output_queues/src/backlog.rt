@@ -1,7 +1,7 @@
 //! What waits for somebody who takes it later, up to a bound.
 ghost use Rattle.std.specs.Prelude.{◌≡◌, ◌<◌, ◌≤◌, ◌+◌, IfOk, length, drop, true, false};
 ghost use Rattle.std.specs.Vec.{vec_capacity};
-ghost use Rattle.live_outlets.specs.Backlog.{nothing_waits, lines_ended, is_kept, room_left, with_text, offered, may_note, noted, ended_within, taken, closed};
+ghost use Rattle.output_queues.specs.Backlog.{nothing_waits, lines_ended, is_kept, room_left, with_text, offered, may_note, noted, ended_within, taken, closed};
 
 use std::alloc::{AllocError, Global};
 use std::marker::Model;
@@ -34,8 +34,8 @@ pub struct Backlog {
 impl Model for Backlog {
     ghost use Rattle.std.specs.Prelude.{◌≤◌, length, drop};
     ghost use Rattle.std.specs.Vec.{vec_capacity};
-    ghost use Rattle.live_outlets.specs.Backlog.{BacklogState};
-    ghost use Rattle.live_outlets.specs.declared.backlog.TheConstants.{MOST_KEPT, CAPACITY};
+    ghost use Rattle.output_queues.specs.Backlog.{BacklogState};
+    ghost use Rattle.output_queues.specs.declared.backlog.TheConstants.{MOST_KEPT, CAPACITY};
 
     ghost Value = { BacklogState };
 

@@ -5,7 +5,7 @@ use Rattle.std.specs.List.{concat}
 use Rattle.std.proofs.lemmas.Bool.{cases_Bool, le-leb}
 use Rattle.std.proofs.lemmas.Bool.Decides.{nat_tests}
 use Rattle.std.proofs.lemmas.List.{append-nil, append_assoc, length-append}
-use Rattle.live_outlets.specs.Backlog.{BacklogState, sum_within, lines_ended, is_kept, room_left, with_text, without_text, offered, offered_all, kept_of, lines_of_all}
+use Rattle.output_queues.specs.Backlog.{BacklogState, sum_within, lines_ended, is_kept, room_left, with_text, without_text, offered, offered_all, kept_of, lines_of_all}
 
 -- where a text is kept
 kept_step : (room : ℕ) (backlog : BacklogState) (text : List ℕ) (texts : List (List ℕ)) → is_kept room backlog text ≡ true

@@ -1,11 +1,11 @@
 //! An outlet: what is recorded waits there until it is taken.
 ghost use Rattle.std.specs.Prelude.{◌≡◌, ◌≢◌, [], true, false, IfOk, string_bytes};
 ghost use Rattle.mg_bytes.specs.Lists.{is_empty};
-ghost use Rattle.live_outlets.specs.declared.outlet.OutletState.TheVariants.{Open, BrokenOff, Failed};
-ghost use Rattle.live_outlets.specs.declared.record.RecordState.TheVariants.{Off};
-ghost use Rattle.live_outlets.specs.declared.backlog.TheConstants.{NOTE_ROOM, TEXT_ROOM};
-ghost use Rattle.live_outlets.specs.Backlog.{nothing_waits, is_kept, room_left, offered, ended_within, closed};
-ghost use Rattle.live_outlets.specs.Recording.{is_refused, is_open, faults_of, said, Says, Notes, KeepsLog, given_up, state_given_up};
+ghost use Rattle.output_queues.specs.declared.outlet.OutletState.TheVariants.{Open, BrokenOff, Failed};
+ghost use Rattle.output_queues.specs.declared.record.RecordState.TheVariants.{Off};
+ghost use Rattle.output_queues.specs.declared.backlog.TheConstants.{NOTE_ROOM, TEXT_ROOM};
+ghost use Rattle.output_queues.specs.Backlog.{nothing_waits, is_kept, room_left, offered, ended_within, closed};
+ghost use Rattle.output_queues.specs.Recording.{is_refused, is_open, faults_of, said, Says, Notes, KeepsLog, given_up, state_given_up};
 
 use crate::backlog::Backlog;
 use crate::reasons::reason_of;

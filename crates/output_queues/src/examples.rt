@@ -3,12 +3,12 @@
 
 ghost use Rattle.std.specs.Prelude.{◌≡◌, codes, true, false, [], ◌∷◌};
 ghost use Rattle.std.specs.declared.io.ErrorKind.{ErrorKind};
-ghost use Rattle.live_outlets.specs.Backlog.{nothing_waits, lines_ended, is_kept, room_left, offered, offered_all, may_note, noted, ended, ended_within, taken, closed, kept_of, lines_of_all};
-ghost use Rattle.live_outlets.specs.Recording.{state_when, is_told, is_refused, is_open, faults_of, said, given_up, state_given_up, offer_left};
-ghost use Rattle.live_outlets.specs.Written.{written_line};
-ghost use Rattle.live_outlets.specs.declared.record.RecordState.TheVariants.{Off, On, OutOfMemory};
-ghost use Rattle.live_outlets.specs.declared.outlet.OutletState.TheVariants.{Open, BrokenOff, Failed};
-ghost use Rattle.live_outlets.specs.Example.{waits, full, over, lost};
+ghost use Rattle.output_queues.specs.Backlog.{nothing_waits, lines_ended, is_kept, room_left, offered, offered_all, may_note, noted, ended, ended_within, taken, closed, kept_of, lines_of_all};
+ghost use Rattle.output_queues.specs.Recording.{state_when, is_told, is_refused, is_open, faults_of, said, given_up, state_given_up, offer_left};
+ghost use Rattle.output_queues.specs.Written.{written_line};
+ghost use Rattle.output_queues.specs.declared.record.RecordState.TheVariants.{Off, On, OutOfMemory};
+ghost use Rattle.output_queues.specs.declared.outlet.OutletState.TheVariants.{Open, BrokenOff, Failed};
+ghost use Rattle.output_queues.specs.Example.{waits, full, over, lost};
 
 /// Each sentence at an example.
 pub fn each_sentence_has_an_example()

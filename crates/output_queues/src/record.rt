@@ -1,7 +1,7 @@
 //! What is put together while a turn goes on, to be kept for an outlet when it is over.
 ghost use Rattle.std.specs.Prelude.{◌≡◌, []};
-ghost use Rattle.live_outlets.specs.declared.record.RecordState.TheVariants.{Off, OutOfMemory};
-ghost use Rattle.live_outlets.specs.Recording.{state_when, is_told, is_refused};
+ghost use Rattle.output_queues.specs.declared.record.RecordState.TheVariants.{Off, OutOfMemory};
+ghost use Rattle.output_queues.specs.Recording.{state_when, is_told, is_refused};
 
 use std::alloc::Global;
 

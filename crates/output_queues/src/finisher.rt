@@ -8,7 +8,7 @@ use std::rt::Clock;
 
 /// Who writes what was recorded to its end. What it does where it is told to is its own; that it was told is said.
 pub trait Finisher {
-    ghost use Rattle.live_outlets.specs.declared.written.Written.{Written};
+    ghost use Rattle.output_queues.specs.declared.written.Written.{Written};
 
     /// It was told once to end, with these last words, and this became of what was recorded.
     ghost ends: { List ℕ → Self → Written → Self → Type 0 };
