@@ -1,8 +1,8 @@
 -- The definitions opened, so that worked examples compute.
 use Rattle.std.specs.Prelude.{⊤}
 use Rattle.mg_bytes.proofs.Computing.{on_examples as byte_examples}
-use Rattle.exchange_log.specs.Escaping.{shown}
-use Rattle.exchange_log.specs.Grouping.{grouped}
+use Rattle.log_format.specs.Escaping.{shown}
+use Rattle.log_format.specs.Grouping.{grouped}
 
 unfoldable pub on_examples : ⊤
 unfolding byte_examples shown grouped

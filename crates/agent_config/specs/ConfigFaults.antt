@@ -5,8 +5,8 @@ use Rattle.toml.specs.Data.{Data, as_str, type_name}
 use Rattle.toml.specs.View.{view}
 use Rattle.toml.specs.declared.value.Value.{Value}
 use Rattle.endpoint_names.specs.Table.{longest_domain}
-use Rattle.exchange_log.specs.Escaping.{shown}
-use Rattle.exchange_log.specs.Grouping.{number_shown}
+use Rattle.log_format.specs.Escaping.{shown}
+use Rattle.log_format.specs.Grouping.{number_shown}
 use Rattle.agent_config.specs.declared.config_fault.ConfigRefusal.{ConfigRefusal}
 use Rattle.agent_config.specs.declared.config_fault.ConfigRefusal.TheVariants.{OutOfMemory, Told}
 use Rattle.agent_config.specs.declared.config_fault.Place.{Place}

@@ -1,11 +1,11 @@
 //! Why a configuration is refused, in words: the key, what stands there, and what may.
 ghost use Rattle.std.specs.Prelude.{◌≡◌, ◌++◌};
 ghost use Rattle.toml.specs.View.{view};
-ghost use Rattle.exchange_log.specs.Grouping.{number_shown};
+ghost use Rattle.log_format.specs.Grouping.{number_shown};
 ghost use Rattle.agent_config.specs.ConfigFaults.{key_behind, place_text, value_text, up_to, fault_text, missing_line, unknown_line, value_line, refused_line, count_line, name_line, limit_line, IsTold};
 
 use endpoint_names::LONGEST_DOMAIN;
-use exchange_log::{write_number, write_shown};
+use log_format::{write_number, write_shown};
 use mg_bytes::Draft;
 use std::alloc::{AllocError, Global};
 use toml::Value;

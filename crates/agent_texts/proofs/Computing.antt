@@ -1,7 +1,7 @@
 -- The definitions opened, so that worked examples compute.
 use Rattle.std.specs.Prelude.{⊤}
 use Rattle.mg_bytes.proofs.Computing.{on_examples as byte_examples}
-use Rattle.exchange_log.specs.Escaping.{shown}
+use Rattle.log_format.specs.Escaping.{shown}
 use Rattle.mgcp_text.proofs.Computing.{on_examples as message_examples}
 use Rattle.agent_texts.specs.Counts.{calls_text, messages_text, losses_text}
 use Rattle.agent_texts.specs.Telling.{line_of_pieces, call_line, line_line}

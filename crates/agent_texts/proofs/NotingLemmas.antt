@@ -16,7 +16,7 @@ use Rattle.mgcp_text.specs.declared.header.Start.{Start}
 use Rattle.mgcp_text.specs.declared.header.Start.TheVariants as starts
 use Rattle.mgcp_text.specs.declared.header.Header.{Header}
 use Rattle.mgcp_text.specs.Header.{HeaderTail, tail_of, header_of, is_version}
-use Rattle.exchange_log.specs.declared.note.Note.{Note}
+use Rattle.log_format.specs.declared.note.Note.{Note}
 use Rattle.mgcp_text.specs.Reading.{Outcome, no_header, is_empty_line, skip_empty, params_of, command_from, response_from, message_from, header_from, outcome_from, read_text}
 use Rattle.agent_texts.specs.Noting.{first_piece, header_in, command_note, note_as, text_note}
 

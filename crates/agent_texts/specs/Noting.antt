@@ -3,8 +3,8 @@ use Rattle.std.specs.Prelude.{ℕ, Bool, if◌then◌else◌, List, [], ◌∷�
 use Rattle.mg_bytes.specs.Lines.{cut}
 use Rattle.mgcp_text.specs.declared.message.Message.TheVariants.{Command, Response}
 use Rattle.mgcp_text.specs.Reading.{Outcome, message, no_header, bad_version, bad_body, skip_empty, read_text}
-use Rattle.exchange_log.specs.declared.note.Note.{Note}
-use Rattle.exchange_log.specs.declared.note.Note.TheVariants.{Unreadable, SentAgain}
+use Rattle.log_format.specs.declared.note.Note.{Note}
+use Rattle.log_format.specs.declared.note.Note.TheVariants.{Unreadable, SentAgain}
 
 abbrev pub first_piece : List (List ℕ) → List ℕ
 first_piece [] = []

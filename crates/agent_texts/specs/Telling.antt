@@ -2,7 +2,7 @@
 use Rattle.std.specs.Prelude.{◌≡◌, ◌⊎◌, ℕ, Bool, false, ◌==◌, codes, decimal, if◌then◌else◌, List, [], ◌∷◌, ◌++◌}
 use Rattle.std.specs.List.{flat_map}
 use Rattle.std.specs.Borrow.{Bor}
-use Rattle.exchange_log.specs.Escaping.{shown}
+use Rattle.log_format.specs.Escaping.{shown}
 use Rattle.output_queues.specs.declared.record.Record.{Record}
 use Rattle.output_queues.specs.declared.record.RecordState.TheVariants as records
 use Rattle.output_queues.specs.Recording.{is_told}

@@ -5,7 +5,7 @@ ghost use Rattle.std.specs.Prelude.{◌≡◌, ◌++◌, codes, [], ◌∷◌, t
 ghost use Rattle.call_routing.specs.declared.phase.Tone.TheVariants as tones;
 ghost use Rattle.call_routing.specs.declared.phase.Phase.TheVariants as phases;
 ghost use Rattle.call_routing.specs.declared.line.Leg.TheVariants as legs;
-ghost use Rattle.exchange_log.specs.declared.note.Note.TheVariants.{Unreadable, SentAgain};
+ghost use Rattle.log_format.specs.declared.note.Note.TheVariants.{Unreadable, SentAgain};
 ghost use Rattle.agent_texts.specs.declared.standing.Progress.TheVariants.{Ringing, Answered, Connected};
 ghost use Rattle.agent_texts.specs.declared.standing.Standing.TheVariants.{Rest, Dialling, Busy, Reorder, Caller, Called};
 ghost use Rattle.agent_texts.specs.Counts.{greatest_count, one_more, nothing_counted, told, counts_text, with_answer, with_notification, with_announcement};

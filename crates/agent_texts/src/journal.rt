@@ -2,7 +2,7 @@
 ghost use Rattle.std.specs.Prelude.{◌≡◌, ◌⊎◌, ◌++◌, true, false, [], IfOk, OnOk};
 ghost use Rattle.output_queues.specs.declared.record.RecordState.TheVariants as states;
 ghost use Rattle.output_queues.specs.Recording.{state_when};
-ghost use Rattle.exchange_log.specs.File.{file_head};
+ghost use Rattle.log_format.specs.File.{file_head};
 ghost use Rattle.output_queues.specs.Written.{faults_in, written_line};
 ghost use Rattle.agent_texts.specs.Counts.{counts_text, nothing_counted, with_answer, with_notification, with_announcement, with_strange_name};
 ghost use Rattle.agent_texts.specs.Counts.{with_given_up, with_received, with_handed_out};
@@ -12,7 +12,7 @@ use crate::noting::text_note;
 use crate::tally::{Tally, count};
 use crate::text::header_word;
 use packages::{Observed, write_observed};
-use exchange_log::{
+use log_format::{
     Note, Packet, Stamp, Way, put_given_up, put_head, put_message, put_note, put_packet,
     write_shown,
 };

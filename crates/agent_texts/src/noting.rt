@@ -3,7 +3,7 @@ ghost use Rattle.std.specs.Prelude.{◌≡◌, ◌-◌, length, take, IfOk, Some
 ghost use Rattle.mgcp_text.specs.Reading.{outcome_of};
 ghost use Rattle.agent_texts.specs.Noting.{header_in as header_of, command_note as note_of_command, note_as, text_note as note_of_text};
 
-use exchange_log::Note;
+use log_format::Note;
 use mg_bytes::{OutOfMemory, lines};
 use mgcp_text::{Message, TextFault, TransactionId, read_message};
 use std::alloc::{AllocError, Global};

@@ -4,7 +4,7 @@ ghost use Rattle.rgw_scenes.specs.Flaws.{flaw_of};
 ghost use Rattle.config_flaws.specs.Flaws.{NamesFile};
 
 use crate::judged::{KEYS, judged, judged_number, key_called, key_names};
-use exchange_log::{write_number, write_shown};
+use log_format::{write_number, write_shown};
 use mg_bytes::{Draft, OutOfMemory};
 use plain_machine::ConfigKey;
 use rgw_scenes::{Flaw, flaw_of, told as first_told};

@@ -20,7 +20,7 @@ use Rattle.turns.specs.declared.turn.Turn.{Turn}
 use Rattle.turns.specs.declared.turn.Turn.TheVariants as turns
 use Rattle.agent_texts.specs.Telling.{Tells}
 use Rattle.agent_texts.specs.declared.journal.Journal.{Journal}
-use Rattle.exchange_log.specs.Pausing.{pause_line}
+use Rattle.log_format.specs.Pausing.{pause_line}
 use Rattle.live_system.specs.Waiting.{longest_wait}
 use Rattle.live_agent.specs.declared.session.Request.{Request}
 use Rattle.live_agent.specs.declared.session.Request.TheVariants.{Nothing, Counts, Stop, StopFromAfar, Command}

@@ -9,7 +9,7 @@ ghost use Rattle.agent_texts.specs.declared.journal.Journal.{Journal};
 ghost use Rattle.agent_texts.specs.declared.tally.Tally.{Tally};
 ghost use Rattle.agent_texts.specs.Counts.{with_given_up, with_notification};
 ghost use Rattle.agent_texts.specs.Telling.{Tells};
-ghost use Rattle.exchange_log.specs.Pausing.{pause_line};
+ghost use Rattle.log_format.specs.Pausing.{pause_line};
 ghost use Rattle.bad_network.specs.declared.network.BadNetwork.{BadNetwork};
 ghost use Rattle.bad_network.specs.declared.packet.Packet.{Packet};
 ghost use Rattle.bad_network.specs.declared.packet.Way.TheVariants.{In, Out};

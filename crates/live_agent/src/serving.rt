@@ -17,7 +17,7 @@ use crate::wire::Wire;
 use agent_config::AgentConfig;
 use agent_texts::Journal;
 use bad_network::{BadNetwork, Spoiling};
-use exchange_log::put_peer;
+use log_format::put_peer;
 use live_system::{CommonEnding, DayWatch, Live, SocketWanted, open_capture};
 use output_queues::{Finisher, Outlets, Written, boxed};
 use mg_bytes::{Draft, OutOfMemory};

@@ -3,7 +3,7 @@ ghost use Rattle.std.specs.Prelude.{◌≡◌, ◌≤◌, ⊤, ◌∷◌, ℕ, B
 ghost use Rattle.std.specs.declared.net.socket_addr.SocketAddrV4.{SocketAddrV4 as Peer};
 ghost use Rattle.bad_network.specs.declared.packet.Way.TheVariants.{In};
 ghost use Rattle.agent_texts.specs.Telling.{Tells};
-ghost use Rattle.exchange_log.specs.Pausing.{pause_line};
+ghost use Rattle.log_format.specs.Pausing.{pause_line};
 ghost use Rattle.live_system.specs.Waiting.{longest_wait};
 ghost use Rattle.mg_bytes.specs.Lists.{is_empty};
 ghost use Rattle.live_agent.specs.Wiring.{due_of, with_read, read_at, heard_at, ready_by};
@@ -20,7 +20,7 @@ ghost use Rattle.live_io.specs.declared.surroundings.Told.{Told};
 
 use agent_texts::{Journal, Tally, count};
 use bad_network::{BadNetwork, Fate, Packet, Way};
-use exchange_log::{Note, Stamp, put_pause};
+use log_format::{Note, Stamp, put_pause};
 use live_system::longest_wait;
 use output_queues::{Now, Record};
 use plain_machine::OutDatagram;

@@ -11,7 +11,7 @@ use Rattle.live_io.specs.Typing.{left_of}
 use Rattle.live_io.specs.declared.lines.Lines.{Lines}
 use Rattle.live_io.specs.declared.surroundings.Fault.{Fault}
 use Rattle.live_io.specs.declared.surroundings.Told.{Told}
-use Rattle.exchange_log.specs.Pausing.{pause_line}
+use Rattle.log_format.specs.Pausing.{pause_line}
 use Rattle.told_messages.specs.Recording.{Records}
 use Rattle.turns.specs.declared.turn.Pause.{Pause}
 use Rattle.turns.specs.declared.turn.Turn.{Turn}

@@ -3,7 +3,7 @@
 use Rattle.std.specs.Prelude.{◌≡◌, ⊤, ℕ, true, false, nat_lt, if◌then◌else◌, List, Option, Some, None, Result, Ok, Err}
 use Rattle.std.specs.List.{flat_map}
 use Rattle.std.specs.declared.net.socket_addr.SocketAddrV4.{SocketAddrV4}
-use Rattle.exchange_log.specs.declared.note.Note.TheVariants as notes
+use Rattle.log_format.specs.declared.note.Note.TheVariants as notes
 use Rattle.gateway_core.specs.declared.outcome.TextOutcome.{TextOutcome}
 use Rattle.gateway_core.specs.Wire.{counted}
 use Rattle.page_state.specs.declared.ring.Kind.TheVariants.{Received as OfReceived}

@@ -7,7 +7,7 @@ use Rattle.bad_network.specs.Drawing.{generators_of}
 use Rattle.bad_network.specs.Naming.{named}
 use Rattle.bad_network.specs.declared.network.BadNetwork.{BadNetwork}
 use Rattle.bad_network.specs.declared.spoiling.Spoiling.{Spoiling}
-use Rattle.exchange_log.specs.File.{file_head}
+use Rattle.log_format.specs.File.{file_head}
 use Rattle.message_counts.specs.Counting.{counts_in, no_counts}
 use Rattle.message_counts.specs.Places.{no_sends}
 use Rattle.message_counts.specs.SentCounting.{tally_in, no_tally}

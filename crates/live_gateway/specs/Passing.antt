@@ -4,7 +4,7 @@ use Rattle.std.specs.Prelude.{◌≡◌, ◌⊎◌, ⊤, ℕ, ◌-◌, Bool, tru
 use Rattle.std.specs.declared.net.socket_addr.SocketAddrV4.{SocketAddrV4}
 use Rattle.bad_network.specs.declared.packet.Packet.{Packet}
 use Rattle.bad_network.specs.declared.packet.Way.TheVariants.{In, Out}
-use Rattle.exchange_log.specs.declared.note.Note.TheVariants as notes
+use Rattle.log_format.specs.declared.note.Note.TheVariants as notes
 use Rattle.live_io.specs.Around.{Around}
 use Rattle.live_io.specs.declared.surroundings.Fault.{Fault}
 use Rattle.told_messages.specs.Logging.{LeavesOut}

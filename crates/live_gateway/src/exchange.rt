@@ -19,7 +19,7 @@ use crate::opening::{DeskSettings, journal_of, network_of};
 use crate::spoilt_way::SpoiltWay;
 use crate::visitors::Visitors;
 use bad_network::{Fate, Packet, Way};
-use exchange_log::Note;
+use log_format::Note;
 use gateway_core::{Gateway, SentMessage};
 use live_system::longest_wait;
 use live_journal::Journal;

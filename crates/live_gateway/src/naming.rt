@@ -3,7 +3,7 @@ ghost use Rattle.std.specs.Prelude.{◌≡◌, IfOk, OnOk, option_copied};
 ghost use Rattle.live_gateway.specs.Naming.{word_of, with_named_host, known_word, agents_line};
 
 use crate::admission::known_hosts;
-use exchange_log::put_host;
+use log_format::put_host;
 use mg_bytes::{Draft, OutOfMemory};
 use plain_machine::Setup;
 use std::alloc::Global;

@@ -14,7 +14,7 @@ ghost use Rattle.live_play.specs.Readable.{first_unread};
 
 use crate::exchange::Exchange;
 use crate::visitors::{Visitors, are_ready, next_deadline};
-use exchange_log::Note;
+use log_format::Note;
 use gateway_core::{SentMessage, TextOutcome};
 use live_telephones::take_act;
 use small_rules::count;

@@ -1,6 +1,6 @@
 -- What a capture has as another file begins, by whether it is told all.
 use Rattle.std.proofs.Common.{inl, inr, ◌≡◌, ℕ, true, false, List, [], ◌++◌}
-use Rattle.exchange_log.specs.File.{file_head}
+use Rattle.log_format.specs.File.{file_head}
 use Rattle.output_queues.specs.declared.record.RecordState.{RecordState}
 use Rattle.output_queues.specs.declared.record.RecordState.TheVariants.{Off, On, OutOfMemory}
 use Rattle.output_queues.specs.Recording.{is_told}

@@ -1,7 +1,7 @@
 -- What a capture is told.
 use Rattle.std.specs.Prelude.{◌≡◌, ◌⊎◌, ℕ, List, [], ◌++◌}
-use Rattle.exchange_log.specs.File.{file_head, record_of}
-use Rattle.exchange_log.specs.Packet.{Packet}
+use Rattle.log_format.specs.File.{file_head, record_of}
+use Rattle.log_format.specs.Packet.{Packet}
 use Rattle.output_queues.specs.declared.record.RecordState.{RecordState}
 use Rattle.output_queues.specs.declared.record.RecordState.TheVariants.{Off, On, OutOfMemory}
 use Rattle.told_messages.specs.Recording.{Records}

@@ -3,9 +3,9 @@ use Rattle.std.specs.Prelude.{◌≡◌, ℕ, ◌==◌, if◌then◌else◌, Opt
 use Rattle.std.specs.declared.net.socket_addr.SocketAddrV4.{SocketAddrV4}
 use Rattle.bad_network.specs.declared.fate.Fate.{Fate}
 use Rattle.bad_network.specs.declared.fate.Fate.TheVariants as fates
-use Rattle.exchange_log.specs.declared.note.Note.{Note}
-use Rattle.exchange_log.specs.declared.note.Note.TheVariants as notes
-use Rattle.exchange_log.specs.Lines.{note_line}
+use Rattle.log_format.specs.declared.note.Note.{Note}
+use Rattle.log_format.specs.declared.note.Note.TheVariants as notes
+use Rattle.log_format.specs.Lines.{note_line}
 use Rattle.output_queues.specs.declared.record.Record.{Record}
 use Rattle.told_messages.specs.Recording.{Records}
 

@@ -1,10 +1,10 @@
 //! The capture of a gateway: each datagram that comes or is sent, as tshark and Wireshark read it.
 ghost use Rattle.std.specs.Prelude.{◌≡◌, ◌++◌, [], IfOk, IfSome, IfNone, is_some};
-ghost use Rattle.exchange_log.specs.File.{file_head};
+ghost use Rattle.log_format.specs.File.{file_head};
 ghost use Rattle.live_journal.specs.Recording.{Begins};
 ghost use Rattle.live_journal.specs.Capturing.{BeginsFile, Captures};
 
-use exchange_log::{Packet, put_head, put_packet};
+use log_format::{Packet, put_head, put_packet};
 use output_queues::Record;
 use mg_bytes::{OutOfMemory, Text};
 use std::alloc::Global;

@@ -2,8 +2,8 @@
 #![tactic(auto, unfolding(crate::proofs::Computing::on_examples))]
 
 ghost use Rattle.std.specs.Prelude.{◌≡◌, ◌+◌, ◌++◌, codes, true, false, [], Some, None};
-ghost use Rattle.exchange_log.specs.declared.note.Note.TheVariants as notes;
-ghost use Rattle.exchange_log.specs.Lines.{note_line};
+ghost use Rattle.log_format.specs.declared.note.Note.TheVariants as notes;
+ghost use Rattle.log_format.specs.Lines.{note_line};
 ghost use Rattle.bad_network.specs.declared.fate.Fate.TheVariants.{Lost, Once, Twice};
 ghost use Rattle.output_queues.specs.declared.record.Record.{Record};
 ghost use Rattle.output_queues.specs.declared.record.RecordState.TheVariants.{Off, On, OutOfMemory};

@@ -16,7 +16,7 @@ ghost use Rattle.live_journal.specs.Spoiling.{fate_note, Notes};
 
 use crate::capture::Capture;
 use bad_network::Fate;
-use exchange_log::Note;
+use log_format::Note;
 use gateway_core::SentMessage;
 use output_queues::{Now, Written};
 use message_counts::{MessageTally, Taken};

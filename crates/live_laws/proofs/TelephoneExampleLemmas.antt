@@ -2,7 +2,7 @@
 use Rattle.std.proofs.Common.{◌≡◌, ◌⊎◌, inl, inr, ℕ, List, [], ◌∷◌, ◌++◌, Option, None, Some, ◌∙◌, refl, ap}
 use Rattle.std.specs.Prelude.{codes}
 use Rattle.std.specs.Global.{Box}
-use Rattle.exchange_log.specs.File.{file_head}
+use Rattle.log_format.specs.File.{file_head}
 use Rattle.gateway_core.specs.GatewayState.{GatewayState}
 use Rattle.message_counts.specs.declared.reporting.Faults.{Faults}
 use Rattle.output_queues.specs.declared.record.Record.{Record}

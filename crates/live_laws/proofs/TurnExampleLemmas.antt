@@ -17,7 +17,7 @@ use Rattle.live_system.specs.declared.ending.CommonEnding.{CommonEnding}
 use Rattle.live_system.specs.declared.ending.CommonEnding.TheVariants.{OutOfMemory as LacksMemory}
 use Rattle.output_queues.specs.declared.record.RecordState.{RecordState}
 use Rattle.output_queues.specs.declared.record.RecordState.TheVariants.{Off, On, OutOfMemory}
-use Rattle.exchange_log.specs.declared.note.Note.{Note}
+use Rattle.log_format.specs.declared.note.Note.{Note}
 use Rattle.output_queues.specs.declared.record.Record.{Record}
 use Rattle.told_messages.specs.Recording.{Puts}
 use Rattle.told_messages.specs.declared.log.Log.{Log}

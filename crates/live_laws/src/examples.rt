@@ -14,7 +14,7 @@ ghost use Rattle.small_rules.specs.Counting.{counted};
 ghost use Rattle.told_messages.specs.Recording.{Records, unsent_text};
 ghost use Rattle.told_messages.specs.Strangers.{stranger_text};
 ghost use Rattle.told_messages.specs.declared.log.Log.{Log};
-ghost use Rattle.exchange_log.specs.File.{file_head};
+ghost use Rattle.log_format.specs.File.{file_head};
 ghost use Rattle.output_queues.specs.Recording.{state_when};
 ghost use Rattle.output_queues.specs.Written.{faults_in};
 ghost use Rattle.output_queues.specs.declared.record.RecordState.TheVariants.{Off, On};

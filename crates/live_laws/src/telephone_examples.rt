@@ -4,8 +4,8 @@
 ghost use Rattle.std.specs.Prelude.{◌≡◌, ⊤, ℕ, ◌++◌, codes, List, [], ◌∷◌, Option, Some, None};
 ghost use Rattle.std.specs.Global.{Box};
 ghost use Rattle.std.specs.Option.{unwrap_or};
-ghost use Rattle.exchange_log.specs.File.{file_head};
-ghost use Rattle.exchange_log.specs.Packet.{Packet};
+ghost use Rattle.log_format.specs.File.{file_head};
+ghost use Rattle.log_format.specs.Packet.{Packet};
 ghost use Rattle.gateway_core.specs.GatewayState.{GatewayState};
 ghost use Rattle.page_state.specs.declared.counts.Counts.{Counts};
 ghost use Rattle.page_state.specs.declared.picture.ConnectionView.{ConnectionView};

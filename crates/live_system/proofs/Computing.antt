@@ -1,7 +1,7 @@
 -- The definitions opened, so that worked examples compute.
 use Rattle.std.specs.Prelude.{⊤}
 use Rattle.mg_bytes.proofs.Computing.{on_examples as byte_examples}
-use Rattle.exchange_log.specs.Escaping.{shown}
+use Rattle.log_format.specs.Escaping.{shown}
 use Rattle.live_system.specs.AddressWords.{word_text}
 use Rattle.live_system.specs.Addresses.{local_port}
 use Rattle.live_system.specs.Ending.{ending_text}

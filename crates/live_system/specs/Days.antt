@@ -1,7 +1,7 @@
 -- Where the machine's time of day was set.
 use Rattle.std.specs.Prelude.{ℕ, ◌-◌, ◌/◌, nat_lt, if◌then◌else◌, Option, Some, None}
-use Rattle.exchange_log.specs.declared.note.Notice.{Notice}
-use Rattle.exchange_log.specs.declared.note.Notice.TheVariants.{SetOn, SetBack}
+use Rattle.log_format.specs.declared.note.Notice.{Notice}
+use Rattle.log_format.specs.declared.note.Notice.TheVariants.{SetOn, SetBack}
 
 -- by more than so much the time of day parts at once from the machine's clock where it is noted, in microseconds: a second
 abbrev pub slack : ℕ

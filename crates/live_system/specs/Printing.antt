@@ -2,7 +2,7 @@
 -- anything by it.
 use Rattle.std.specs.Prelude.{ℕ, ◌==◌, if◌then◌else◌, List, [], ◌∷◌}
 use Rattle.std.specs.List.{flat_map}
-use Rattle.exchange_log.specs.Escaping.{shown}
+use Rattle.log_format.specs.Escaping.{shown}
 use Rattle.mg_bytes.specs.Bytes.{line_feed}
 
 -- a line feed ends a line; any other byte is shown

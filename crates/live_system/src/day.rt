@@ -3,7 +3,7 @@ ghost use Rattle.std.specs.Prelude.{◌≡◌, None};
 ghost use Rattle.live_system.specs.Days.{jump_from};
 
 use crate::clock::time_of_day;
-use exchange_log::{Notice, put_notice};
+use log_format::{Notice, put_notice};
 use output_queues::Record;
 use std::alloc::Global;
 use std::rt::Clock;

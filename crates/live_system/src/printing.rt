@@ -2,7 +2,7 @@
 ghost use Rattle.std.specs.Prelude.{◌≡◌, ◌++◌, OnOk};
 ghost use Rattle.live_system.specs.Printing.{printed_byte, printed};
 
-use exchange_log::write_shown;
+use log_format::write_shown;
 use mg_bytes::{Draft, OutOfMemory};
 use std::alloc::Global;
 

@@ -3,7 +3,7 @@
 
 ghost use Rattle.std.specs.Prelude.{◌≡◌, codes, true, false, [], ◌∷◌, ◌++◌, map, Some, None};
 ghost use Rattle.std.specs.declared.io.ErrorKind.TheVariants.{WouldBlock, Interrupted, Uncategorized};
-ghost use Rattle.exchange_log.specs.declared.note.Notice.TheVariants.{SetOn, SetBack};
+ghost use Rattle.log_format.specs.declared.note.Notice.TheVariants.{SetOn, SetBack};
 ghost use Rattle.live_system.specs.Days.{jump_from};
 ghost use Rattle.live_system.specs.Parting.{number_behind, numbered, is_old, is_full};
 ghost use Rattle.live_system.specs.Looking.{no_visit, has_visits, may_have_more};

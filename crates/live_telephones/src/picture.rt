@@ -12,7 +12,7 @@ ghost use Rattle.live_telephones.specs.Viewing.{is_off, signal_viewed, signals_v
 
 use crate::seeing::seen_line;
 use connections::{Connection, mode_text};
-use exchange_log::put_peer;
+use log_format::put_peer;
 use gateway_core::Gateway;
 use page_state::{
     CodeCount, ConnectionView, Counts, FileCount, LineView, Picture, SignalView, VerbCount,

@@ -1,6 +1,6 @@
 -- The definitions opened, so that worked examples compute.
 use Rattle.std.specs.Prelude.{⊤}
-use Rattle.exchange_log.proofs.Computing.{on_examples as log_examples}
+use Rattle.log_format.proofs.Computing.{on_examples as log_examples}
 use Rattle.output_queues.specs.Backlog.{offered, offered_all, kept_of, lines_of_all}
 use Rattle.output_queues.specs.Written.{name_text, written_line}
 

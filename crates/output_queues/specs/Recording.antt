@@ -1,8 +1,8 @@
 -- How it stands with what is recorded, and what is kept of it.
 use Rattle.std.specs.Prelude.{◌≡◌, ◌≢◌, ◌⊎◌, ℕ, ◌-◌, ◌^◌, ◌≤◌, Bool, true, false, if◌then◌else◌, List, [], ◌∷◌, length}
 use Rattle.mg_bytes.specs.Lists.{is_empty}
-use Rattle.exchange_log.specs.declared.note.Notice.TheVariants.{Dropped}
-use Rattle.exchange_log.specs.Lines.{notice_line}
+use Rattle.log_format.specs.declared.note.Notice.TheVariants.{Dropped}
+use Rattle.log_format.specs.Lines.{notice_line}
 use Rattle.output_queues.specs.declared.record.RecordState.{RecordState}
 use Rattle.output_queues.specs.declared.record.RecordState.TheVariants.{Off, On, OutOfMemory}
 use Rattle.output_queues.specs.declared.outlet.OutletState.{OutletState}

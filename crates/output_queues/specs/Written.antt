@@ -1,6 +1,6 @@
 -- What is told of what wasn't recorded.
 use Rattle.std.specs.Prelude.{ℕ, nat_lt, codes, decimal, if◌then◌else◌, List, [], ◌++◌, Option, Some, None}
-use Rattle.exchange_log.specs.Escaping.{shown}
+use Rattle.log_format.specs.Escaping.{shown}
 use Rattle.output_queues.specs.declared.written.Written.{Written}
 use Rattle.output_queues.specs.Backlog.{sum_within}
 

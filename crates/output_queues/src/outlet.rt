@@ -11,7 +11,7 @@ use crate::backlog::Backlog;
 use crate::reasons::reason_of;
 use crate::record::Record;
 use crate::stream::Stream;
-use exchange_log::{Notice, put_notice};
+use log_format::{Notice, put_notice};
 use mg_bytes::boxed;
 use std::alloc::{AllocError, Global};
 use std::io::{ErrorKind, Write};

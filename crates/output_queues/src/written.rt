@@ -2,7 +2,7 @@
 ghost use Rattle.std.specs.Prelude.{◌≡◌, ◌++◌, OnOk};
 ghost use Rattle.output_queues.specs.Written.{name_text, numbers_text, names_text, faults_in, written_line};
 
-use exchange_log::write_shown;
+use log_format::write_shown;
 use mg_bytes::{Draft, OutOfMemory};
 use std::alloc::Global;
 

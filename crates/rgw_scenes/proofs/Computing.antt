@@ -1,8 +1,8 @@
 -- The definitions opened, so that worked examples compute.
 use Rattle.std.specs.Prelude.{⊤}
 use Rattle.rgw_scripts.proofs.Computing.{on_examples as script_examples}
-use Rattle.exchange_log.specs.Escaping.{shown}
-use Rattle.exchange_log.specs.Grouping.{grouped}
+use Rattle.log_format.specs.Escaping.{shown}
+use Rattle.log_format.specs.Grouping.{grouped}
 use Rattle.rgw_scenes.specs.Flaws.{other_key, missing_key, flaw_in}
 use Rattle.rgw_scenes.specs.NamesWording.{unread_host, refused_host}
 

@@ -7,7 +7,7 @@ use Rattle.mg_bytes.specs.Blanks.{is_blank}
 use Rattle.mg_bytes.specs.Lines.{is_line_feed}
 use Rattle.mg_bytes.specs.Words.{split_once, in_brackets}
 use Rattle.mg_bytes.specs.Address.{ipv4_of, port_of}
-use Rattle.exchange_log.specs.Grouping.{number_shown}
+use Rattle.log_format.specs.Grouping.{number_shown}
 use Rattle.endpoint_names.specs.Entity.{longest_entity, longest_local}
 use Rattle.rgw_scenes.specs.Pieces.{value_shown}
 

@@ -1,8 +1,8 @@
 -- Pieces of what is told of a configuration: what stands there, safe to be shown, and what a domain may be (this gateway's profile).
 use Rattle.std.specs.Prelude.{ℕ, suc, ◌==◌, ◌||◌, Bool, true, false, ℤ, pos, unsigned_abs, int_lt, codes, if◌then◌else◌, List, [], ◌++◌, length, Option, Some, None}
 use Rattle.toml.specs.Data.{Data, Items, no_items, item, as_array, as_bool, as_integer, as_str, type_name}
-use Rattle.exchange_log.specs.Escaping.{shown}
-use Rattle.exchange_log.specs.Grouping.{number_shown}
+use Rattle.log_format.specs.Escaping.{shown}
+use Rattle.log_format.specs.Grouping.{number_shown}
 use Rattle.endpoint_names.specs.Table.{longest_domain}
 
 -- a quote, where that is asked for, or where nothing would be seen

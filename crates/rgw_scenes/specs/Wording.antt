@@ -3,7 +3,7 @@
 use Rattle.std.specs.Prelude.{◌≡◌, ℕ, Bool, true, codes, List, [], ◌++◌, Option, Some, None, is_some, IsUtf8}
 use Rattle.toml.specs.Data.{Data, Members, get_member}
 use Rattle.toml.specs.Parse.{parse_document}
-use Rattle.exchange_log.specs.Grouping.{number_shown}
+use Rattle.log_format.specs.Grouping.{number_shown}
 use Rattle.plain_machine.specs.declared.config.ConfigKey.{ConfigKey}
 use Rattle.plain_machine.specs.declared.config.ConfigKey.TheVariants as keys
 use Rattle.plain_machine.specs.ConfigFault.{config_key_name}

@@ -11,7 +11,7 @@ ghost use Rattle.rgw_scenes.specs.AgentWording.{local_wanted, word_by, text_want
 
 use crate::pieces::{put, put_value};
 use endpoint_names::{LONGEST_ENTITY, LONGEST_LOCAL};
-use exchange_log::write_number;
+use log_format::write_number;
 use mg_bytes::{Draft, in_brackets, ipv4_address, port_number, split_once};
 use toml::Value;
 

@@ -8,7 +8,7 @@ use crate::pieces::{put, put_text, put_value};
 use crate::settings::{key_count, route_in};
 use crate::wording::put_domain_wanted;
 use endpoint_names::{MOST_ADDRESSES, MOST_HOSTS, TableFault};
-use exchange_log::write_number;
+use log_format::write_number;
 use mg_bytes::Draft;
 use toml::{Table, Value};
 

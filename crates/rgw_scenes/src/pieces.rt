@@ -3,7 +3,7 @@ ghost use Rattle.std.specs.Prelude.{◌≡◌, ◌++◌};
 ghost use Rattle.toml.specs.View.{items_view, view};
 ghost use Rattle.rgw_scenes.specs.Pieces.{quote_around, text_shown, sign_shown, integer_shown, item_count, kind_shown, value_shown};
 
-use exchange_log::{write_number, write_shown};
+use log_format::{write_number, write_shown};
 use mg_bytes::Draft;
 use toml::Value;
 

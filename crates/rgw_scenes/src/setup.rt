@@ -4,7 +4,7 @@ ghost use Rattle.rgw_scenes.specs.Ports.{ports_of};
 
 use crate::pieces::put;
 use endpoint_names::{Pattern, Route, write_name};
-use exchange_log::{put_host, put_peer, write_number, write_shown};
+use log_format::{put_host, put_peer, write_number, write_shown};
 use mg_bytes::{Draft, OutOfMemory};
 use plain_machine::{ConfigKey, Setup};
 use std::alloc::Global;

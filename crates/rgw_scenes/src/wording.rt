@@ -17,7 +17,7 @@ use crate::hosts::put_names_flaw;
 use crate::pieces::{put, put_text, put_value};
 use crate::settings::value_at;
 use endpoint_names::LONGEST_DOMAIN;
-use exchange_log::write_number;
+use log_format::write_number;
 use mg_bytes::{Draft, OutOfMemory};
 use plain_machine::ConfigKey;
 use rgw_scripts::LIMIT;

@@ -10,7 +10,7 @@ use crate::link::Link;
 use crate::played::StepFault;
 use crate::status::LineStatus;
 use connections::{Connection, mode_text, write_number};
-use exchange_log::put_peer;
+use log_format::put_peer;
 use mg_bytes::{Draft, OutOfMemory, lines};
 use mg_line::Hook;
 use packages::signal_name;

@@ -3,7 +3,7 @@
 use crate::ending::Ending;
 use crate::starting::Begun;
 use crate::words::Settings;
-use exchange_log::put_peer;
+use log_format::put_peer;
 use live_system::{CaptureFiles, CommonEnding, Live, open_capture};
 use output_queues::{Outlet, Outlets, boxed};
 use mg_bytes::Draft;

@@ -8,7 +8,7 @@ ghost use Rattle.rgwd_words.specs.Names.{Says};
 
 use crate::help::of_program;
 use crate::parted::{MOST_FILES, MOST_MEGABYTES};
-use exchange_log::put_peer;
+use log_format::put_peer;
 use gateway_core::FIRSTS;
 use live_system::{About, AddressWord, CommonEnding, FileNames, end, put_around, put_pieces};
 use output_queues::Outlets;

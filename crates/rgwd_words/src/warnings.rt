@@ -4,7 +4,7 @@ ghost use Rattle.rgwd_words.specs.Warning.{covers, is_here};
 
 use crate::words::Settings;
 use endpoint_names::Route;
-use exchange_log::{put_host, put_peer};
+use log_format::{put_host, put_peer};
 use mg_bytes::{Draft, OutOfMemory};
 use plain_machine::Setup;
 use std::alloc::Global;

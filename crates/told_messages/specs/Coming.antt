@@ -4,11 +4,11 @@ use Rattle.std.specs.List.{flat_map}
 use Rattle.std.specs.Ordering.{nat_cmp}
 use Rattle.std.specs.BTreeMap.{is_at}
 use Rattle.std.specs.Map.{lookup}
-use Rattle.exchange_log.specs.declared.note.Note.{Note}
-use Rattle.exchange_log.specs.declared.note.Note.TheVariants as notes
-use Rattle.exchange_log.specs.declared.stamp.Stamp.{Stamp}
-use Rattle.exchange_log.specs.declared.stamp.Way.TheVariants as ways
-use Rattle.exchange_log.specs.Lines.{message_line, note_line, given_up_line}
+use Rattle.log_format.specs.declared.note.Note.{Note}
+use Rattle.log_format.specs.declared.note.Note.TheVariants as notes
+use Rattle.log_format.specs.declared.stamp.Stamp.{Stamp}
+use Rattle.log_format.specs.declared.stamp.Way.TheVariants as ways
+use Rattle.log_format.specs.Lines.{message_line, note_line, given_up_line}
 use Rattle.gateway_core.specs.declared.outcome.TextOutcome.{TextOutcome}
 use Rattle.gateway_core.specs.declared.outcome.TextOutcome.TheVariants.{NoMessage, Command, Response}
 use Rattle.mgcp_text.specs.Parts.{parts_of}

@@ -1,6 +1,6 @@
 -- What is told in the worked examples.
 use Rattle.std.specs.Prelude.{ℕ, List, Option}
-use Rattle.exchange_log.specs.declared.stamp.Stamp.{Stamp}
+use Rattle.log_format.specs.declared.stamp.Stamp.{Stamp}
 use Rattle.page_state.specs.declared.label.MessageKind.{MessageKind}
 use Rattle.page_state.specs.declared.label.MessageLabel.{MessageLabel}
 use Rattle.message_counts.specs.Example.{host}

@@ -2,9 +2,9 @@
 use Rattle.std.specs.Prelude.{ℕ, nat_le, ◌==◌, if◌then◌else◌, List, [], Option, Some, None}
 use Rattle.command_forms.specs.declared.refused.FaultyPart.{FaultyPart}
 use Rattle.command_forms.specs.Explaining.{explanation_of}
-use Rattle.exchange_log.specs.declared.note.Note.TheVariants as notes
-use Rattle.exchange_log.specs.declared.stamp.Stamp.{Stamp}
-use Rattle.exchange_log.specs.Lines.{note_line, refused_line}
+use Rattle.log_format.specs.declared.note.Note.TheVariants as notes
+use Rattle.log_format.specs.declared.stamp.Stamp.{Stamp}
+use Rattle.log_format.specs.Lines.{note_line, refused_line}
 use Rattle.transmission.specs.Memory.{most_firsts}
 use Rattle.gateway_core.specs.declared.outcome.Reply.{Reply}
 use Rattle.gateway_core.specs.declared.outcome.Reply.TheVariants.{First, Again, Silence, NoRoom}

@@ -1,8 +1,8 @@
 -- What becomes of a log as it is told what comes, what is sent and what the gateway does.
 use Rattle.std.specs.Prelude.{◌≡◌, ℕ, max, true, List, [], ◌++◌, Some, None}
 use Rattle.std.specs.List.{flat_map}
-use Rattle.exchange_log.specs.declared.note.Note.{Note}
-use Rattle.exchange_log.specs.declared.stamp.Stamp.{Stamp}
+use Rattle.log_format.specs.declared.note.Note.{Note}
+use Rattle.log_format.specs.declared.stamp.Stamp.{Stamp}
 use Rattle.gateway_core.specs.declared.outcome.TextOutcome.{TextOutcome}
 use Rattle.output_queues.specs.Recording.{is_told}
 use Rattle.plain_machine.specs.declared.given_up.GivenUpCommand.{GivenUpCommand}

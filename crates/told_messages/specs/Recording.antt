@@ -1,8 +1,8 @@
 -- What is put into a record.
 use Rattle.std.specs.Prelude.{◌≡◌, ◌⊎◌, ℕ, List, [], ◌++◌}
 use Rattle.std.specs.declared.net.socket_addr.SocketAddrV4.{SocketAddrV4}
-use Rattle.exchange_log.specs.declared.note.Note.TheVariants as notes
-use Rattle.exchange_log.specs.Lines.{note_line}
+use Rattle.log_format.specs.declared.note.Note.TheVariants as notes
+use Rattle.log_format.specs.Lines.{note_line}
 use Rattle.output_queues.specs.declared.record.Record.{Record}
 use Rattle.output_queues.specs.declared.record.RecordState.{RecordState}
 use Rattle.output_queues.specs.declared.record.RecordState.TheVariants.{Off, On, OutOfMemory}

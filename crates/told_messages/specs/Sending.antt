@@ -2,10 +2,10 @@
 use Rattle.std.specs.Prelude.{ℕ, ◌-◌, ◌/◌, List, [], ◌∷◌, ◌++◌, Option, Some, None}
 use Rattle.std.specs.Ordering.{nat_cmp}
 use Rattle.std.specs.BTreeMap.{insert_entry}
-use Rattle.exchange_log.specs.declared.note.Note.TheVariants as notes
-use Rattle.exchange_log.specs.declared.stamp.Stamp.{Stamp}
-use Rattle.exchange_log.specs.declared.stamp.Way.TheVariants as ways
-use Rattle.exchange_log.specs.Lines.{message_line, note_line}
+use Rattle.log_format.specs.declared.note.Note.TheVariants as notes
+use Rattle.log_format.specs.declared.stamp.Stamp.{Stamp}
+use Rattle.log_format.specs.declared.stamp.Way.TheVariants as ways
+use Rattle.log_format.specs.Lines.{message_line, note_line}
 use Rattle.plain_machine.specs.declared.label.Label.{Label}
 use Rattle.gateway_core.specs.declared.sent.SentMessage.{SentMessage}
 use Rattle.plain_machine.specs.declared.label.What.{What}

@@ -1,8 +1,8 @@
 -- What the log says of who may not speak.
 use Rattle.std.specs.Prelude.{ℕ, Bool, not, ◌&&◌, ◌||◌, nat_le, nat_lt, if◌then◌else◌, List, [], Option, Some, None}
 use Rattle.std.specs.declared.net.socket_addr.SocketAddrV4.{SocketAddrV4}
-use Rattle.exchange_log.specs.declared.note.Note.TheVariants as notes
-use Rattle.exchange_log.specs.Lines.{note_line}
+use Rattle.log_format.specs.declared.note.Note.TheVariants as notes
+use Rattle.log_format.specs.Lines.{note_line}
 use Rattle.gateway_core.specs.Wire.{counted}
 use Rattle.output_queues.specs.Backlog.{sum_within}
 use Rattle.gateway_core.specs.declared.sent.SentMessage.{SentMessage}

@@ -5,7 +5,7 @@ ghost use Rattle.told_messages.specs.Coming.{waited_for, came_text, datagram_cam
 ghost use Rattle.told_messages.specs.Logging.{turned_text, Receives, Turns};
 
 use crate::log::{Arrival, LastCommands, Log, ms_between};
-use exchange_log::{Note, Stamp, Way, put_given_up, put_message, put_note};
+use log_format::{Note, Stamp, Way, put_given_up, put_message, put_note};
 use gateway_core::{GivenUpCommand, TextOutcome};
 use output_queues::Now;
 use message_counts::Taken;

@@ -7,7 +7,7 @@ ghost use Rattle.told_messages.specs.Recording.{Records};
 
 use crate::log::Log;
 use command_forms::{FaultyPart, Refused, explain};
-use exchange_log::{Note, Stamp, put_note, put_refused};
+use log_format::{Note, Stamp, put_note, put_refused};
 use gateway_core::{Reply, TextOutcome};
 use transmission::MOST_FIRSTS;
 use mg_bytes::OutOfMemory;

@@ -1,12 +1,12 @@
 //! The log, for people, on standard error: a line a message, and a line for what is to be noted beside it.
 ghost use Rattle.std.specs.Prelude.{◌≡◌, [], None, IfOk};
-ghost use Rattle.exchange_log.specs.Lines.{note_line};
+ghost use Rattle.log_format.specs.Lines.{note_line};
 ghost use Rattle.output_queues.specs.Recording.{state_when};
 ghost use Rattle.told_messages.specs.Recording.{Records};
 ghost use Rattle.told_messages.specs.Sending.{ms_between};
 
 use crate::strangers::Quiet;
-use exchange_log::{Note, Stamp, put_note};
+use log_format::{Note, Stamp, put_note};
 use output_queues::Record;
 use mg_bytes::{OutOfMemory, Text};
 use mgcp_text::TransactionId;

@@ -4,9 +4,9 @@
 ghost use Rattle.std.specs.Prelude.{◌≡◌, ◌++◌, ◌∷◌, [], ℕ, List, codes, false, Some, None};
 ghost use Rattle.output_queues.specs.declared.record.RecordState.TheVariants.{On};
 ghost use Rattle.mgcp_text.specs.declared.message.Verb.TheVariants.{Rqnt, Ntfy, Rsip};
-ghost use Rattle.exchange_log.specs.declared.note.Note.TheVariants as notes;
-ghost use Rattle.exchange_log.specs.declared.stamp.Way.TheVariants as ways;
-ghost use Rattle.exchange_log.specs.Lines.{message_line, note_line, given_up_line};
+ghost use Rattle.log_format.specs.declared.note.Note.TheVariants as notes;
+ghost use Rattle.log_format.specs.declared.stamp.Way.TheVariants as ways;
+ghost use Rattle.log_format.specs.Lines.{message_line, note_line, given_up_line};
 ghost use Rattle.gateway_core.specs.declared.outcome.Reply.TheVariants.{Silence};
 ghost use Rattle.gateway_core.specs.declared.outcome.TextOutcome.{TextOutcome};
 ghost use Rattle.gateway_core.specs.declared.outcome.TextOutcome.TheVariants.{NoMessage, Command, Response};

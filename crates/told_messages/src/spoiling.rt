@@ -1,16 +1,16 @@
 //! What the log says of a network that spoils what goes over it, or takes nothing.
 ghost use Rattle.std.specs.Prelude.{◌≡◌, ◌++◌, None, OnOk};
 ghost use Rattle.std.specs.List.{flat_map};
-ghost use Rattle.exchange_log.specs.declared.stamp.Way.TheVariants.{Came};
-ghost use Rattle.exchange_log.specs.Lines.{message_line, note_line};
-ghost use Rattle.exchange_log.specs.Pausing.{pause_line};
+ghost use Rattle.log_format.specs.declared.stamp.Way.TheVariants.{Came};
+ghost use Rattle.log_format.specs.Lines.{message_line, note_line};
+ghost use Rattle.log_format.specs.Pausing.{pause_line};
 ghost use Rattle.mgcp_text.specs.Parts.{parts_of};
 ghost use Rattle.told_messages.specs.Coming.{untaken_text};
 ghost use Rattle.told_messages.specs.Logging.{LeavesOut};
 ghost use Rattle.told_messages.specs.Recording.{Records};
 
 use crate::log::Log;
-use exchange_log::{Note, Stamp, Way, put_message, put_note, put_pause};
+use log_format::{Note, Stamp, Way, put_message, put_note, put_pause};
 use output_queues::Now;
 use mg_bytes::OutOfMemory;
 use mgcp_text::parts;

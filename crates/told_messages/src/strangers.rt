@@ -6,7 +6,7 @@ ghost use Rattle.told_messages.specs.Recording.{Records};
 ghost use Rattle.told_messages.specs.Strangers.{lasts, told_at, quiet_after, unheard_text, text_of_stranger, stranger_text};
 
 use crate::log::Log;
-use exchange_log::{Note, Stamp, put_note};
+use log_format::{Note, Stamp, put_note};
 use gateway_core::SentMessage;
 use output_queues::Now;
 use message_counts::is_own;

@@ -1,6 +1,6 @@
 -- The lines of a text, counted from 1 on.
 use Rattle.std.specs.Prelude.{ℕ, ◌+◌, ◌==◌, Bool, codes, List, [], ◌++◌, length, take, filter, Option, Some, None}
-use Rattle.exchange_log.specs.Grouping.{number_shown}
+use Rattle.log_format.specs.Grouping.{number_shown}
 
 abbrev pub is_feed : ℕ → Bool
 is_feed byte = byte == 10

@@ -1,7 +1,7 @@
 //! Why a text isn't TOML: in which line, about which key, and what may be done.
 use crate::lines::line_at;
 use crate::places::{Around, Places};
-use exchange_log::{write_number, write_shown};
+use log_format::{write_number, write_shown};
 use mg_bytes::{Draft, OutOfMemory};
 use std::alloc::Global;
 use toml::de::Error;

@@ -2,7 +2,7 @@
 ghost use Rattle.std.specs.Prelude.{◌≡◌, ◌≤◌, ◌++◌, filter, length, take};
 ghost use Rattle.toml_places.specs.Lines.{is_feed, line_at, line_before};
 
-use exchange_log::write_number;
+use log_format::write_number;
 use mg_bytes::Draft;
 
 // What stands before a place in a text.

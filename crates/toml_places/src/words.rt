@@ -1,8 +1,8 @@
 //! Words that are told of a value.
 ghost use Rattle.std.specs.Prelude.{◌≡◌, IfOk};
-ghost use Rattle.exchange_log.specs.Escaping.{shown};
+ghost use Rattle.log_format.specs.Escaping.{shown};
 
-use exchange_log::write_shown;
+use log_format::write_shown;
 use mg_bytes::{Draft, OutOfMemory};
 use std::alloc::{AllocError, Global};
 use toml::Value;

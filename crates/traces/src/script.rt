@@ -8,7 +8,7 @@ ghost use Rattle.traces.specs.Telling.{told_text};
 ghost use Rattle.traces.specs.Writing.{hex_text, datagram_text, clock_text, at_clock, pass_text, caught_up, passed_to, tick_text, after_tick, input_text, arrived, typed, opening_script};
 
 use crate::telling::{put_outputs, put_shown};
-use exchange_log::put_peer;
+use log_format::put_peer;
 use mg_bytes::{Draft, hex_digit};
 use plain_machine::OutDatagram;
 use std::net::SocketAddrV4;

@@ -6,7 +6,7 @@ ghost use Rattle.mg_bytes.specs.Lines.{lines_of};
 ghost use Rattle.rgw_scripts.specs.Printing.{printed_line};
 ghost use Rattle.traces.specs.Telling.{told_line, told_text, told_datagram, told_output, told_first, told_mark, broken_off, begins, mark, number_behind, is_mark};
 
-use exchange_log::put_peer;
+use log_format::put_peer;
 use mg_bytes::{Draft, decimal, lines};
 use plain_machine::OutDatagram;
 use std::net::SocketAddrV4;

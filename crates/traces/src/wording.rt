@@ -1,6 +1,6 @@
 //! What a replay finds, in words.
 use crate::verdict::Verdict;
-use exchange_log::write_number;
+use log_format::write_number;
 use mg_bytes::{Draft, OutOfMemory};
 use std::alloc::Global;
 

@@ -1,7 +1,7 @@
 //! What a program sends and answers, as a story tells it.
 use crate::stories::clocks::Stamp;
 use crate::stories::transcript::Transcript;
-use exchange_log::put_peer;
+use log_format::put_peer;
 use mg_bytes::{Draft, lines};
 use std::alloc::Global;
 use std::net::{Ipv4Addr, SocketAddr, SocketAddrV4};

@@ -4,7 +4,7 @@ use crate::stories::given::typist;
 use crate::stories::late_log::{Late, Reading};
 use crate::stories::machine::{Change, Changing, Machine, Plan};
 use crate::stories::transcript::Transcript;
-use exchange_log::put_peer;
+use log_format::put_peer;
 use live_gateway::boxed;
 use output_queues::{TEXT_ROOM, Written};
 use mg_bytes::{Draft, OutOfMemory};

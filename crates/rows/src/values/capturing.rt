@@ -1,5 +1,5 @@
 //! Calls about capture files. Bytes are told in hexadecimal digits, four bytes a word.
-use exchange_log::{Packet, put_head, put_packet};
+use log_format::{Packet, put_head, put_packet};
 use mg_bytes::{decimal, ipv4_address, port_number, split_once};
 use scenario_files::Outcome;
 use std::io::Write;

@@ -1,7 +1,7 @@
 //! Calls about the log of a live gateway, whose domain is that of the rows: the line that each puts.
 use crate::values::capturing::{address_of, number_of, parted};
 use crate::values::names::DOMAIN;
-use exchange_log::{
+use log_format::{
     Note, Notice, Stamp, Way, put_given_up, put_message, put_note, put_notice, put_pause,
     put_refused,
 };

@@ -1,7 +1,7 @@
 use Rattle.std.proofs.Common.{◌≡◌, [], refl, ap}
 use Rattle.output_queues.specs.Written.{faults_in}
 use Rattle.output_queues.specs.declared.written.Written.{Written}
-use Rattle.exchange_log.specs.File.{file_head}
+use Rattle.log_format.specs.File.{file_head}
 use Rattle.output_queues.specs.declared.record.RecordState.TheVariants.{On}
 use Rattle.told_messages.specs.declared.strangers.Quiet.{Quiet}
 use Rattle.live_laws.proofs.TurnExampleLemmas.{noted_on}

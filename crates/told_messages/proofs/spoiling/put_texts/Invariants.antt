@@ -1,8 +1,8 @@
 use Rattle.std.proofs.Common.{◌≡◌, ◌++◌}
 use Rattle.std.specs.Prelude.{None}
 use Rattle.std.specs.List.{flat_map}
-use Rattle.exchange_log.specs.declared.stamp.Way.TheVariants.{Came}
-use Rattle.exchange_log.specs.Lines.{message_line}
+use Rattle.log_format.specs.declared.stamp.Way.TheVariants.{Came}
+use Rattle.log_format.specs.Lines.{message_line}
 use Rattle.mgcp_text.specs.Parts.{parts_of}
 use Rattle.told_messages.proofs.spoiling.put_texts.Given as goal
 

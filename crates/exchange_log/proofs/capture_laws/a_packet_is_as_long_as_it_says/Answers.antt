@@ -1,5 +1,0 @@
-use Rattle.exchange_log.proofs.PacketLaws.{as_long}
-use Rattle.exchange_log.proofs.capture_laws.a_packet_is_as_long_as_it_says.Goals as goal
-
-pub returns : goal.returns
-returns c = as_long

@@ -1,8 +1,0 @@
-use Rattle.exchange_log.proofs.PacketLaws.{whole, within}
-use Rattle.exchange_log.proofs.capture_laws.what_is_captured_is_whole.Goals as goal
-
-pub returns-clause-whole : goal.returns-clause-whole
-returns-clause-whole c = whole
-
-pub returns-clause-within : goal.returns-clause-within
-returns-clause-within c = within

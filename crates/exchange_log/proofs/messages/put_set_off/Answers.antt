@@ -1,5 +1,0 @@
-use Rattle.exchange_log.proofs.DraftLemmas.{put_two}
-use Rattle.exchange_log.proofs.messages.put_set_off.Goals as goal
-
-pub returns : goal.returns
-returns c = put_two _ _ _ _ _ c.put_byte.ensures c.write_shown.ensures

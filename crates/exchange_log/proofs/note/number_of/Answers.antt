@@ -1,5 +1,0 @@
-use Rattle.std.proofs.Common.{◌∙◌}
-use Rattle.exchange_log.proofs.note.number_of.Goals as goal
-
-pub returns : goal.returns
-returns c = c.from.ensures ∙ c.number.ensures.value

@@ -1,4 +1,0 @@
-use Rattle.exchange_log.proofs.note.put_repeat.Goals as goal
-
-pub returns : goal.returns
-returns c = rw (c.number_of.ensures) at c.put_around.ensures
