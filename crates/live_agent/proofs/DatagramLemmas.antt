@@ -7,8 +7,8 @@ use Rattle.transmission.specs.declared.output.OutDatagram.{OutDatagram}
 use Rattle.transmission.specs.Texts.{texts_of}
 use Rattle.switchboard.specs.declared.switchboard.Switchboard.{Switchboard}
 use Rattle.live_agent.specs.declared.wire.Wire.{Wire}
-use Rattle.bad_network.specs.declared.network.BadNetwork.{BadNetwork}
-use Rattle.bad_network.specs.declared.packet.Way.TheVariants.{In}
+use Rattle.impairment.specs.declared.network.BadNetwork.{BadNetwork}
+use Rattle.impairment.specs.declared.packet.Way.TheVariants.{In}
 use Rattle.live_io.specs.Around.{Around}
 use Rattle.live_agent.specs.Datagrams.{DealsIf, HearsBy, HearsDatagram, HearsOne, HearsTexts, SettlesIf, TakesAll, TakesEach, TakesElse, TakesFound, TakesLooked, TakesNext, TakesOver, TakesReceived}
 use Rattle.live_agent.specs.Handing.{OffersTo}

@@ -8,8 +8,8 @@ use Rattle.machine_rules.specs.declared.refusal.Refusal.{Refusal}
 use Rattle.transmission.specs.declared.output.OutDatagram.{OutDatagram}
 use Rattle.live_agent.specs.declared.wire.Wire.{Wire}
 use Rattle.live_io.specs.Around.{Around}
-use Rattle.bad_network.specs.declared.network.BadNetwork.{BadNetwork}
-use Rattle.bad_network.specs.declared.packet.Way.TheVariants.{Out}
+use Rattle.impairment.specs.declared.network.BadNetwork.{BadNetwork}
+use Rattle.impairment.specs.declared.packet.Way.TheVariants.{Out}
 use Rattle.live_agent.specs.Handing.{Leaves, OffersTo}
 use Rattle.live_agent.specs.Sending.{GoesOut, SendsAll, SendsCommand, SendsOutputs, SendsOver}
 use Rattle.live_agent.specs.Settling.{SendsIssued}

@@ -3,8 +3,8 @@ use Rattle.std.proofs.Common.{◌≡◌, Bool, true, false, Option, Some, None, 
 use Rattle.std.specs.Prelude.{⊤, is_err, is_some, Result, Ok, Err}
 use Rattle.agent_texts.specs.declared.tally.Tally.{Tally}
 use Rattle.agent_texts.specs.Counts.{with_handed_out}
-use Rattle.bad_network.specs.declared.network.BadNetwork.{BadNetwork}
-use Rattle.bad_network.specs.declared.packet.Way.TheVariants.{Out}
+use Rattle.impairment.specs.declared.network.BadNetwork.{BadNetwork}
+use Rattle.impairment.specs.declared.packet.Way.TheVariants.{Out}
 use Rattle.live_io.specs.declared.surroundings.Fault.{Fault}
 use Rattle.live_agent.specs.Tallying.{waited_counted, with_receive_fault, CountsLeaving, CountsOffer, CountsSent}
 

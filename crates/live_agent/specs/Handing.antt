@@ -3,13 +3,13 @@
 use Rattle.std.specs.Prelude.{◌≡◌, ◌⊎◌, ⊤, ℕ, Bool, true, false, List, [], ◌∷◌, length, Option, Some, None, Result}
 use Rattle.std.specs.declared.net.socket_addr.SocketAddrV4.{SocketAddrV4}
 use Rattle.agent_texts.specs.declared.tally.Tally.{Tally}
-use Rattle.bad_network.specs.declared.network.BadNetwork.{BadNetwork}
-use Rattle.bad_network.specs.declared.packet.Packet.{Packet}
-use Rattle.bad_network.specs.declared.packet.Way.{Way}
-use Rattle.bad_network.specs.declared.packet.Way.TheVariants.{In, Out}
-use Rattle.bad_network.specs.Drawing.{after_draws_on}
-use Rattle.bad_network.specs.Fates.{fate_on}
-use Rattle.bad_network.specs.Waiting.{copies_of, put_all, taken, IsPutInPart}
+use Rattle.impairment.specs.declared.network.BadNetwork.{BadNetwork}
+use Rattle.impairment.specs.declared.packet.Packet.{Packet}
+use Rattle.impairment.specs.declared.packet.Way.{Way}
+use Rattle.impairment.specs.declared.packet.Way.TheVariants.{In, Out}
+use Rattle.impairment.specs.Drawing.{after_draws_on}
+use Rattle.impairment.specs.Fates.{fate_on}
+use Rattle.impairment.specs.Waiting.{copies_of, put_all, taken, IsPutInPart}
 use Rattle.live_io.specs.Around.{Around}
 use Rattle.live_io.specs.Sending.{Grows}
 use Rattle.live_io.specs.declared.surroundings.Fault.{Fault}

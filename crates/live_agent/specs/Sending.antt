@@ -3,8 +3,8 @@
 use Rattle.std.specs.Prelude.{◌≡◌, ℕ, Bool, true, false, List, [], ◌∷◌, Option, Some, None, Result, Ok, Err}
 use Rattle.std.specs.declared.net.socket_addr.SocketAddrV4.{SocketAddrV4}
 use Rattle.agent_texts.specs.Counts.{with_handed_out}
-use Rattle.bad_network.specs.declared.network.BadNetwork.{BadNetwork}
-use Rattle.bad_network.specs.declared.packet.Way.TheVariants.{Out}
+use Rattle.impairment.specs.declared.network.BadNetwork.{BadNetwork}
+use Rattle.impairment.specs.declared.packet.Way.TheVariants.{Out}
 use Rattle.machine_rules.specs.declared.refusal.Refusal.{Refusal}
 use Rattle.live_io.specs.Around.{Around}
 use Rattle.transmission.specs.declared.output.OutDatagram.{OutDatagram}

@@ -1,9 +1,9 @@
 -- What calls of a wire give and leave.
 use Rattle.std.specs.Prelude.{◌≡◌, ℕ, ◌+◌, ◌-◌, ◌^◌, Bool, true, false, ◌||◌, not, min, max, nat_lt, if◌then◌else◌, List, [], Option, Some, None, Result, Ok, Err}
 use Rattle.std.specs.declared.net.socket_addr.SocketAddrV4.{SocketAddrV4}
-use Rattle.bad_network.specs.declared.network.BadNetwork.{BadNetwork}
-use Rattle.bad_network.specs.declared.spoiling.Spoiling.{Spoiling}
-use Rattle.bad_network.specs.Waiting.{first_due}
+use Rattle.impairment.specs.declared.network.BadNetwork.{BadNetwork}
+use Rattle.impairment.specs.declared.spoiling.Spoiling.{Spoiling}
+use Rattle.impairment.specs.Waiting.{first_due}
 use Rattle.mg_bytes.specs.Lists.{is_empty}
 use Rattle.live_io.specs.Around.{Around}
 use Rattle.live_io.specs.Typing.{left_of}

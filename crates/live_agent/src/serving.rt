@@ -16,7 +16,7 @@ use crate::session::serve;
 use crate::wire::Wire;
 use agent_config::AgentConfig;
 use agent_texts::Journal;
-use bad_network::{BadNetwork, Spoiling};
+use impairment::{BadNetwork, Spoiling};
 use log_format::put_peer;
 use live_system::{CommonEnding, DayWatch, Live, SocketWanted, open_capture};
 use output_queues::{Finisher, Outlets, Written, boxed};

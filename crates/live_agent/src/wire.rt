@@ -1,7 +1,7 @@
 //! The wire: what datagrams and typed lines come over, and a bad network, where one lies between; and the journal of what goes over it.
 ghost use Rattle.std.specs.Prelude.{◌≡◌, ◌≤◌, ⊤, ◌∷◌, ℕ, Bool, Option, Some, None, Result, [], true, false, not, length, is_some, IfOk, IfSome};
 ghost use Rattle.std.specs.declared.net.socket_addr.SocketAddrV4.{SocketAddrV4 as Peer};
-ghost use Rattle.bad_network.specs.declared.packet.Way.TheVariants.{In};
+ghost use Rattle.impairment.specs.declared.packet.Way.TheVariants.{In};
 ghost use Rattle.agent_texts.specs.Telling.{Tells};
 ghost use Rattle.log_format.specs.Pausing.{pause_line};
 ghost use Rattle.live_system.specs.Waiting.{longest_wait};
@@ -19,7 +19,7 @@ ghost use Rattle.live_io.specs.declared.surroundings.Fault.{Fault};
 ghost use Rattle.live_io.specs.declared.surroundings.Told.{Told};
 
 use agent_texts::{Journal, Tally, count};
-use bad_network::{BadNetwork, Fate, Packet, Way};
+use impairment::{BadNetwork, Fate, Packet, Way};
 use log_format::{Note, Stamp, put_pause};
 use live_system::longest_wait;
 use output_queues::{Now, Record};

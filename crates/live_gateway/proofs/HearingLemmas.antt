@@ -5,8 +5,8 @@ use Rattle.std.specs.Global.{Box}
 use Rattle.std.specs.declared.net.socket_addr.SocketAddrV4.{SocketAddrV4}
 use Rattle.std.proofs.lemmas.List.{map-append}
 use Rattle.std.proofs.lemmas.List.Elements.{filter-append}
-use Rattle.bad_network.specs.declared.packet.Way.{Way}
-use Rattle.bad_network.specs.declared.packet.Way.TheVariants.{In, Out}
+use Rattle.impairment.specs.declared.packet.Way.{Way}
+use Rattle.impairment.specs.declared.packet.Way.TheVariants.{In, Out}
 use Rattle.live_io.specs.Sending.{Sent, Received, Grows, found_by}
 use Rattle.live_io.proofs.TrafficLemmas.{nothing_more, grows_on}
 use Rattle.live_gateway.specs.declared.admission.Admission.{Admission}

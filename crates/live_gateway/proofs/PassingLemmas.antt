@@ -3,7 +3,7 @@ use Rattle.std.proofs.Common.{◌≡◌, ◌⊎◌, ℕ, ◌+◌, Bool, true, fa
 use Rattle.std.specs.Prelude.{⊤, is_some, Result}
 use Rattle.std.specs.Global.{Box}
 use Rattle.std.specs.declared.net.socket_addr.SocketAddrV4.{SocketAddrV4}
-use Rattle.bad_network.specs.declared.packet.Packet.{Packet}
+use Rattle.impairment.specs.declared.packet.Packet.{Packet}
 use Rattle.live_io.specs.Around.{Around}
 use Rattle.live_io.specs.Sending.{Sent, Traffic}
 use Rattle.live_io.specs.declared.surroundings.Fault.{Fault}

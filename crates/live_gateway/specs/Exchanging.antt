@@ -1,10 +1,10 @@
 -- What was handed to an exchange: to the sockets, or to the bad network before them; and what came to it.
 use Rattle.std.specs.Prelude.{◌≡◌, ◌⊎◌, ⊤, ℕ, ◌+◌, nat_lt, if◌then◌else◌, Bool, true, false, List, [], ◌∷◌, map, Option, Some, None, IsSome, is_some, Result, Ok, Err, IsErr}
 use Rattle.std.specs.Global.{Box}
-use Rattle.bad_network.specs.declared.fate.Fate.{Fate}
-use Rattle.bad_network.specs.declared.fate.Fate.TheVariants.{Lost as NeverComes, Once, Twice}
-use Rattle.bad_network.specs.declared.packet.Way.TheVariants.{In, Out}
-use Rattle.bad_network.specs.Waiting.{first_due}
+use Rattle.impairment.specs.declared.fate.Fate.{Fate}
+use Rattle.impairment.specs.declared.fate.Fate.TheVariants.{Lost as NeverComes, Once, Twice}
+use Rattle.impairment.specs.declared.packet.Way.TheVariants.{In, Out}
+use Rattle.impairment.specs.Waiting.{first_due}
 use Rattle.gateway_core.specs.GatewayState.{GatewayState}
 use Rattle.gateway_core.specs.Wire.{counted}
 use Rattle.message_counts.specs.Counting.{counts_in, with_texts}

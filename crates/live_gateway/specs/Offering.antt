@@ -2,14 +2,14 @@
 use Rattle.std.specs.Prelude.{◌≡◌, ℕ, List, [], ◌∷◌, map, take, Option, None, Some, option_map, Result, IfOk, OnOk, OnErr}
 use Rattle.std.specs.Global.{Box}
 use Rattle.std.specs.declared.net.socket_addr.SocketAddrV4.{SocketAddrV4}
-use Rattle.bad_network.specs.declared.fate.Fate.{Fate}
-use Rattle.bad_network.specs.declared.network.BadNetwork.{BadNetwork}
-use Rattle.bad_network.specs.declared.packet.Packet.{Packet}
-use Rattle.bad_network.specs.declared.packet.Way.{Way}
-use Rattle.bad_network.specs.declared.packet.Way.TheVariants.{In, Out}
-use Rattle.bad_network.specs.Drawing.{after_draws_on}
-use Rattle.bad_network.specs.Fates.{fate_on}
-use Rattle.bad_network.specs.Waiting.{copies_of as packets_of, put_all, taken, IsPutInPart}
+use Rattle.impairment.specs.declared.fate.Fate.{Fate}
+use Rattle.impairment.specs.declared.network.BadNetwork.{BadNetwork}
+use Rattle.impairment.specs.declared.packet.Packet.{Packet}
+use Rattle.impairment.specs.declared.packet.Way.{Way}
+use Rattle.impairment.specs.declared.packet.Way.TheVariants.{In, Out}
+use Rattle.impairment.specs.Drawing.{after_draws_on}
+use Rattle.impairment.specs.Fates.{fate_on}
+use Rattle.impairment.specs.Waiting.{copies_of as packets_of, put_all, taken, IsPutInPart}
 use Rattle.live_io.specs.Keeping.{copies_of}
 use Rattle.live_io.specs.Sending.{Sent, Received}
 use Rattle.live_gateway.specs.declared.spoilt_way.SpoiltWay.{SpoiltWay}

@@ -3,10 +3,10 @@ use Rattle.std.specs.Prelude.{◌≡◌, ℕ, Bool, false, List, [], Option, Non
 use Rattle.std.specs.Borrow.{Bor}
 use Rattle.std.specs.Global.{Box}
 use Rattle.std.specs.declared.net.socket_addr.SocketAddrV4.{SocketAddrV4}
-use Rattle.bad_network.specs.Drawing.{generators_of}
-use Rattle.bad_network.specs.Naming.{named}
-use Rattle.bad_network.specs.declared.network.BadNetwork.{BadNetwork}
-use Rattle.bad_network.specs.declared.spoiling.Spoiling.{Spoiling}
+use Rattle.impairment.specs.Drawing.{generators_of}
+use Rattle.impairment.specs.Naming.{named}
+use Rattle.impairment.specs.declared.network.BadNetwork.{BadNetwork}
+use Rattle.impairment.specs.declared.spoiling.Spoiling.{Spoiling}
 use Rattle.log_format.specs.File.{file_head}
 use Rattle.message_counts.specs.Counting.{counts_in, no_counts}
 use Rattle.message_counts.specs.Places.{no_sends}

@@ -2,8 +2,8 @@
 -- gives.
 use Rattle.std.specs.Prelude.{◌≡◌, ◌⊎◌, ⊤, ℕ, ◌-◌, Bool, true, false, List, [], ◌∷◌, length, take, Option, Some, None, IsSome, is_some, Result}
 use Rattle.std.specs.declared.net.socket_addr.SocketAddrV4.{SocketAddrV4}
-use Rattle.bad_network.specs.declared.packet.Packet.{Packet}
-use Rattle.bad_network.specs.declared.packet.Way.TheVariants.{In, Out}
+use Rattle.impairment.specs.declared.packet.Packet.{Packet}
+use Rattle.impairment.specs.declared.packet.Way.TheVariants.{In, Out}
 use Rattle.log_format.specs.declared.note.Note.TheVariants as notes
 use Rattle.live_io.specs.Around.{Around}
 use Rattle.live_io.specs.declared.surroundings.Fault.{Fault}

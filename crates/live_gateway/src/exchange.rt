@@ -18,7 +18,7 @@ use crate::admission::Admission;
 use crate::opening::{DeskSettings, journal_of, network_of};
 use crate::spoilt_way::SpoiltWay;
 use crate::visitors::Visitors;
-use bad_network::{Fate, Packet, Way};
+use impairment::{Fate, Packet, Way};
 use log_format::Note;
 use gateway_core::{Gateway, SentMessage};
 use live_system::longest_wait;

@@ -4,7 +4,7 @@ ghost use Rattle.std.specs.Prelude.{IfOk};
 ghost use Rattle.live_gateway.specs.Opening.{CountsNothing, BeginsBoard, BeginsLog, BeginsCapture, BeginsRecords, BeginsNetwork};
 
 use crate::spoilt_way::SpoiltWay;
-use bad_network::{BadNetwork, Spoiling};
+use impairment::{BadNetwork, Spoiling};
 use live_journal::{Capture, Journal};
 use output_queues::{Written, boxed};
 use message_counts::MessageTally;

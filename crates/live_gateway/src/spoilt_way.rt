@@ -1,12 +1,12 @@
 //! A bad network before the sockets.
 ghost use Rattle.std.specs.Prelude.{◌≡◌, ◌≤◌, ◌∷◌, [], length, take, None, Some, IfSome, option_map};
-ghost use Rattle.bad_network.specs.declared.packet.Way.TheVariants.{In, Out};
-ghost use Rattle.bad_network.specs.Waiting.{first_due};
+ghost use Rattle.impairment.specs.declared.packet.Way.TheVariants.{In, Out};
+ghost use Rattle.impairment.specs.Waiting.{first_due};
 ghost use Rattle.live_io.specs.Keeping.{copies_of};
 ghost use Rattle.live_io.specs.Sending.{Grows};
 ghost use Rattle.live_gateway.specs.Offering.{offered_by, came_over, brings, brought, Offers, TakesFirst};
 
-use bad_network::{BadNetwork, Fate, Packet, Way};
+use impairment::{BadNetwork, Fate, Packet, Way};
 use mg_bytes::OutOfMemory;
 use std::alloc::Global;
 use std::net::SocketAddrV4;

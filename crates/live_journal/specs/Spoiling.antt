@@ -1,8 +1,8 @@
 -- What is noted of what a bad network makes of a datagram.
 use Rattle.std.specs.Prelude.{◌≡◌, ℕ, ◌==◌, if◌then◌else◌, Option, Some, None}
 use Rattle.std.specs.declared.net.socket_addr.SocketAddrV4.{SocketAddrV4}
-use Rattle.bad_network.specs.declared.fate.Fate.{Fate}
-use Rattle.bad_network.specs.declared.fate.Fate.TheVariants as fates
+use Rattle.impairment.specs.declared.fate.Fate.{Fate}
+use Rattle.impairment.specs.declared.fate.Fate.TheVariants as fates
 use Rattle.log_format.specs.declared.note.Note.{Note}
 use Rattle.log_format.specs.declared.note.Note.TheVariants as notes
 use Rattle.log_format.specs.Lines.{note_line}

@@ -4,7 +4,7 @@
 ghost use Rattle.std.specs.Prelude.{◌≡◌, ◌+◌, ◌++◌, codes, true, false, [], Some, None};
 ghost use Rattle.log_format.specs.declared.note.Note.TheVariants as notes;
 ghost use Rattle.log_format.specs.Lines.{note_line};
-ghost use Rattle.bad_network.specs.declared.fate.Fate.TheVariants.{Lost, Once, Twice};
+ghost use Rattle.impairment.specs.declared.fate.Fate.TheVariants.{Lost, Once, Twice};
 ghost use Rattle.output_queues.specs.declared.record.Record.{Record};
 ghost use Rattle.output_queues.specs.declared.record.RecordState.TheVariants.{Off, On, OutOfMemory};
 ghost use Rattle.message_counts.specs.Example.{host};

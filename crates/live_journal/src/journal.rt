@@ -15,7 +15,7 @@ ghost use Rattle.live_journal.specs.Capturing.{Captures};
 ghost use Rattle.live_journal.specs.Spoiling.{fate_note, Notes};
 
 use crate::capture::Capture;
-use bad_network::Fate;
+use impairment::Fate;
 use log_format::Note;
 use gateway_core::SentMessage;
 use output_queues::{Now, Written};

@@ -3,7 +3,7 @@ use Rattle.std.proofs.Common.{◌≡◌, ◌⊎◌, inl, inr, ℕ, Bool, true, f
 use Rattle.std.specs.Prelude.{⊤, codes, Result, Ok, Err, IsErr, is_some}
 use Rattle.std.specs.Global.{Box}
 use Rattle.std.specs.declared.net.socket_addr.SocketAddrV4.{SocketAddrV4}
-use Rattle.bad_network.specs.declared.fate.Fate.{Fate}
+use Rattle.impairment.specs.declared.fate.Fate.{Fate}
 use Rattle.page_state.specs.declared.ring.Kind.TheVariants.{Sent as OfSent}
 use Rattle.page_state.specs.BoardShowing.{BoardState}
 use Rattle.gateway_core.specs.declared.sent.SentMessage.{SentMessage}

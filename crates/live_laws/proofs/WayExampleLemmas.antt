@@ -3,7 +3,7 @@ use Rattle.std.proofs.Common.{◌≡◌, inl, inr, ℕ, Bool, [], ◌∷◌, Opt
 use Rattle.std.specs.Prelude.{is_some, Result, Err}
 use Rattle.std.specs.Global.{Box}
 use Rattle.std.specs.declared.net.socket_addr.SocketAddrV4.{SocketAddrV4}
-use Rattle.bad_network.specs.declared.packet.Packet.{Packet}
+use Rattle.impairment.specs.declared.packet.Packet.{Packet}
 use Rattle.live_gateway.specs.declared.admission.Admission.{Admission}
 use Rattle.live_gateway.specs.declared.exchange.Exchange.{Exchange}
 use Rattle.live_gateway.specs.declared.spoilt_way.SpoiltWay.{SpoiltWay}
@@ -11,11 +11,11 @@ use Rattle.live_gateway.specs.Offering.{TakesDue, next_fate}
 use Rattle.live_gateway.specs.Passing.{HandsNext, HandsLast, HandsOut, LooksOver, LooksBy, Looks}
 use Rattle.live_laws.specs.Example.{at_port}
 use Rattle.live_laws.specs.WayExample.{sends_any, none_looks, OffersOne, copy_behind, LooksSeeing, arrival, arrivals}
-use Rattle.bad_network.specs.declared.fate.Fate.{Fate}
-use Rattle.bad_network.specs.declared.fate.Fate.TheVariants.{Lost as NeverComes, Once}
-use Rattle.bad_network.specs.declared.network.BadNetwork.{BadNetwork}
-use Rattle.bad_network.specs.declared.packet.Way.TheVariants.{In}
-use Rattle.bad_network.specs.Waiting.{copies_of, put_in, put_all}
+use Rattle.impairment.specs.declared.fate.Fate.{Fate}
+use Rattle.impairment.specs.declared.fate.Fate.TheVariants.{Lost as NeverComes, Once}
+use Rattle.impairment.specs.declared.network.BadNetwork.{BadNetwork}
+use Rattle.impairment.specs.declared.packet.Way.TheVariants.{In}
+use Rattle.impairment.specs.Waiting.{copies_of, put_in, put_all}
 use Rattle.message_counts.specs.declared.reporting.Faults.{Faults}
 use Rattle.page_state.specs.BoardShowing.{BoardState}
 use Rattle.gateway_core.specs.declared.sent.SentMessage.{SentMessage}

@@ -1,8 +1,8 @@
 -- What the worked examples speak of: a desk over surroundings that tell nothing, whose trace tells nothing either.
 use Rattle.std.specs.Prelude.{◌≡◌, ⊤, ℕ, codes, false, true, List, [], ◌∷◌, Option, None, Some, Result, Ok, Err, IsErr}
 use Rattle.std.specs.declared.net.socket_addr.SocketAddrV4.{SocketAddrV4}
-use Rattle.bad_network.specs.declared.fate.Fate.{Fate}
-use Rattle.bad_network.specs.declared.fate.Fate.TheVariants.{Lost, Once}
+use Rattle.impairment.specs.declared.fate.Fate.{Fate}
+use Rattle.impairment.specs.declared.fate.Fate.TheVariants.{Lost, Once}
 use Rattle.live_system.specs.declared.ending.CommonEnding.{CommonEnding}
 use Rattle.live_journal.specs.Writing.{WriterBy, any_writer}
 use Rattle.live_journal.specs.declared.trace.Trace.{Trace}

@@ -1,11 +1,11 @@
 -- What the worked examples of networks, looks and outlets speak of.
 use Rattle.std.specs.Prelude.{◌≡◌, ⊤, ℕ, zero, suc, ◌+◌, List, [], ◌∷◌, Option, None, Some, Result}
 use Rattle.std.specs.declared.net.socket_addr.SocketAddrV4.{SocketAddrV4}
-use Rattle.bad_network.specs.declared.fate.Fate.{Fate}
-use Rattle.bad_network.specs.declared.network.BadNetwork.{BadNetwork}
-use Rattle.bad_network.specs.declared.packet.Packet.{Packet}
-use Rattle.bad_network.specs.declared.packet.Way.TheVariants.{In}
-use Rattle.bad_network.specs.Waiting.{packet_of}
+use Rattle.impairment.specs.declared.fate.Fate.{Fate}
+use Rattle.impairment.specs.declared.network.BadNetwork.{BadNetwork}
+use Rattle.impairment.specs.declared.packet.Packet.{Packet}
+use Rattle.impairment.specs.declared.packet.Way.TheVariants.{In}
+use Rattle.impairment.specs.Waiting.{packet_of}
 use Rattle.gateway_core.specs.GatewayState.{GatewayState}
 use Rattle.live_io.specs.Around.{Around, unasked}
 use Rattle.live_io.specs.Sending.{Received, Traffic}

@@ -5,8 +5,8 @@
 ghost use Rattle.std.specs.Prelude.{◌≡◌, ◌⊎◌, ⊤, ℕ, Bool, true, false, not, codes, List, [], ◌∷◌, Option, Some, None, Ok, Err, IsTrue};
 ghost use Rattle.std.specs.Global.{Box};
 ghost use Rattle.std.specs.declared.net.socket_addr.SocketAddrV4.{SocketAddrV4};
-ghost use Rattle.bad_network.specs.declared.fate.Fate.TheVariants.{Once};
-ghost use Rattle.bad_network.specs.Waiting.{first_due};
+ghost use Rattle.impairment.specs.declared.fate.Fate.TheVariants.{Once};
+ghost use Rattle.impairment.specs.Waiting.{first_due};
 ghost use Rattle.endpoint_names.specs.declared.route.Route.TheVariants.{One};
 ghost use Rattle.endpoint_names.specs.declared.table.Host.{Host};
 ghost use Rattle.endpoint_names.specs.Route.{addresses};

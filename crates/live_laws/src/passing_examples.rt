@@ -3,8 +3,8 @@
 
 ghost use Rattle.std.specs.Prelude.{◌≡◌, ◌⊎◌, [], ◌∷◌, true, false, nat_lt, ℕ, List, Option, Some, None, take, length};
 ghost use Rattle.std.specs.declared.net.socket_addr.SocketAddrV4.{SocketAddrV4};
-ghost use Rattle.bad_network.specs.declared.packet.Packet.{Packet};
-ghost use Rattle.bad_network.specs.declared.packet.Way.TheVariants.{In, Out};
+ghost use Rattle.impairment.specs.declared.packet.Packet.{Packet};
+ghost use Rattle.impairment.specs.declared.packet.Way.TheVariants.{In, Out};
 ghost use Rattle.output_queues.specs.Recording.{is_told};
 ghost use Rattle.message_counts.specs.Tallying.{with_received, with_stranger};
 ghost use Rattle.live_journal.specs.declared.journal.Journal.{Journal};

@@ -3,7 +3,7 @@ use Rattle.std.specs.Prelude.{ℕ, nat_lt, Bool, true, false, if◌then◌else�
 use Rattle.std.specs.List.{flat_map}
 use Rattle.std.specs.Net.Text.{socket_v4_text}
 use Rattle.std.specs.declared.net.socket_addr.SocketAddrV4.{SocketAddrV4}
-use Rattle.bad_network.specs.declared.spoiling.SpoilingFault.{SpoilingFault}
+use Rattle.impairment.specs.declared.spoiling.SpoilingFault.{SpoilingFault}
 use Rattle.live_system.specs.declared.address_words.AddressWord.{AddressWord}
 use Rattle.live_system.specs.declared.ending.About.{About}
 use Rattle.live_system.specs.declared.ending.FileNames.{FileNames}

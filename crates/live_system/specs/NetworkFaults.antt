@@ -1,7 +1,7 @@
 -- What is wanted where a text says nothing of a network.
 use Rattle.std.specs.Prelude.{ℕ, codes, List}
-use Rattle.bad_network.specs.declared.spoiling.SpoilingFault.{SpoilingFault}
-use Rattle.bad_network.specs.declared.spoiling.SpoilingFault.TheVariants.{Lose, Copy, Late, Seed, Other}
+use Rattle.impairment.specs.declared.spoiling.SpoilingFault.{SpoilingFault}
+use Rattle.impairment.specs.declared.spoiling.SpoilingFault.TheVariants.{Lose, Copy, Late, Seed, Other}
 
 -- what stands, in a text that is right, at the place of a fault
 unfoldable pub wanted_by : SpoilingFault → List ℕ

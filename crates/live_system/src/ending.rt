@@ -1,6 +1,6 @@
 //! How a program ends, as far as programs have that in common: the status, and what is said then.
 ghost use Rattle.std.specs.Prelude.{◌≡◌, ◌≢◌, ◌++◌, Ok, Err, Some, None, OnOk, IfOk, IfErr, IfSome};
-ghost use Rattle.bad_network.specs.Parts.{spoiling_of};
+ghost use Rattle.impairment.specs.Parts.{spoiling_of};
 ghost use Rattle.output_queues.specs.Reasons.{reason_of};
 ghost use Rattle.output_queues.specs.Written.{faults_in};
 ghost use Rattle.live_system.specs.AddressWords.{word_text};
@@ -10,7 +10,7 @@ ghost use Rattle.live_system.specs.Ending.{unbound_text, ending_text};
 use crate::address_words::AddressWord;
 use crate::network_faults::wanted_by;
 use crate::wording::put_pieces;
-use bad_network::{Spoiling, SpoilingFault};
+use impairment::{Spoiling, SpoilingFault};
 use output_queues::{Written, reason_of};
 use mg_bytes::OutOfMemory;
 use std::alloc::Global;

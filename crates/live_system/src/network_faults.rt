@@ -2,7 +2,7 @@
 ghost use Rattle.std.specs.Prelude.{◌≡◌};
 ghost use Rattle.live_system.specs.NetworkFaults.{wanted_by};
 
-use bad_network::SpoilingFault;
+use impairment::SpoilingFault;
 
 /// What stands, in a text that is right, at the place of this fault.
 #[tactic(auto, unfolding(crate::specs::NetworkFaults::wanted_by))]

@@ -1,8 +1,8 @@
 -- What words of the command line say.
 use Rattle.std.specs.Prelude.{ℕ, bytes_eq, codes, if◌then◌else◌, List, Option, None, Some}
 use Rattle.std.specs.Result.{result_ok}
-use Rattle.bad_network.specs.Parts.{spoiling_of}
-use Rattle.bad_network.specs.declared.spoiling.Spoiling.{Spoiling}
+use Rattle.impairment.specs.Parts.{spoiling_of}
+use Rattle.impairment.specs.declared.spoiling.Spoiling.{Spoiling}
 use Rattle.rgca_words.specs.declared.ending.Moved.{Moved}
 use Rattle.rgca_words.specs.declared.ending.Moved.TheVariants.{Check, Phones, Load}
 

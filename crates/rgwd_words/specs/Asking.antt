@@ -2,8 +2,8 @@
 use Rattle.std.specs.Prelude.{◌≡◌, ℕ, codes, is_some, List, Option, None, Some, Ok, option_map}
 use Rattle.std.specs.Result.{result_ok}
 use Rattle.std.specs.declared.net.socket_addr.SocketAddrV4.{SocketAddrV4}
-use Rattle.bad_network.specs.Parts.{spoiling_of}
-use Rattle.bad_network.specs.declared.spoiling.Spoiling.{Spoiling}
+use Rattle.impairment.specs.Parts.{spoiling_of}
+use Rattle.impairment.specs.declared.spoiling.Spoiling.{Spoiling}
 use Rattle.clap.specs.Matches.{first_value, one_text}
 use Rattle.clap.specs.declared.parser.matches.Found.{Found}
 use Rattle.live_system.specs.Values.{IsBehind, IsMoment, IsRead, SaysFlag}

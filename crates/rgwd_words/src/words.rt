@@ -14,7 +14,7 @@ ghost use Rattle.rgwd_words.specs.Statuses.{fails};
 use crate::ending::Ending;
 use crate::help::{LISTEN, PHONES, USAGE};
 use crate::parted::parting_of;
-use bad_network::Spoiling;
+use impairment::Spoiling;
 use clap::{ArgMatches, Command};
 use live_system::{AddressWord, CommonEnding, FileNames, Kind, Parting, VERSION, address_behind, address_in, matches_in, moment_behind, network_in};
 use output_queues::{Outlet, boxed};

@@ -1,6 +1,6 @@
 -- How long a start waits (RFC 3435, 4.4.6).
 use Rattle.std.specs.Prelude.{ℕ, ◌+◌, ◌%◌, List}
-use Rattle.bad_network.specs.Naming.{mixed}
+use Rattle.impairment.specs.Naming.{mixed}
 
 -- of this spread, both in ms, at this time of day and with this domain: any time up to the spread, that itself too
 abbrev pub waited : ℕ → ℕ → List ℕ → ℕ

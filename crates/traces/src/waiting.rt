@@ -3,7 +3,7 @@ ghost use Rattle.std.specs.Prelude.{◌≡◌, ◌≤◌};
 ghost use Rattle.traces.specs.Words.{spread_from, spread_in};
 ghost use Rattle.traces.specs.Waiting.{waited};
 
-use bad_network::mixed;
+use impairment::mixed;
 use mg_bytes::decimal;
 
 /// The longest spread, in ms: the maximum waiting delay that the standard suggests (RFC 3435, 4.4.6).

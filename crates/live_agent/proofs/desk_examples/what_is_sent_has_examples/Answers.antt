@@ -2,7 +2,7 @@ use Rattle.std.proofs.Common.{◌≡◌, ℕ, [], List, Option, None, Result, ap
 use Rattle.std.specs.Prelude.{⊤, codes}
 use Rattle.std.specs.declared.net.socket_addr.SocketAddrV4.{SocketAddrV4}
 use Rattle.agent_texts.specs.declared.journal.Journal.{Journal}
-use Rattle.bad_network.specs.declared.network.BadNetwork.{BadNetwork}
+use Rattle.impairment.specs.declared.network.BadNetwork.{BadNetwork}
 use Rattle.live_io.specs.declared.surroundings.Fault.{Fault}
 use Rattle.switchboard.specs.Issuing.{IssuesSettled}
 use Rattle.live_agent.specs.declared.wire.Wire.{Wire}

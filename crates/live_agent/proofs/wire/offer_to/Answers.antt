@@ -1,6 +1,6 @@
 use Rattle.std.proofs.Common.{inl, inr, ap, ◌∙◌}
 use Rattle.agent_texts.specs.declared.journal.Journal.{Journal}
-use Rattle.bad_network.specs.declared.fate.Fate.{Fate}
+use Rattle.impairment.specs.declared.fate.Fate.{Fate}
 use Rattle.live_agent.specs.Tallying.{with_fate}
 use Rattle.live_agent.proofs.wire.offer_to.Goals as goal
 

@@ -1,6 +1,6 @@
 use Rattle.std.proofs.Common.{◌≡◌, sym, ap}
 use Rattle.std.proofs.lemmas.Bool.{true≢false}
-use Rattle.bad_network.specs.declared.draws.Generators.{Generators}
+use Rattle.impairment.specs.declared.draws.Generators.{Generators}
 use Rattle.message_counts.specs.declared.reporting.Faults.{Faults}
 use Rattle.live_laws.proofs.examples.a_gateway_begins_with_nothing.Goals as goal
 

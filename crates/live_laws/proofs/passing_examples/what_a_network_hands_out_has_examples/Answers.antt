@@ -1,6 +1,6 @@
 use Rattle.std.proofs.Common.{◌≡◌, ◌⊎◌, inl, inr, ℕ, [], ◌∷◌, None, Some, refl, sym, ◌∙◌, ap, subst, arith}
 use Rattle.std.specs.declared.net.socket_addr.SocketAddrV4.{SocketAddrV4}
-use Rattle.bad_network.specs.declared.packet.Packet.{Packet}
+use Rattle.impairment.specs.declared.packet.Packet.{Packet}
 use Rattle.message_counts.specs.Tallying.{with_received, with_stranger}
 use Rattle.live_gateway.specs.declared.exchange.Exchange.{Exchange}
 use Rattle.live_gateway.specs.Passing.{SendsNext, TurnsNextAway, GivesNext}

@@ -1,6 +1,6 @@
 use Rattle.std.proofs.Common.{List, Option, ◌∙◌, ap}
-use Rattle.bad_network.specs.declared.packet.Packet.{Packet}
-use Rattle.bad_network.specs.Waiting.{taken}
+use Rattle.impairment.specs.declared.packet.Packet.{Packet}
+use Rattle.impairment.specs.Waiting.{taken}
 use Rattle.live_laws.proofs.way_examples.what_is_due_is_handed_out.Goals as goal
 
 pub returns-clause-due : goal.returns-clause-due

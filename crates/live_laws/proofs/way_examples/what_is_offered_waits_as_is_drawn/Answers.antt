@@ -1,6 +1,6 @@
 use Rattle.std.proofs.Common.{ap, ◌∙◌}
-use Rattle.bad_network.specs.declared.draws.Generators.{Generators}
-use Rattle.bad_network.specs.declared.fate.Fate.TheVariants.{Lost, Once, Twice}
+use Rattle.impairment.specs.declared.draws.Generators.{Generators}
+use Rattle.impairment.specs.declared.fate.Fate.TheVariants.{Lost, Once, Twice}
 use Rattle.live_laws.proofs.WayExampleLemmas.{copies_wait, lost_in_part, one_in_part}
 use Rattle.live_laws.proofs.way_examples.what_is_offered_waits_as_is_drawn.Goals as goal
 

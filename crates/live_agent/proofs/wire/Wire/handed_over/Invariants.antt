@@ -1,5 +1,5 @@
 use Rattle.std.proofs.Common.{◌≡◌, List, length}
-use Rattle.bad_network.specs.declared.packet.Packet.{Packet}
+use Rattle.impairment.specs.declared.packet.Packet.{Packet}
 use Rattle.live_agent.specs.Handing.{SendsEachOn}
 use Rattle.live_agent.specs.Sending.{SendsOver}
 use Rattle.live_agent.proofs.wire.Wire.handed_over.Given as goal

@@ -1,6 +1,6 @@
 use Rattle.std.proofs.Common.{◌≡◌, List, length, [], None}
 use Rattle.std.specs.Prelude.{is_some}
-use Rattle.bad_network.specs.declared.packet.Packet.{Packet}
+use Rattle.impairment.specs.declared.packet.Packet.{Packet}
 use Rattle.live_gateway.specs.Admitting.{HeardSince}
 use Rattle.live_gateway.specs.Exchanging.{handed_by, received_by, IsSameTurn}
 use Rattle.live_gateway.specs.Noting.{CountsFound}

@@ -1,7 +1,7 @@
 use Rattle.std.proofs.Common.{false, true, Some, refl, sym, ap}
 use Rattle.std.specs.Prelude.{⊤, Ok, Err}
 use Rattle.std.specs.Box.{with_value}
-use Rattle.bad_network.specs.declared.fate.Fate.{Fate}
+use Rattle.impairment.specs.declared.fate.Fate.{Fate}
 use Rattle.live_gateway.specs.Exchanging.{is_lost}
 use Rattle.live_gateway.proofs.SendingLemmas.{offers_so, lacks_so, lost_over, lost_nowhere, not_lost}
 use Rattle.live_gateway.proofs.exchange.Exchange.is_lost.Goals as goal

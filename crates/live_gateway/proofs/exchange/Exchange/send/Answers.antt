@@ -1,7 +1,7 @@
 use Rattle.std.proofs.Common.{Some, refl}
 use Rattle.std.specs.Prelude.{Ok}
 use Rattle.std.specs.Box.{with_value}
-use Rattle.bad_network.specs.declared.fate.Fate.TheVariants.{Once}
+use Rattle.impairment.specs.declared.fate.Fate.TheVariants.{Once}
 use Rattle.live_gateway.proofs.SendingLemmas.{offers_so, lacks_so, sent_over, sent_directly}
 use Rattle.live_gateway.proofs.exchange.Exchange.send.Goals as goal
 

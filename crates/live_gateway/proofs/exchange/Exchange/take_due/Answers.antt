@@ -1,7 +1,7 @@
 use Rattle.std.proofs.Common.{ℕ, None, Some, refl}
 use Rattle.std.specs.Prelude.{option_map}
 use Rattle.std.specs.Box.{with_value}
-use Rattle.bad_network.specs.declared.packet.Packet.{Packet}
+use Rattle.impairment.specs.declared.packet.Packet.{Packet}
 use Rattle.live_gateway.proofs.SendingLemmas.{due_over, due_nowhere}
 use Rattle.live_gateway.proofs.exchange.Exchange.take_due.Goals as goal
 

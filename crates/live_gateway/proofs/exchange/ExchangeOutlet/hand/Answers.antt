@@ -1,6 +1,6 @@
 use Rattle.std.proofs.Common.{rules, sym, ap, refl}
 use Rattle.std.specs.Prelude.{Ok, Err}
-use Rattle.bad_network.specs.declared.fate.Fate.{Fate}
+use Rattle.impairment.specs.declared.fate.Fate.{Fate}
 use Rattle.live_io.specs.declared.surroundings.Fault.{Fault}
 use Rattle.live_gateway.specs.Exchanging.{mark_of}
 use Rattle.live_gateway.proofs.SendingLemmas.{unmarked}

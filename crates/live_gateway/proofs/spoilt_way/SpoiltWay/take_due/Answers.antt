@@ -1,5 +1,5 @@
 use Rattle.std.proofs.Common.{Some, sym, subst}
-use Rattle.bad_network.specs.declared.network.BadNetwork.{BadNetwork}
+use Rattle.impairment.specs.declared.network.BadNetwork.{BadNetwork}
 use Rattle.live_gateway.specs.Offering.{TakesFirst}
 use Rattle.live_gateway.proofs.spoilt_way.SpoiltWay.take_due.Goals as goal
 

@@ -1,5 +1,0 @@
-use Rattle.bad_network.proofs.PassingLaws.{copies_are_copies}
-use Rattle.bad_network.proofs.laws.copies_are_the_packet_itself.Goals as goal
-
-pub returns : goal.returns
-returns c = copies_are_copies

@@ -1,5 +1,0 @@
-use Rattle.bad_network.proofs.PassingLaws.{copies_are_timely}
-use Rattle.bad_network.proofs.laws.no_copy_is_late_by_more_than_ten_seconds.Goals as goal
-
-pub returns : goal.returns
-returns c = copies_are_timely

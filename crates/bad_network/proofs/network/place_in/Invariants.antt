@@ -1,6 +1,0 @@
-use Rattle.std.proofs.Common.{◌≡◌, ◌+◌, drop}
-use Rattle.bad_network.specs.Waiting.{place_in}
-use Rattle.bad_network.proofs.network.place_in.Given as goal
-
-abbrev pub invariant-loop-place : goal.invariant-loop-place
-invariant-loop-place l = l.place + place_in l.due (drop l.place l.waiting.items) ≡ place_in l.due l.waiting.items

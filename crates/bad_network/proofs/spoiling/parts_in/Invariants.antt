@@ -1,7 +1,0 @@
-use Rattle.std.proofs.Common.{◌≡◌}
-use Rattle.mg_bytes.specs.Items.{items_of}
-use Rattle.bad_network.specs.Parts.{with_items, nothing_said}
-use Rattle.bad_network.proofs.spoiling.parts_in.Given as goal
-
-abbrev pub invariant-loop-item : goal.invariant-loop-item
-invariant-loop-item l = with_items l.parts l.item-iterator ≡ with_items nothing_said (items_of l.text)
