@@ -15,9 +15,9 @@ use Rattle.traces.specs.Writing.{Input, typed}
 use Rattle.live_io.specs.Speaking.{Admitted}
 use Rattle.live_io.specs.declared.surroundings.Fault.{Fault}
 use Rattle.live_play.specs.Running.{Live, RanOf, TakesBy, Refuses, Asked}
-use Rattle.live_telephones.specs.Asking.{usage}
-use Rattle.live_telephones.specs.Watching.{AnswersWatch, BeginsToSee, IsUnasked}
-use Rattle.live_telephones.specs.declared.watch.Watch.{Watch}
+use Rattle.telephone_control.specs.Asking.{usage}
+use Rattle.telephone_control.specs.Watching.{AnswersWatch, BeginsToSee, IsUnasked}
+use Rattle.telephone_control.specs.declared.watch.Watch.{Watch}
 use Rattle.live_gateway.specs.declared.exchange.Exchange.{Exchange}
 use Rattle.live_gateway.specs.Desk.{Standing, with_input}
 use Rattle.live_gateway.specs.Exchanging.{IsTold, HandsOver, NotesTaken, NotesRefused, TakesOver}

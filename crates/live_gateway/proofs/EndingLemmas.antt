@@ -19,7 +19,7 @@ use Rattle.live_system.specs.Ending.{served_ending}
 use Rattle.output_queues.specs.Written.{faults_in}
 use Rattle.live_journal.specs.declared.trace.Trace.{Trace}
 use Rattle.live_journal.specs.Reporting.{counts_with}
-use Rattle.live_telephones.specs.Losses.{counts_text, lost_of_lines}
+use Rattle.telephone_control.specs.Losses.{counts_text, lost_of_lines}
 use Rattle.message_counts.specs.declared.reporting.Faults.{Faults}
 use Rattle.live_gateway.specs.declared.desk.Desk.{Desk}
 use Rattle.live_gateway.specs.declared.exchange.Exchange.{Exchange}

@@ -13,7 +13,7 @@ use Rattle.turns.specs.declared.turn.Turn.{Turn}
 use Rattle.turns.specs.declared.turn.Turn.TheVariants.{End, Look, Wait, Tick, Command, Datagram, Visit, Note}
 use Rattle.output_queues.specs.declared.now.Now.{Now}
 use Rattle.live_journal.specs.declared.journal.Journal.{Journal}
-use Rattle.live_telephones.specs.Paging.{IsSameBeside}
+use Rattle.telephone_control.specs.Paging.{IsSameBeside}
 use Rattle.live_gateway.specs.declared.desk.Desk.{Desk}
 use Rattle.live_gateway.specs.declared.exchange.Exchange.{Exchange}
 use Rattle.live_gateway.specs.declared.spoilt_way.SpoiltWay.{SpoiltWay}

@@ -2,7 +2,7 @@
 use Rattle.std.proofs.Common.{◌≡◌, Bool, true, false, ◌&&◌, refl}
 use Rattle.live_io.specs.declared.lines.Lines.{Lines}
 use Rattle.live_journal.specs.declared.journal.Journal.{Journal}
-use Rattle.live_telephones.specs.Paging.{TakesAct}
+use Rattle.telephone_control.specs.Paging.{TakesAct}
 use Rattle.live_gateway.specs.Leaving.{TakesIf}
 
 pub unasked : (was : Journal) (lines : Lines) (is_of_page asked is_empty : Bool) → asked ≡ false

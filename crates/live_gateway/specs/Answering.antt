@@ -26,14 +26,14 @@ use Rattle.machine_rules.specs.declared.refusal.Refusal.TheVariants as refusals
 use Rattle.rgw_scripts.specs.Script.{line_in}
 use Rattle.traces.specs.Writing.{Input, typed}
 use Rattle.live_play.specs.Running.{Live, RanOf, Refuses, Asked, lines_shown}
-use Rattle.live_telephones.specs.Admitting.{typist_of}
-use Rattle.live_telephones.specs.Asking.{AsksFor, request_in, short_text, usage, wants_memory}
-use Rattle.live_telephones.specs.Losses.{counts_text}
-use Rattle.live_telephones.specs.Watching.{AnswersWatch, BeginsToSee, IsUnasked}
-use Rattle.live_telephones.specs.declared.telephones.Typist.{Typist}
-use Rattle.live_telephones.specs.declared.telephones.TelephoneRequest.{TelephoneRequest}
-use Rattle.live_telephones.specs.declared.telephones.TelephoneRequest.TheVariants.{Act as AsksAct, Show, ShowAll, Watch as AsksWatch, Counts, Stop, StopFromAfar, Refused, Unknown, OutOfMemory}
-use Rattle.live_telephones.specs.declared.watch.Watch.{Watch}
+use Rattle.telephone_control.specs.Admitting.{typist_of}
+use Rattle.telephone_control.specs.Asking.{AsksFor, request_in, short_text, usage, wants_memory}
+use Rattle.telephone_control.specs.Losses.{counts_text}
+use Rattle.telephone_control.specs.Watching.{AnswersWatch, BeginsToSee, IsUnasked}
+use Rattle.telephone_control.specs.declared.telephones.Typist.{Typist}
+use Rattle.telephone_control.specs.declared.telephones.TelephoneRequest.{TelephoneRequest}
+use Rattle.telephone_control.specs.declared.telephones.TelephoneRequest.TheVariants.{Act as AsksAct, Show, ShowAll, Watch as AsksWatch, Counts, Stop, StopFromAfar, Refused, Unknown, OutOfMemory}
+use Rattle.telephone_control.specs.declared.watch.Watch.{Watch}
 use Rattle.live_gateway.specs.declared.desk.Desk.{Desk}
 use Rattle.live_gateway.specs.declared.exchange.Exchange.{Exchange}
 use Rattle.live_gateway.specs.Exchanging.{TakesOver, NotesRefused}

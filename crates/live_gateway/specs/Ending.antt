@@ -18,7 +18,7 @@ use Rattle.output_queues.specs.Recording.{is_refused}
 use Rattle.output_queues.specs.Written.{faults_in}
 use Rattle.live_journal.specs.declared.journal.Journal.{Journal}
 use Rattle.live_journal.specs.declared.trace.Trace.{Trace}
-use Rattle.live_telephones.specs.Losses.{counts_text}
+use Rattle.telephone_control.specs.Losses.{counts_text}
 use Rattle.live_gateway.specs.declared.desk.Desk.{Desk}
 
 -- ticks of the gateway have come to the end, or they haven't, whatever events it stands for

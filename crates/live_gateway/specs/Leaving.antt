@@ -18,7 +18,7 @@ use Rattle.turns.specs.declared.turn.Turn.{Turn}
 use Rattle.turns.specs.declared.turn.Turn.TheVariants.{End, Look, Wait, Tick, Command, Datagram, Visit, Note}
 use Rattle.turns.specs.Schedule.{opening}
 use Rattle.live_journal.specs.declared.journal.Journal.{Journal}
-use Rattle.live_telephones.specs.Paging.{ShowsPage, TakesAct}
+use Rattle.telephone_control.specs.Paging.{ShowsPage, TakesAct}
 use Rattle.live_gateway.specs.declared.desk.Desk.{Desk}
 use Rattle.live_gateway.specs.declared.exchange.Exchange.{Exchange}
 use Rattle.live_gateway.specs.Visiting.{ServesOnce}

@@ -26,7 +26,7 @@ use Rattle.turns.specs.declared.turn.Turn.TheVariants.{End, Look, Wait, Tick, Co
 use Rattle.turns.specs.Schedule.{next_of}
 use Rattle.live_journal.specs.Writing.{WriterBy}
 use Rattle.live_play.specs.Running.{Ran}
-use Rattle.live_telephones.specs.Watching.{WatchesOn, WatchesStill}
+use Rattle.telephone_control.specs.Watching.{WatchesOn, WatchesStill}
 use Rattle.live_gateway.specs.Leaving.{OnlyHears, TakesFromPage, Starts, Leaves}
 use Rattle.live_gateway.specs.declared.desk.Desk.{Desk}
 use Rattle.live_gateway.specs.declared.exchange.Exchange.{Exchange}

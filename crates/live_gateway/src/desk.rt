@@ -9,9 +9,9 @@ ghost use Rattle.plain_machine.specs.Lists.{plain};
 ghost use Rattle.gateway_core.specs.Changing.{Changes};
 ghost use Rattle.gateway_core.specs.Stands.{Stands};
 ghost use Rattle.live_journal.specs.Recording.{trace_head, Begins};
-ghost use Rattle.live_telephones.specs.Losses.{counts_text};
-ghost use Rattle.live_telephones.specs.Asking.{AsksFor};
-ghost use Rattle.live_telephones.specs.Watching.{IsUnwatched};
+ghost use Rattle.telephone_control.specs.Losses.{counts_text};
+ghost use Rattle.telephone_control.specs.Asking.{AsksFor};
+ghost use Rattle.telephone_control.specs.Watching.{IsUnwatched};
 ghost use Rattle.rgw_scripts.specs.declared.step.ScriptLine.{ScriptLine};
 ghost use Rattle.live_io.specs.Hearing.{AnswersTo};
 ghost use Rattle.live_gateway.specs.Desk.{at_desk, GoesOn};
@@ -33,7 +33,7 @@ use gateway_core::{DATAGRAM_ROOM, Gateway};
 use live_journal::{Recorder, Trace, report_with};
 use output_queues::{DONE, boxed};
 use live_play::LivePlay;
-use live_telephones::{
+use telephone_control::{
     PHONES_FROM_AFAR, TelephoneRequest, Watch, act_answer, all_shown, answer_put, lost_of,
     question_answer, request_in, short_answer, show, typist_of,
 };

@@ -16,7 +16,7 @@ use crate::exchange::Exchange;
 use crate::visitors::{Visitors, are_ready, next_deadline};
 use log_format::Note;
 use gateway_core::{SentMessage, TextOutcome};
-use live_telephones::take_act;
+use telephone_control::take_act;
 use small_rules::count;
 use std::alloc::Global;
 use std::net::SocketAddrV4;

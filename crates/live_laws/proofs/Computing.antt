@@ -1,6 +1,6 @@
 -- The definitions opened, so that worked examples compute.
 use Rattle.std.specs.Prelude.{⊤}
-use Rattle.live_telephones.proofs.Computing.{on_examples as telephone_examples}
+use Rattle.telephone_control.proofs.Computing.{on_examples as telephone_examples}
 use Rattle.mg_bytes.proofs.Computing.{on_examples as byte_examples}
 use Rattle.call_routing.specs.ReturnCodes.{row_in}
 use Rattle.call_routing.specs.Fates.{may_pass}

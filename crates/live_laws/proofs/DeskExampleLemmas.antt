@@ -19,11 +19,11 @@ use Rattle.live_io.specs.Speaking.{nobody, with_host}
 use Rattle.live_io.specs.Typing.{left_of}
 use Rattle.live_io.specs.declared.lines.Lines.{Lines}
 use Rattle.live_io.specs.declared.surroundings.Fault.{Fault}
-use Rattle.live_telephones.specs.Asking.{request_in, usage}
-use Rattle.live_telephones.specs.declared.telephones.TelephoneRequest.{TelephoneRequest}
-use Rattle.live_telephones.specs.declared.telephones.TelephoneRequest.TheVariants.{Counts, OutOfMemory}
-use Rattle.live_telephones.specs.declared.telephones.Typist.{Typist}
-use Rattle.live_telephones.specs.declared.watch.Watch.{Watch}
+use Rattle.telephone_control.specs.Asking.{request_in, usage}
+use Rattle.telephone_control.specs.declared.telephones.TelephoneRequest.{TelephoneRequest}
+use Rattle.telephone_control.specs.declared.telephones.TelephoneRequest.TheVariants.{Counts, OutOfMemory}
+use Rattle.telephone_control.specs.declared.telephones.Typist.{Typist}
+use Rattle.telephone_control.specs.declared.watch.Watch.{Watch}
 use Rattle.live_gateway.specs.declared.admission.Admission.{Admission}
 use Rattle.live_gateway.specs.declared.desk.Desk.{Desk}
 use Rattle.live_gateway.specs.declared.exchange.Exchange.{Exchange}

@@ -11,8 +11,8 @@ use Rattle.live_journal.specs.Capturing.{BeginsFile}
 use Rattle.live_journal.specs.Writing.{KeepsCapture}
 use Rattle.live_journal.specs.declared.capture.Capture.{Capture}
 use Rattle.live_journal.specs.declared.journal.Journal.{Journal}
-use Rattle.live_telephones.specs.Paging.{ShowsPage}
-use Rattle.live_telephones.specs.Picturing.{capture_written, files_written}
+use Rattle.telephone_control.specs.Paging.{ShowsPage}
+use Rattle.telephone_control.specs.Picturing.{capture_written, files_written}
 
 pub shows_and_counts_nothing : (gateway : GatewayState) (faults : Faults) (was is : Journal) → ShowsPage gateway faults 3 was is
     → is.tally ≡ was.tally

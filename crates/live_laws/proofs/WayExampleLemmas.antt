@@ -32,7 +32,7 @@ use Rattle.gateway_core.specs.Outgoing.{own_messages}
 use Rattle.live_play.specs.Running.{AreNoted, HandsEach}
 use Rattle.live_play.specs.Example.{says, lost_behind_one, loses_the_second, keeps}
 use Rattle.live_play.proofs.ExampleLemmas.{none_is_noted, lost_is_noted, alone}
-use Rattle.live_telephones.specs.Paging.{IsOf, ShowsOn, ShowsPage}
+use Rattle.telephone_control.specs.Paging.{IsOf, ShowsOn, ShowsPage}
 use Rattle.live_gateway.specs.Admitting.{is_heard, heard_of}
 use Rattle.live_gateway.specs.Exchanging.{received_by, read_at, faults_at, FoundSince}
 use Rattle.live_gateway.specs.Leaving.{TakesIf}

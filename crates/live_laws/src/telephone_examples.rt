@@ -33,12 +33,12 @@ ghost use Rattle.live_journal.specs.Reporting.{counts_with};
 ghost use Rattle.live_journal.specs.Writing.{capture_faults, IsWritten, KeepsCapture, KeepsLog};
 ghost use Rattle.live_journal.specs.declared.capture.Capture.{Capture};
 ghost use Rattle.live_journal.specs.declared.journal.Journal.{Journal};
-ghost use Rattle.live_telephones.specs.Losses.{lost_of_lines};
-ghost use Rattle.live_telephones.specs.Paging.{acts_of, IsSameBeside, ShowsOn, ShowsPage};
-ghost use Rattle.live_telephones.specs.Picturing.{capture_written, codes_from, files_written, verbs_from, with_numbers};
-ghost use Rattle.live_telephones.specs.Seeing.{highest_port, seen_of, seen_with};
-ghost use Rattle.live_telephones.specs.Viewing.{connections_in, signals_in};
-ghost use Rattle.live_telephones.specs.Watching.{changes_behind, lines_seen, TellsEach};
+ghost use Rattle.telephone_control.specs.Losses.{lost_of_lines};
+ghost use Rattle.telephone_control.specs.Paging.{acts_of, IsSameBeside, ShowsOn, ShowsPage};
+ghost use Rattle.telephone_control.specs.Picturing.{capture_written, codes_from, files_written, verbs_from, with_numbers};
+ghost use Rattle.telephone_control.specs.Seeing.{highest_port, seen_of, seen_with};
+ghost use Rattle.telephone_control.specs.Viewing.{connections_in, signals_in};
+ghost use Rattle.telephone_control.specs.Watching.{changes_behind, lines_seen, TellsEach};
 
 /// What wasn't seen before hasn't changed. Who has no place is told nothing, and so is nobody. Lines are seen from the first on, each as it
 /// is; one of which something can't be told isn't.

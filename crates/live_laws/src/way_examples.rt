@@ -30,7 +30,7 @@ ghost use Rattle.transmission.specs.declared.output.OutDatagram.{OutDatagram};
 ghost use Rattle.live_play.specs.Example.{says, loses_the_second, keeps};
 ghost use Rattle.live_play.specs.Running.{Live, sent_of, HandsBy, HandsFrom, TakesBy};
 ghost use Rattle.live_journal.specs.declared.journal.Journal.{Journal};
-ghost use Rattle.live_telephones.specs.Paging.{IsOf, TakesAct};
+ghost use Rattle.telephone_control.specs.Paging.{IsOf, TakesAct};
 ghost use Rattle.live_gateway.specs.declared.admission.Admission.{Admission};
 ghost use Rattle.live_gateway.specs.declared.desk.Desk.{Desk};
 ghost use Rattle.live_gateway.specs.declared.exchange.Exchange.{Exchange};

@@ -1,6 +1,6 @@
 use Rattle.std.proofs.Common.{◌≡◌, false, refl}
 use Rattle.turns.specs.Schedule.{opening}
-use Rattle.live_telephones.specs.Watching.{IsUnwatched}
+use Rattle.telephone_control.specs.Watching.{IsUnwatched}
 use Rattle.live_gateway.specs.Opening.{BeginsBoard, CountsNothing, IsUnused, IsUnplayed, IsUntyped}
 use Rattle.live_gateway.proofs.OpeningLemmas.{held_so}
 use Rattle.live_gateway.proofs.desk.open_desk.Goals as goal

@@ -4,7 +4,7 @@ use Rattle.live_io.specs.Typing.{v4_of}
 use Rattle.plain_machine.specs.Event.{GatewayEvent}
 use Rattle.plain_machine.specs.Lists.{plain}
 use Rattle.live_play.specs.Running.{lines_shown}
-use Rattle.live_telephones.specs.Losses.{counts_text}
+use Rattle.telephone_control.specs.Losses.{counts_text}
 use Rattle.live_gateway.proofs.AnsweringLemmas.{put_so, watch_so}
 use Rattle.live_gateway.proofs.desk.Desk.answer_request.Goals as goal
 

@@ -2,7 +2,7 @@ use Rattle.std.proofs.Common.{◌≡◌, [], inr, refl, ap}
 use Rattle.plain_machine.specs.Event.{phone}
 use Rattle.live_io.specs.Speaking.{admitted_by}
 use Rattle.live_play.specs.Coming.{Came}
-use Rattle.live_telephones.specs.declared.telephones.TelephoneRequest.TheVariants.{Act as AsksAct, Show}
+use Rattle.telephone_control.specs.declared.telephones.TelephoneRequest.TheVariants.{Act as AsksAct, Show}
 use Rattle.live_gateway.specs.Desk.{at_desk}
 use Rattle.live_gateway.specs.Exchanging.{handed_by}
 use Rattle.live_gateway.proofs.DeskLemmas.{stays_so, stays, changes_still, changes_asked, standing_of, counted_behind, acts, asks, untold_still}

@@ -3,7 +3,7 @@ use Rattle.plain_machine.specs.Event.{GatewayEvent}
 use Rattle.plain_machine.specs.Lists.{plain}
 use Rattle.gateway_core.specs.GatewayState.{GatewayState}
 use Rattle.gateway_core.specs.Stands.{Stands}
-use Rattle.live_telephones.specs.Paging.{ShowsPage}
+use Rattle.telephone_control.specs.Paging.{ShowsPage}
 use Rattle.live_gateway.proofs.FrameLemmas.{shown_alone, served_alone, with_exchange}
 use Rattle.live_gateway.proofs.desk.Desk.visit.Goals as goal
 

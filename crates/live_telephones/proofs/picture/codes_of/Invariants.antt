@@ -1,6 +1,0 @@
-use Rattle.std.proofs.Common.{◌≡◌, ◌++◌, drop}
-use Rattle.live_telephones.specs.Picturing.{codes_from}
-use Rattle.live_telephones.proofs.picture.codes_of.Given as goal
-
-abbrev pub invariant-loop-code : goal.invariant-loop-code
-invariant-loop-code l = l.views.items ++ codes_from l.code (drop l.code l.tally.sent.answers.items) ≡ codes_from 0 l.tally.sent.answers.items
