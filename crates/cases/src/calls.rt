@@ -12,7 +12,7 @@
 use crate::played::{settings_with, simulated};
 use gateway_core::Gateway;
 use mg_bytes::{OutOfMemory, Sequence};
-use rgw_scenes::{flaw_of, read_config, told, told_setup};
+use gateway_config::{flaw_of, read_config, told, told_setup};
 use scenario_files::{
     Outcome, Row, Scenario, TextDraft, WrittenScenario, number_in, parted, read_scenario, value_of,
 };

@@ -43,7 +43,7 @@ use live_journal::{Journal, Recorder, Trace};
 use mg_bytes::OutOfMemory;
 use traces::FirstNumber;
 use page_http::HostNames;
-use rgw_scenes::read_config;
+use gateway_config::read_config;
 use rgwd_words::{Settings, Start, hosts_in, speakers_in};
 use scenario_files::{Report, Titled};
 use std::alloc::{AllocError, Global};

@@ -1,13 +1,13 @@
 //! All flaws of a configuration.
 ghost use Rattle.std.specs.Prelude.{◌≡◌, is_some, IfOk, IfSome};
-ghost use Rattle.rgw_scenes.specs.Flaws.{flaw_of};
+ghost use Rattle.gateway_config.specs.Flaws.{flaw_of};
 ghost use Rattle.config_flaws.specs.Flaws.{NamesFile};
 
 use crate::judged::{KEYS, judged, judged_number, key_called, key_names};
 use log_format::{write_number, write_shown};
 use mg_bytes::{Draft, OutOfMemory};
 use plain_machine::ConfigKey;
-use rgw_scenes::{Flaw, flaw_of, told as first_told};
+use gateway_config::{Flaw, flaw_of, told as first_told};
 use std::alloc::{AllocError, Global};
 use toml::de::Error;
 use toml::{Table, Value};

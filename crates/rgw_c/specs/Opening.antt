@@ -6,8 +6,8 @@ use Rattle.rgw_scripts.specs.declared.played.PlayFault.TheVariants.{Config}
 use Rattle.rgw_scripts.specs.Configuration.{config_in}
 use Rattle.plain_machine.specs.Setup.{firsts}
 use Rattle.rgw_scripts.specs.Play.{scene_of, configured_from, largest_input}
-use Rattle.rgw_scenes.specs.declared.flaw.Flaw.{Flaw}
-use Rattle.rgw_scenes.specs.Wording.{Tells}
+use Rattle.gateway_config.specs.declared.flaw.Flaw.{Flaw}
+use Rattle.gateway_config.specs.Wording.{Tells}
 use Rattle.rgw_c.specs.declared.instance.Instance.{Instance}
 use Rattle.rgw_c.specs.declared.numbers.TheConstants.{TOO_LONG, IS_OPEN, BAD_FIRST}
 use Rattle.rgw_c.specs.Numbers.{config_fault_in}

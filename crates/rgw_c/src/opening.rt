@@ -5,8 +5,8 @@ ghost use Rattle.gateway_core.specs.Stands.{Stands};
 ghost use Rattle.rgw_scripts.specs.declared.step.ScriptStep.{ScriptStep};
 ghost use Rattle.rgw_scripts.specs.Configuration.{config_in};
 ghost use Rattle.rgw_scripts.specs.Play.{scene_of, configured_from, Explains};
-ghost use Rattle.rgw_scenes.specs.Flaws.{flaw_of};
-ghost use Rattle.rgw_scenes.specs.Wording.{Tells};
+ghost use Rattle.gateway_config.specs.Flaws.{flaw_of};
+ghost use Rattle.gateway_config.specs.Wording.{Tells};
 ghost use Rattle.rgw_c.specs.Opening.{Opened, Explained, WantsRoom, unread_number};
 ghost use Rattle.rgw_c.specs.Numbers.{is_read_number, is_told_number, is_checked_number};
 ghost use Rattle.rgw_c.specs.Telling.{open_number};
@@ -18,7 +18,7 @@ use crate::numbers::{
     config_number,
 };
 use gateway_core::{ConfigFault, FIRSTS, Gateway, Outputs};
-use rgw_scenes::{BAD_TOML, Flaw, flaw_of, read_config, told};
+use gateway_config::{BAD_TOML, Flaw, flaw_of, read_config, told};
 use rgw_scripts::{PlayFault, is_too_long};
 use small_rules::lacks_room;
 use std::alloc::Global;

@@ -1,7 +1,7 @@
 //! What an input says, and what is printed of a play: a configuration, the steps of a script, and what they show, as the status of a line.
 //!
 //! What the steps show is what the plain machine does (`plain_machine`); `rgw_play` plays them at a gateway. What a configuration says is
-//! defined here (`Configuration`). It is read from TOML in `rgw_scenes`, so that nothing that a crate above can name has a table of TOML in
+//! defined here (`Configuration`). It is read from TOML in `gateway_config`, so that nothing that a crate above can name has a table of TOML in
 //! it: a check loads all of what it has.
 //!
 //! It touches texts, and a gateway by its public calls alone. Scripts, traces, `rgwd` and the library for C stand on it.

@@ -8,7 +8,7 @@ use live_system::{CaptureFiles, CommonEnding, Live, open_capture};
 use output_queues::{Outlet, Outlets, boxed};
 use mg_bytes::Draft;
 use plain_machine::Setup;
-use rgw_scenes::told_setup;
+use gateway_config::told_setup;
 use std::alloc::{AllocError, Global};
 use std::io::{ErrorKind, Write};
 use std::net::{Net, SocketAddrV4};

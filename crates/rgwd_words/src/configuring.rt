@@ -8,7 +8,7 @@ use gateway_core::Gateway;
 use live_system::{CommonEnding, read_file};
 use output_queues::{Outlet, boxed};
 use plain_machine::Setup;
-use rgw_scenes::read_config;
+use gateway_config::read_config;
 use rgw_scripts::LIMIT;
 use std::alloc::{AllocError, Global};
 use std::io::Write;

@@ -5,7 +5,7 @@ use crate::verdict::{ReplayFault, Verdict};
 use gateway_core::{ConfigFault, Gateway};
 use mg_bytes::split_once;
 use crate::first_number::FirstNumber;
-use rgw_scenes::read_config;
+use gateway_config::read_config;
 use rgw_scripts::LIMIT;
 use std::alloc::Global;
 use std::io::{BufRead, ErrorKind, Read, Take};

@@ -6,7 +6,7 @@ use crate::boxing::in_box;
 use connections::Connection;
 use gateway_core::{ConfigFault, Event, Gateway, OutDatagram, Outputs, Refusal};
 use mg_bytes::OutOfMemory;
-use rgw_scenes::read_config;
+use gateway_config::read_config;
 use rgw_scripts::{ScriptFault, ScriptStep, is_too_long, parts_of, read_script};
 use scenario_files::{again, item_at};
 use std::alloc::{AllocError, Global};

@@ -1,6 +1,0 @@
-use Rattle.std.specs.Prelude.{codes}
-use Rattle.rgw_scenes.proofs.PieceLemmas.{behind}
-use Rattle.rgw_scenes.proofs.agents.put_port_up_to.Goals as goal
-
-pub returns : goal.returns
-returns c = behind _ (codes ", wanted a port from 1 to ") _ _ _ c.put.ensures c.write_number.ensures

@@ -1,5 +1,0 @@
-use Rattle.toml.proofs.Views.{table_get}
-use Rattle.rgw_scenes.proofs.settings.value_at.Goals as goal
-
-pub returns : goal.returns
-returns c = table_get c.get.result c.args.key.now c.args.table.now.entries c.get.ensures.value

@@ -1,6 +1,0 @@
-use Rattle.std.specs.Prelude.{codes}
-use Rattle.rgw_scenes.proofs.PieceLemmas.{behind}
-use Rattle.rgw_scenes.proofs.wording.put_unknown.Goals as goal
-
-pub returns : goal.returns
-returns c = behind _ (codes "unknown key ") _ _ _ c.put.ensures c.put_text.ensures
