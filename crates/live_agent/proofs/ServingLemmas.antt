@@ -4,8 +4,8 @@ use Rattle.std.specs.Prelude.{⊤, not, List, Option}
 use Rattle.agent_texts.specs.declared.journal.Journal.{Journal}
 use Rattle.live_io.specs.Around.{Around}
 use Rattle.live_io.specs.declared.surroundings.Fault.{Fault}
-use Rattle.switchboard.specs.declared.gateway.Gateway.{Gateway}
-use Rattle.switchboard.specs.declared.switchboard.Switchboard.{Switchboard}
+use Rattle.agent_gateways.specs.declared.gateway.Gateway.{Gateway}
+use Rattle.agent_gateways.specs.declared.switchboard.Switchboard.{Switchboard}
 use Rattle.turns.specs.Schedule.{opening}
 use Rattle.turns.specs.declared.schedule.Schedule.{Schedule}
 use Rattle.live_agent.specs.declared.wire.Wire.{Wire}

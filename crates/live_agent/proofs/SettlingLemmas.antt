@@ -1,8 +1,8 @@
 -- What it leaves of a board and of a wire that lines are settled, line by line.
 use Rattle.std.proofs.Common.{◌≡◌, ℕ, ◌+◌, zero, suc, Bool, true, false, refl, sym, subst, arith}
 use Rattle.live_io.specs.Around.{Around}
-use Rattle.switchboard.specs.declared.switchboard.Switchboard.{Switchboard}
-use Rattle.switchboard.specs.Boards.{settling_in}
+use Rattle.agent_gateways.specs.declared.switchboard.Switchboard.{Switchboard}
+use Rattle.agent_gateways.specs.Boards.{settling_in}
 use Rattle.live_agent.specs.declared.wire.Wire.{Wire}
 use Rattle.live_agent.specs.Sending.{SendsOver, SettlesLines}
 use Rattle.live_agent.specs.Settling.{SendsEach, SendsNext, SettlesAll, SettlesBy, SettlesNow, ShowsEach, ShowsOne}

@@ -2,12 +2,12 @@
 use Rattle.std.proofs.Common.{◌≡◌, ℕ, Bool, List, [], ◌∷◌, Option, sym, ap, ◌∙◌}
 use Rattle.std.specs.Global.{Box, Vec}
 use Rattle.mg_bytes.specs.Lines.{line_of}
-use Rattle.switchboard.specs.declared.gateway.Gateway.{Gateway}
+use Rattle.agent_gateways.specs.declared.gateway.Gateway.{Gateway}
 use Rattle.call_office.specs.declared.office.Office.{Office}
 use Rattle.live_agent.specs.declared.session.Request.{Request}
 use Rattle.live_agent.specs.declared.session.Request.TheVariants.{Nothing}
-use Rattle.switchboard.specs.declared.switchboard.Switchboard.{Switchboard}
-use Rattle.switchboard.specs.GivingUp.{GivesUp}
+use Rattle.agent_gateways.specs.declared.switchboard.Switchboard.{Switchboard}
+use Rattle.agent_gateways.specs.GivingUp.{GivesUp}
 use Rattle.live_agent.specs.Sending.{SettlesLines}
 use Rattle.live_agent.specs.Turning.{line_request, first_request}
 

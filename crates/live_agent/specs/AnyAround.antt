@@ -4,7 +4,7 @@ use Rattle.agent_texts.specs.declared.journal.Journal.{Journal}
 use Rattle.live_io.specs.Around.{Around, unasked}
 use Rattle.live_io.specs.declared.surroundings.Fault.{Fault}
 use Rattle.output_queues.specs.declared.written.Written.{Written}
-use Rattle.switchboard.specs.declared.switchboard.Switchboard.{Switchboard}
+use Rattle.agent_gateways.specs.declared.switchboard.Switchboard.{Switchboard}
 use Rattle.live_agent.specs.declared.wire.Wire.{Wire}
 
 -- that tell 7 for the time of day, wait, and become how long that was at most

@@ -15,17 +15,17 @@ use Rattle.live_io.specs.Around.{Around}
 use Rattle.live_io.specs.declared.surroundings.Fault.{Fault}
 use Rattle.transmission.specs.declared.output.OutDatagram.{OutDatagram}
 use Rattle.transmission.specs.Texts.{texts_of}
-use Rattle.switchboard.specs.declared.switchboard.Switchboard.{Switchboard}
+use Rattle.agent_gateways.specs.declared.switchboard.Switchboard.{Switchboard}
 use Rattle.live_agent.specs.declared.session.TheConstants.{ROOM}
 use Rattle.live_agent.specs.declared.wire.Wire.{Wire}
-use Rattle.switchboard.specs.Boards.{is_at, taking_in}
-use Rattle.switchboard.specs.Hearing.{HearsText}
+use Rattle.agent_gateways.specs.Boards.{is_at, taking_in}
+use Rattle.agent_gateways.specs.Hearing.{HearsText}
 use Rattle.live_agent.specs.Handing.{HandsOver, OffersTo}
 use Rattle.live_agent.specs.Sending.{SendsOver, SendsOutputs}
 use Rattle.live_agent.specs.Settling.{SettlesAll}
-use Rattle.switchboard.specs.Steps.{AtPlace, OthersStay, Refuses, WaitsIn}
-use Rattle.switchboard.specs.Taking.{taken_place, TakesOf}
-use Rattle.switchboard.specs.Tallying.{counted_if}
+use Rattle.agent_gateways.specs.Steps.{AtPlace, OthersStay, Refuses, WaitsIn}
+use Rattle.agent_gateways.specs.Taking.{taken_place, TakesOf}
+use Rattle.agent_gateways.specs.Tallying.{counted_if}
 use Rattle.live_agent.specs.Tallying.{looked_counted, OnlyCounts, OnlyNotes, OnlyRecords, OnlyTells}
 use Rattle.call_office.specs.Waiting.{Settles}
 use Rattle.live_agent.specs.Wiring.{heard_at, read_at}

@@ -8,7 +8,7 @@ use Rattle.impairment.specs.declared.packet.Way.TheVariants.{Out}
 use Rattle.machine_rules.specs.declared.refusal.Refusal.{Refusal}
 use Rattle.live_io.specs.Around.{Around}
 use Rattle.transmission.specs.declared.output.OutDatagram.{OutDatagram}
-use Rattle.switchboard.specs.declared.switchboard.Switchboard.{Switchboard}
+use Rattle.agent_gateways.specs.declared.switchboard.Switchboard.{Switchboard}
 use Rattle.live_agent.specs.declared.wire.Wire.{Wire}
 use Rattle.live_agent.specs.Handing.{Leaves, OffersTo}
 use Rattle.live_agent.specs.Tallying.{with_command, with_refusal, CountsSent, OnlyCounts, OnlyNotes, OnlyRecords}

@@ -4,10 +4,10 @@ use Rattle.call_agent.specs.declared.issuing.Issued.{Issued}
 use Rattle.call_agent.specs.declared.issuing.IssueFault.{IssueFault}
 use Rattle.call_office.specs.Showing.{ShowsIn}
 use Rattle.live_io.specs.Around.{Around}
-use Rattle.switchboard.specs.declared.switchboard.Switchboard.{Switchboard}
-use Rattle.switchboard.specs.Boards.{settling_in, SettlesIn}
-use Rattle.switchboard.specs.Issuing.{IssuesSettled, SendsAtMost}
-use Rattle.switchboard.specs.Steps.{settled_in, IssuesAt, ToldAt}
+use Rattle.agent_gateways.specs.declared.switchboard.Switchboard.{Switchboard}
+use Rattle.agent_gateways.specs.Boards.{settling_in, SettlesIn}
+use Rattle.agent_gateways.specs.Issuing.{IssuesSettled, SendsAtMost}
+use Rattle.agent_gateways.specs.Steps.{settled_in, IssuesAt, ToldAt}
 use Rattle.live_agent.specs.declared.wire.Wire.{Wire}
 use Rattle.live_agent.specs.Sending.{SendsCommand, SendsOver, SettlesLines}
 use Rattle.live_agent.specs.Tallying.{with_refusal}

@@ -9,12 +9,12 @@ use Rattle.machine_rules.specs.declared.refusal.Refusal.{Refusal}
 use Rattle.plain_machine.specs.Event.{tick}
 use Rattle.live_io.specs.Around.{Around}
 use Rattle.transmission.specs.declared.output.OutDatagram.{OutDatagram}
-use Rattle.switchboard.specs.declared.switchboard.Switchboard.{Switchboard}
-use Rattle.switchboard.specs.AgentClock.{tick_to}
-use Rattle.switchboard.specs.Boards.{woken_at, WakesIn}
-use Rattle.switchboard.specs.GivingUp.{ended_in, GivesUp}
-use Rattle.switchboard.specs.Steps.{AtPlace, InOffice, LinesWaitOn, OthersStay, Refuses, Ticks, Wakens}
-use Rattle.switchboard.specs.Tallying.{counted_if}
+use Rattle.agent_gateways.specs.declared.switchboard.Switchboard.{Switchboard}
+use Rattle.agent_gateways.specs.AgentClock.{tick_to}
+use Rattle.agent_gateways.specs.Boards.{woken_at, WakesIn}
+use Rattle.agent_gateways.specs.GivingUp.{ended_in, GivesUp}
+use Rattle.agent_gateways.specs.Steps.{AtPlace, InOffice, LinesWaitOn, OthersStay, Refuses, Ticks, Wakens}
+use Rattle.agent_gateways.specs.Tallying.{counted_if}
 use Rattle.live_agent.specs.declared.wire.TheConstants.{MOST_AT_ONCE}
 use Rattle.live_agent.specs.declared.wire.Wire.{Wire}
 use Rattle.live_agent.specs.Clock.{is_behind}

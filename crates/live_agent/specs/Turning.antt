@@ -24,8 +24,8 @@ use Rattle.log_format.specs.Pausing.{pause_line}
 use Rattle.live_system.specs.Waiting.{longest_wait}
 use Rattle.live_agent.specs.declared.session.Request.{Request}
 use Rattle.live_agent.specs.declared.session.Request.TheVariants.{Nothing, Counts, Stop, StopFromAfar, Command}
-use Rattle.switchboard.specs.declared.gateway.Gateway.{Gateway}
-use Rattle.switchboard.specs.declared.switchboard.Switchboard.{Switchboard}
+use Rattle.agent_gateways.specs.declared.gateway.Gateway.{Gateway}
+use Rattle.agent_gateways.specs.declared.switchboard.Switchboard.{Switchboard}
 use Rattle.live_agent.specs.declared.wire.Wire.{Wire}
 use Rattle.live_agent.specs.Ending.{counted_in}
 use Rattle.live_agent.specs.Clock.{is_behind}

@@ -6,13 +6,13 @@ use Rattle.call_agent.specs.declared.issuing.Issued.{Issued}
 use Rattle.live_io.specs.Around.{Around}
 use Rattle.live_io.specs.Hearing.{AnswersTo}
 use Rattle.live_io.specs.Typing.{left_of}
-use Rattle.switchboard.specs.declared.switchboard.Switchboard.{Switchboard}
-use Rattle.switchboard.specs.declared.typed.TypedFault.{TypedFault}
-use Rattle.switchboard.specs.declared.typed.TypedFault.TheVariants.{OutOfMemory, NoMoreIds, BadCommand, NoSuchGateway, Unknown}
+use Rattle.agent_gateways.specs.declared.switchboard.Switchboard.{Switchboard}
+use Rattle.agent_gateways.specs.declared.typed.TypedFault.{TypedFault}
+use Rattle.agent_gateways.specs.declared.typed.TypedFault.TheVariants.{OutOfMemory, NoMoreIds, BadCommand, NoSuchGateway, Unknown}
 use Rattle.live_agent.specs.declared.wire.Wire.{Wire}
 use Rattle.live_agent.specs.Sending.{SendsCommand}
-use Rattle.switchboard.specs.Typed.{typed_text}
-use Rattle.switchboard.specs.TypedCommands.{IssuesTyped}
+use Rattle.agent_gateways.specs.Typed.{typed_text}
+use Rattle.agent_gateways.specs.TypedCommands.{IssuesTyped}
 
 abbrev pub fault_text : TypedFault → List ℕ
 fault_text OutOfMemory = codes "! 1 OutOfMemory\n"

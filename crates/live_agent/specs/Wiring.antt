@@ -16,10 +16,10 @@ use Rattle.turns.specs.declared.circle.Ready.{Ready}
 use Rattle.turns.specs.declared.schedule.Schedule.{Schedule}
 use Rattle.turns.specs.declared.situation.Situation.{Situation}
 use Rattle.turns.specs.declared.turn.Turn.{Turn}
-use Rattle.switchboard.specs.declared.gateway.Gateway.{Gateway}
-use Rattle.switchboard.specs.declared.switchboard.Switchboard.{Switchboard}
+use Rattle.agent_gateways.specs.declared.gateway.Gateway.{Gateway}
+use Rattle.agent_gateways.specs.declared.switchboard.Switchboard.{Switchboard}
 use Rattle.live_agent.specs.declared.wire.Wire.{Wire}
-use Rattle.switchboard.specs.Dues.{FallsDue}
+use Rattle.agent_gateways.specs.Dues.{FallsDue}
 
 -- one more; a number of 64 bits goes no further than its last
 abbrev pub one_more : ℕ → ℕ

@@ -29,19 +29,19 @@ ghost use Rattle.turns.specs.declared.schedule.Schedule.{Schedule};
 ghost use Rattle.turns.specs.declared.turn.Pause.{Pause};
 ghost use Rattle.mg_bytes.specs.Lines.{cut, line_of};
 ghost use Rattle.output_queues.specs.declared.written.Written.{Written};
-ghost use Rattle.switchboard.specs.declared.gateway.Gateway.{Gateway};
+ghost use Rattle.agent_gateways.specs.declared.gateway.Gateway.{Gateway};
 ghost use Rattle.live_agent.specs.declared.session.Request.TheVariants as requests;
-ghost use Rattle.switchboard.specs.declared.switchboard.Switchboard.{Switchboard};
+ghost use Rattle.agent_gateways.specs.declared.switchboard.Switchboard.{Switchboard};
 ghost use Rattle.live_agent.specs.declared.wire.Wire.{Wire};
 ghost use Rattle.live_agent.specs.Clock.{is_behind};
 ghost use Rattle.live_agent.specs.Clock.{milliseconds};
 ghost use Rattle.live_agent.specs.Datagrams.{with_stranger, DealsIf, HearsBy, HearsDatagram, HearsOne, HearsPacket, HearsTexts, SettlesIf, StepsAt, TakesEach, TakesElse, TakesFound, TakesLooked, TakesNext, TakesReceived};
-ghost use Rattle.switchboard.specs.Hearing.{HearsText};
-ghost use Rattle.switchboard.specs.Dues.{FallsDueAt};
-ghost use Rattle.switchboard.specs.Example.{HasAgent};
-ghost use Rattle.switchboard.specs.Opening.{gateways_from, known_as, BoardOf};
-ghost use Rattle.switchboard.specs.Steps.{settled_in, WaitsIn};
-ghost use Rattle.switchboard.specs.Taking.{taken_place};
+ghost use Rattle.agent_gateways.specs.Hearing.{HearsText};
+ghost use Rattle.agent_gateways.specs.Dues.{FallsDueAt};
+ghost use Rattle.agent_gateways.specs.Example.{HasAgent};
+ghost use Rattle.agent_gateways.specs.Opening.{gateways_from, known_as, BoardOf};
+ghost use Rattle.agent_gateways.specs.Steps.{settled_in, WaitsIn};
+ghost use Rattle.agent_gateways.specs.Taking.{taken_place};
 ghost use Rattle.live_agent.specs.declared.wire.TheConstants.{MOST_AT_ONCE};
 ghost use Rattle.live_agent.specs.AnyAround.{anywhere, ends_any, serves_any, serves_never, writes_any, writes_nothing};
 ghost use Rattle.live_agent.specs.Ending.{counted_in, EndsWith, WritesAndEnds};
@@ -52,13 +52,13 @@ ghost use Rattle.live_agent.specs.Settling.{SendsEach, SendsIssued, SendsNext, S
 ghost use Rattle.live_agent.specs.Tallying.{leaving_counted, with_receive_fault, with_refusal, with_send_fault, OnlyCounts, OnlyNotes, OnlyRecords, OnlyTells, OnlyTellsAndNotes};
 ghost use Rattle.live_agent.specs.Ticking.{GivesUpEach, GivesUpMany, GivesUpNext, TicksEach, TicksOne, WakesEach, WakesMany};
 ghost use Rattle.live_agent.specs.Turning.{DoesNext, line_request, first_request, DoesRequest, DoesTurn, Notes, TellsCounts, TickedOver, Waits, WaitsUntil};
-ghost use Rattle.switchboard.specs.Typed.{typed_text};
-ghost use Rattle.switchboard.specs.TypedCommands.{IssuesCommand, IssuesMeant, IssuesThere};
+ghost use Rattle.agent_gateways.specs.Typed.{typed_text};
+ghost use Rattle.agent_gateways.specs.TypedCommands.{IssuesCommand, IssuesMeant, IssuesThere};
 ghost use Rattle.live_agent.specs.TypedCommands.{fault_text, issued_text, TellsIssued, AnswersAll, AnswersIssued, IsTypedNext};
 ghost use Rattle.live_agent.specs.Wiring.{longest_until, FallsDueFirst, IsWaitedFor, SpoilsSo};
 
 use live_system::CommonEnding;
-use switchboard::TypedFault;
+use agent_gateways::TypedFault;
 use turns::Turn;
 
 /// What is waited for, and how long.

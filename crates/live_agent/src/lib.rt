@@ -1,7 +1,7 @@
 //! A call agent on a live network: what the program `rgca` serves.
 //!
 //! Behind one socket is an agent for each gateway, which issues what is typed at a socket for commands. Where that is asked for,
-//! calls are routed between the lines of all gateways, and a bad network lies between. The desk (`switchboard`), the gateways and their
+//! calls are routed between the lines of all gateways, and a bad network lies between. The desk (`agent_gateways`), the gateways and their
 //! lines, what is typed for them, and the calls that are routed, has neither a socket nor a clock: who has these says what came and what
 //! moment it is, and sends what is to be sent. That is the loop (`session`), which asks what comes next and does that.
 #![tactic(auto)]

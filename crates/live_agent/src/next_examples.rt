@@ -2,7 +2,7 @@
 #![tactic(auto)]
 
 ghost use Rattle.std.specs.Prelude.{◌≡◌, ℕ, true, false, Ok};
-ghost use Rattle.switchboard.specs.declared.switchboard.Switchboard.{Switchboard};
+ghost use Rattle.agent_gateways.specs.declared.switchboard.Switchboard.{Switchboard};
 ghost use Rattle.turns.specs.Schedule.{next_of};
 ghost use Rattle.turns.specs.declared.schedule.Schedule.{Schedule};
 ghost use Rattle.live_agent.specs.declared.wire.Wire.{Wire};

@@ -9,7 +9,7 @@ ghost use Rattle.live_agent.specs.Wiring.{SpoilsSo};
 ghost use Rattle.output_queues.specs.Recording.{state_when};
 ghost use Rattle.output_queues.specs.declared.record.RecordState.TheVariants as states;
 ghost use Rattle.live_io.specs.Typing.{left_of};
-ghost use Rattle.switchboard.specs.Opening.{BoardOf};
+ghost use Rattle.agent_gateways.specs.Opening.{BoardOf};
 
 use crate::recorder::{Recorder, Recording};
 use crate::session::serve;
@@ -27,7 +27,7 @@ use std::net::{Net, SocketAddrV4};
 use std::rt::{Clock, Files};
 use std::time::Instant;
 use live_io::Surroundings;
-use switchboard::Switchboard;
+use agent_gateways::Switchboard;
 
 // Microseconds in a millisecond.
 const MICROSECONDS: u64 = 1000;

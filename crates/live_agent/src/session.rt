@@ -24,7 +24,7 @@ use plain_machine::{Outputs, Refusal};
 use std::alloc::Global;
 use std::net::SocketAddrV4;
 use live_io::{Fault, Lines, Surroundings};
-use switchboard::{Switchboard, TypedFault, typed_text};
+use agent_gateways::{Switchboard, TypedFault, typed_text};
 use transmission::texts;
 use turns::{Ready, Schedule, Situation, Turn, earlier};
 

@@ -6,9 +6,9 @@ use Rattle.call_agent.specs.declared.issuing.Issued.{Issued}
 use Rattle.mg_bytes.specs.Lines.{cut}
 use Rattle.live_io.specs.Around.{Around}
 use Rattle.live_io.specs.Hearing.{AnswersTo}
-use Rattle.switchboard.specs.declared.switchboard.Switchboard.{Switchboard}
-use Rattle.switchboard.specs.declared.typed.TypedFault.{TypedFault}
-use Rattle.switchboard.specs.declared.typed.TypedFault.TheVariants.{OutOfMemory, Unknown}
+use Rattle.agent_gateways.specs.declared.switchboard.Switchboard.{Switchboard}
+use Rattle.agent_gateways.specs.declared.typed.TypedFault.{TypedFault}
+use Rattle.agent_gateways.specs.declared.typed.TypedFault.TheVariants.{OutOfMemory, Unknown}
 use Rattle.live_agent.specs.AnyAround.{anywhere}
 use Rattle.live_agent.specs.TypedCommands.{fault_text, issued_text, AnswersAll, AnswersCommand, AnswersIssued}
 use Rattle.live_agent.specs.declared.wire.Wire.{Wire}

@@ -6,10 +6,10 @@ use Rattle.mg_bytes.specs.Lines.{cut, line_of}
 use Rattle.live_io.specs.Around.{Around}
 use Rattle.live_io.specs.Hearing.{AnswersTo}
 use Rattle.live_io.specs.Typing.{left_of}
-use Rattle.switchboard.specs.Typed.{typed_text}
-use Rattle.switchboard.specs.declared.switchboard.Switchboard.{Switchboard}
-use Rattle.switchboard.specs.declared.typed.TypedFault.{TypedFault}
-use Rattle.switchboard.specs.declared.typed.TypedFault.TheVariants.{OutOfMemory, Unknown}
+use Rattle.agent_gateways.specs.Typed.{typed_text}
+use Rattle.agent_gateways.specs.declared.switchboard.Switchboard.{Switchboard}
+use Rattle.agent_gateways.specs.declared.typed.TypedFault.{TypedFault}
+use Rattle.agent_gateways.specs.declared.typed.TypedFault.TheVariants.{OutOfMemory, Unknown}
 use Rattle.live_agent.specs.AnyAround.{anywhere}
 use Rattle.live_agent.specs.TypedCommands.{fault_text, AnswersAll, AnswersCommand, AnswersIssued, DoesCommand, IsTypedNext}
 use Rattle.live_agent.specs.declared.wire.Wire.{Wire}

@@ -3,8 +3,8 @@ use Rattle.std.specs.Prelude.{is_some}
 use Rattle.agent_config.specs.declared.config.AgentConfig.{AgentConfig}
 use Rattle.live_system.specs.declared.ending.CommonEnding.{CommonEnding}
 use Rattle.live_system.specs.declared.ending.CommonEnding.TheVariants.{OutOfMemory}
-use Rattle.switchboard.specs.Opening.{BoardOf}
-use Rattle.switchboard.specs.declared.switchboard.Switchboard.{Switchboard}
+use Rattle.agent_gateways.specs.Opening.{BoardOf}
+use Rattle.agent_gateways.specs.declared.switchboard.Switchboard.{Switchboard}
 use Rattle.live_agent.specs.AnyAround.{ends_any, serves_any, serves_never, writes_any}
 use Rattle.live_agent.specs.Clock.{milliseconds}
 use Rattle.live_agent.specs.Serving.{ServesOver}

@@ -1,13 +1,13 @@
 use Rattle.std.proofs.Common.{◌≡◌, ℕ, Bool, List, [], Option, Result, Ok, ap, subst, ◌∙◌}
 use Rattle.std.specs.Prelude.{IfNone, IfSome, slice_get}
-use Rattle.switchboard.specs.Steps.{WaitsIn}
+use Rattle.agent_gateways.specs.Steps.{WaitsIn}
 use Rattle.std.specs.declared.net.socket_addr.SocketAddrV4.{SocketAddrV4}
 use Rattle.agent_texts.specs.declared.journal.Journal.{Journal}
 use Rattle.agent_texts.specs.Counts.{with_notification}
 use Rattle.live_io.specs.declared.surroundings.Fault.{Fault}
-use Rattle.switchboard.specs.declared.gateway.Gateway.{Gateway}
-use Rattle.switchboard.specs.declared.switchboard.Switchboard.{Switchboard}
-use Rattle.switchboard.specs.Tallying.{counted_if}
+use Rattle.agent_gateways.specs.declared.gateway.Gateway.{Gateway}
+use Rattle.agent_gateways.specs.declared.switchboard.Switchboard.{Switchboard}
+use Rattle.agent_gateways.specs.Tallying.{counted_if}
 use Rattle.live_agent.specs.Wiring.{read_at}
 use Rattle.live_agent.specs.declared.wire.Wire.{Wire}
 use Rattle.live_agent.proofs.desk_examples.what_a_datagram_does_has_examples.Goals as goal

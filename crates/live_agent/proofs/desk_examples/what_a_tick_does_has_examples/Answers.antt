@@ -5,10 +5,10 @@ use Rattle.call_agent.specs.Flying.{first_flight}
 use Rattle.call_agent.specs.Hearing.{AgentEnds, plain_agent}
 use Rattle.machine_rules.specs.declared.refusal.Refusal.{Refusal}
 use Rattle.plain_machine.specs.Event.{tick}
-use Rattle.switchboard.specs.declared.gateway.Gateway.{Gateway}
-use Rattle.switchboard.specs.AgentClock.{tick_to}
-use Rattle.switchboard.specs.Steps.{AtPlace, Refuses}
-use Rattle.switchboard.proofs.StepExampleLemmas.{agent_ended}
+use Rattle.agent_gateways.specs.declared.gateway.Gateway.{Gateway}
+use Rattle.agent_gateways.specs.AgentClock.{tick_to}
+use Rattle.agent_gateways.specs.Steps.{AtPlace, Refuses}
+use Rattle.agent_gateways.proofs.StepExampleLemmas.{agent_ended}
 use Rattle.live_agent.proofs.desk_examples.what_a_tick_does_has_examples.Goals as goal
 
 -- so the first agent's clock is refused, or isn't

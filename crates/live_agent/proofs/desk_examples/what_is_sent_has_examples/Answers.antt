@@ -4,7 +4,7 @@ use Rattle.std.specs.declared.net.socket_addr.SocketAddrV4.{SocketAddrV4}
 use Rattle.agent_texts.specs.declared.journal.Journal.{Journal}
 use Rattle.impairment.specs.declared.network.BadNetwork.{BadNetwork}
 use Rattle.live_io.specs.declared.surroundings.Fault.{Fault}
-use Rattle.switchboard.specs.Issuing.{IssuesSettled}
+use Rattle.agent_gateways.specs.Issuing.{IssuesSettled}
 use Rattle.live_agent.specs.declared.wire.Wire.{Wire}
 use Rattle.live_agent.specs.AnyAround.{anywhere}
 use Rattle.live_agent.specs.Handing.{Leaves}

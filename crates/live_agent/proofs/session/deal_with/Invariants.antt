@@ -1,5 +1,5 @@
 use Rattle.transmission.specs.Texts.{texts_of}
-use Rattle.switchboard.specs.declared.switchboard.Switchboard.{Switchboard}
+use Rattle.agent_gateways.specs.declared.switchboard.Switchboard.{Switchboard}
 use Rattle.live_agent.specs.declared.wire.Wire.{Wire}
 use Rattle.live_agent.specs.Datagrams.{HearsTexts}
 use Rattle.live_agent.proofs.session.deal_with.Given as goal

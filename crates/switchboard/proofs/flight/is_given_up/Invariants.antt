@@ -1,6 +1,0 @@
-use Rattle.std.proofs.Common.{◌≡◌, ◌-◌}
-use Rattle.switchboard.specs.Flights.{most_steps, falls}
-use Rattle.switchboard.proofs.flight.is_given_up.Given as goal
-
-abbrev pub invariant-loop : goal.invariant-loop
-invariant-loop l = falls (most_steps - l.counter) l.pending l.moment ≡ falls most_steps l.fn.pending l.moment

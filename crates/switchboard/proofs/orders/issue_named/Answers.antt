@@ -1,9 +1,0 @@
-use Rattle.std.proofs.Common.{refl}
-use Rattle.call_agent.specs.declared.issuing.IssueFault.TheVariants.{OutOfMemory}
-use Rattle.switchboard.proofs.CopyLemmas.{as_it_was}
-use Rattle.switchboard.proofs.IssueLemmas.{for_memory}
-use Rattle.switchboard.proofs.orders.issue_named.Goals as goal
-
-pub returns-in_default-clause-issues : goal.returns-in_default-clause-issues
-returns-in_default-clause-issues c =
-    ((OutOfMemory, refl, λ events stands. for_memory _), as_it_was c.args.gateway.now.agent.value, refl)

@@ -1,6 +1,0 @@
-use Rattle.switchboard.proofs.CopyLemmas.{repeats_so}
-use Rattle.switchboard.proofs.own_copy.OwnCopy.repeat.Goals as goal
-
-pub returns-clause-kept : goal.returns-clause-kept
-returns-clause-kept c =
-    repeats_so c.self.inside.id c.self.inside.text c.self.inside.timing _ c.args.self.now c.args.moment c.self.view_is c.repeat.ensures.kept
