@@ -1,7 +1,7 @@
 -- The definitions opened, so that worked examples compute.
 use Rattle.std.specs.Prelude.{⊤}
 use Rattle.retransmission.proofs.Computing.{on_examples as send_examples}
-use Rattle.call_office.proofs.Computing.{on_examples as office_examples}
+use Rattle.line_control.proofs.Computing.{on_examples as office_examples}
 use Rattle.agent_gateways.specs.Ended.{ended_of}
 use Rattle.agent_gateways.specs.Flights.{falls}
 use Rattle.agent_gateways.specs.Steps.{cares_announced, exchange_announced}

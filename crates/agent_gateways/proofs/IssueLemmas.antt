@@ -10,11 +10,11 @@ use Rattle.call_agent.specs.Hearing.{issues}
 use Rattle.call_agent.specs.Issuing.{IssueRefusal, no_more_ids, bad_command}
 use Rattle.agent_gateways.specs.declared.gateway.Gateway.{Gateway}
 use Rattle.std.specs.Global.{Box}
-use Rattle.call_office.specs.declared.office.Office.{Office}
+use Rattle.line_control.specs.declared.office.Office.{Office}
 use Rattle.agent_gateways.specs.declared.switchboard.Switchboard.{Switchboard}
 use Rattle.agent_gateways.specs.Issuing.{ordered_in, Fails, FailsBy, Flies, IssuesOrder, IssuesSettled, IssuesTo, IssuesUnder, RefusedBefore, SendsAlone, SendsAtMost}
 use Rattle.agent_gateways.specs.Steps.{Issues, IssuesAt, WaitsBehind}
-use Rattle.call_office.specs.Orders.{Shown}
+use Rattle.line_control.specs.Orders.{Shown}
 
 -- a command was issued under a name with what stands behind its line, by these texts; or it wasn't
 pub issued_under : (name rest given left : List ℕ) (verb : List ℕ) (line : ℕ) (result : Result Issued IssueFault) (was is : Gateway)

@@ -6,9 +6,9 @@ use Rattle.endpoint_names.specs.declared.name.Pattern.{Pattern}
 use Rattle.endpoint_names.specs.declared.name.Pattern.TheVariants.{One}
 use Rattle.call_routing.specs.Exchange.{ExchangeState, phase_of}
 use Rattle.call_routing.specs.Phases.{named_by}
-use Rattle.call_office.specs.declared.office.Office.{Office}
-use Rattle.call_office.specs.Waiting.{IsWaiting, Touches, WaitOn}
-use Rattle.call_office.proofs.WaitingLemmas.{still_named, waited_on}
+use Rattle.line_control.specs.declared.office.Office.{Office}
+use Rattle.line_control.specs.Waiting.{IsWaiting, Touches, WaitOn}
+use Rattle.line_control.proofs.WaitingLemmas.{still_named, waited_on}
 use Rattle.agent_gateways.specs.Steps.{exchange_announced, has_line, is_meant, line_behind, TouchesIf, TouchesMeant}
 use Rattle.agent_gateways.proofs.AnnounceLemmas.{exchange_before}
 

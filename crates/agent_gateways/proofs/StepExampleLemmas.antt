@@ -9,13 +9,13 @@ use Rattle.call_agent.specs.Agent.{AgentMachine}
 use Rattle.call_agent.specs.Flying.{first_flight, if_due}
 use Rattle.call_agent.specs.Hearing.{AgentEnds}
 use Rattle.call_routing.specs.Exchange.{ExchangeState}
-use Rattle.call_office.specs.declared.care.Care.{Care}
+use Rattle.line_control.specs.declared.care.Care.{Care}
 use Rattle.agent_gateways.specs.declared.gateway.Gateway.{Gateway}
 use Rattle.agent_gateways.specs.declared.gateway.Wake.{Wake}
-use Rattle.call_office.specs.declared.office.Office.{Office}
+use Rattle.line_control.specs.declared.office.Office.{Office}
 use Rattle.agent_gateways.specs.Boards.{Answers, Holds}
-use Rattle.call_office.specs.Orders.{again_of, is_outlived}
-use Rattle.call_office.specs.Turns.{TakesAnswer}
+use Rattle.line_control.specs.Orders.{again_of, is_outlived}
+use Rattle.line_control.specs.Turns.{TakesAnswer}
 use Rattle.agent_gateways.specs.Wakes.{behind_woken}
 
 abbrev pub AnswersAt : ℕ → ℕ → ℕ → List ℕ → ExchangeState → List Care → List Wake → ExchangeState → List Care → List Wake → Type 0

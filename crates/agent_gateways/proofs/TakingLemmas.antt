@@ -4,8 +4,8 @@ use Rattle.std.specs.Prelude.{not, ◌==◌, slice_get, IfSome}
 use Rattle.std.specs.Global.{Box}
 use Rattle.packages.specs.declared.observed.Observed.{Observed}
 use Rattle.call_routing.specs.Numbers.{told_in, tells_digits}
-use Rattle.call_office.specs.declared.office.Office.{Office}
-use Rattle.call_office.specs.Steps.{HearsSome}
+use Rattle.line_control.specs.declared.office.Office.{Office}
+use Rattle.line_control.specs.Steps.{HearsSome}
 use Rattle.agent_gateways.specs.declared.gateway.Gateway.{Gateway}
 use Rattle.agent_gateways.specs.declared.switchboard.Switchboard.{Switchboard}
 use Rattle.agent_gateways.specs.Steps.{OfOffice, WaitsIn}

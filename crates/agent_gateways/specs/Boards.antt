@@ -3,15 +3,15 @@ use Rattle.std.specs.Prelude.{◌≡◌, ◌⊎◌, ℕ, Bool, true, List, [], �
 use Rattle.std.specs.Global.{Box}
 use Rattle.std.specs.declared.net.socket_addr.SocketAddrV4.{SocketAddrV4}
 use Rattle.transmission.specs.Packing.{same_address}
-use Rattle.call_office.specs.declared.care.Care.{Care}
+use Rattle.line_control.specs.declared.care.Care.{Care}
 use Rattle.agent_gateways.specs.declared.gateway.Gateway.{Gateway}
 use Rattle.agent_gateways.specs.declared.gateway.Wake.{Wake}
-use Rattle.call_office.specs.declared.office.Office.{Office}
-use Rattle.call_office.specs.declared.worklist.Worklist.{Worklist}
-use Rattle.call_office.specs.Duties.{woken}
-use Rattle.call_office.specs.Orders.{again_of, cared, is_outlived}
-use Rattle.call_office.specs.Turns.{TakesAnswer}
-use Rattle.call_office.specs.Waiting.{waits, settling, Settles}
+use Rattle.line_control.specs.declared.office.Office.{Office}
+use Rattle.line_control.specs.declared.worklist.Worklist.{Worklist}
+use Rattle.line_control.specs.Duties.{woken}
+use Rattle.line_control.specs.Orders.{again_of, cared, is_outlived}
+use Rattle.line_control.specs.Turns.{TakesAnswer}
+use Rattle.line_control.specs.Waiting.{waits, settling, Settles}
 use Rattle.agent_gateways.specs.Wakes.{first_woken}
 
 -- the gateway is at this address

@@ -3,11 +3,11 @@ use Rattle.std.specs.Prelude.{◌≡◌, ℕ, Option, Some, None, slice_get}
 use Rattle.std.specs.Global.{Box}
 use Rattle.agent_gateways.specs.declared.flight.Flight.{Flight}
 use Rattle.agent_gateways.specs.declared.gateway.Gateway.{Gateway}
-use Rattle.call_office.specs.declared.office.Office.{Office}
+use Rattle.line_control.specs.declared.office.Office.{Office}
 use Rattle.agent_gateways.specs.declared.switchboard.Switchboard.{Switchboard}
 use Rattle.agent_gateways.specs.Ended.{first_ended, still_flying}
-use Rattle.call_office.specs.Steps.{Forgets}
-use Rattle.call_office.specs.Waiting.{Touches}
+use Rattle.line_control.specs.Steps.{Forgets}
+use Rattle.line_control.specs.Waiting.{Touches}
 use Rattle.agent_gateways.specs.Steps.{AtPlace, InOffice, OfOffice, OthersStay}
 
 -- the first one from a gateway, in the order in which they were issued, that this response answers; without one, that is given up by now

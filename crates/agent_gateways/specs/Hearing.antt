@@ -18,15 +18,15 @@ use Rattle.agent_texts.specs.declared.tally.Tally.{Tally}
 use Rattle.agent_texts.specs.Counts.{with_announcement, with_answer, with_strange_name}
 use Rattle.agent_gateways.specs.declared.flight.Flight.{Flight}
 use Rattle.agent_gateways.specs.declared.gateway.Gateway.{Gateway}
-use Rattle.call_office.specs.declared.office.Office.{Office}
+use Rattle.line_control.specs.declared.office.Office.{Office}
 use Rattle.agent_gateways.specs.declared.switchboard.Switchboard.{Switchboard}
-use Rattle.call_office.specs.declared.worklist.Worklist.{Worklist}
+use Rattle.line_control.specs.declared.worklist.Worklist.{Worklist}
 use Rattle.agent_gateways.specs.Announcing.{is_new, last_new}
 use Rattle.agent_gateways.specs.Boards.{Answers}
 use Rattle.agent_gateways.specs.GivingUp.{ended_in, EndsAt}
 use Rattle.agent_gateways.specs.Steps.{AnnouncesTo, AtPlace, OthersStay, line_behind}
 use Rattle.agent_gateways.specs.Tallying.{counted_if}
-use Rattle.call_office.specs.Waiting.{waits, Touches}
+use Rattle.line_control.specs.Waiting.{waits, Touches}
 
 -- A response came
 

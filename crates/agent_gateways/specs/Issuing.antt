@@ -13,9 +13,9 @@ use Rattle.call_agent.specs.Issuing.{IssueRefusal, no_more_ids, bad_command, iss
 use Rattle.agent_texts.specs.declared.station.Station.{Station}
 use Rattle.agent_gateways.specs.declared.flight.Flight.{Flight}
 use Rattle.agent_gateways.specs.declared.gateway.Gateway.{Gateway}
-use Rattle.call_office.specs.declared.office.Office.{Office}
+use Rattle.line_control.specs.declared.office.Office.{Office}
 use Rattle.agent_gateways.specs.declared.switchboard.Switchboard.{Switchboard}
-use Rattle.call_office.specs.Orders.{Shown, ordered}
+use Rattle.line_control.specs.Orders.{Shown, ordered}
 use Rattle.agent_gateways.specs.Steps.{AtPlace, OthersStay, Sends}
 
 -- the command that a line is sent now, by its duty and the exchange of a board, with this digit map; none where there is no exchange

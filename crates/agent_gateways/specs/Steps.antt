@@ -11,15 +11,15 @@ use Rattle.call_agent.specs.AgentStands.{AgentStands}
 use Rattle.call_agent.specs.Hearing.{AgentEnds, AgentEvent, plain_agent}
 use Rattle.call_routing.specs.Exchange.{ExchangeState, phase_of}
 use Rattle.call_routing.specs.Phases.{named_by}
-use Rattle.call_office.specs.declared.care.Care.{Care}
+use Rattle.line_control.specs.declared.care.Care.{Care}
 use Rattle.agent_gateways.specs.declared.gateway.Gateway.{Gateway}
-use Rattle.call_office.specs.declared.office.Office.{Office}
+use Rattle.line_control.specs.declared.office.Office.{Office}
 use Rattle.agent_gateways.specs.AgentClock.{tick_to}
-use Rattle.call_office.specs.Duties.{announced}
-use Rattle.call_office.specs.Orders.{cared}
-use Rattle.call_office.specs.Steps.{Begins, Forgets, ToldOf}
-use Rattle.call_office.specs.Turns.{announced_by}
-use Rattle.call_office.specs.Waiting.{settled_at, waits, IsWaiting, Touches, WaitOn}
+use Rattle.line_control.specs.Duties.{announced}
+use Rattle.line_control.specs.Orders.{cared}
+use Rattle.line_control.specs.Steps.{Begins, Forgets, ToldOf}
+use Rattle.line_control.specs.Turns.{announced_by}
+use Rattle.line_control.specs.Waiting.{settled_at, waits, IsWaiting, Touches, WaitOn}
 use Rattle.agent_gateways.specs.Wakes.{behind_woken}
 
 -- What a step makes of the exchange, and of what is kept of its lines. It is one of a board's exchange; where there is none, there is

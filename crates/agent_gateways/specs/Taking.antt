@@ -8,11 +8,11 @@ use Rattle.call_agent.specs.Hearing.{AgentEvent, plain_agent}
 use Rattle.call_routing.specs.Numbers.{told_in, tells_digits}
 use Rattle.agent_texts.specs.declared.station.Station.{Station}
 use Rattle.agent_gateways.specs.declared.gateway.Gateway.{Gateway}
-use Rattle.call_office.specs.declared.office.Office.{Office}
+use Rattle.line_control.specs.declared.office.Office.{Office}
 use Rattle.agent_gateways.specs.declared.switchboard.Switchboard.{Switchboard}
-use Rattle.call_office.specs.declared.worklist.Worklist.{Worklist}
-use Rattle.call_office.specs.Steps.{Hears}
-use Rattle.call_office.specs.Waiting.{settled_at, Touches}
+use Rattle.line_control.specs.declared.worklist.Worklist.{Worklist}
+use Rattle.line_control.specs.Steps.{Hears}
+use Rattle.line_control.specs.Waiting.{settled_at, Touches}
 
 -- the agent of its gateway was told so much of it by notifications, by each list of events that it stands for
 abbrev pub IsObserved : ℕ → Gateway → List Observed → Type 0

@@ -3,7 +3,7 @@ ghost use Rattle.std.specs.Prelude.{◌≡◌};
 ghost use Rattle.agent_gateways.specs.Steps.{cares_if, exchange_if, has_line, Announces, TouchesIf, TouchesMeant};
 
 use crate::naming::{is_meant, line_behind};
-use call_office::Office;
+use line_control::Office;
 use endpoint_names::Pattern;
 
 // Whether a gateway with so many lines has this one.

@@ -5,8 +5,8 @@ ghost use Rattle.std.specs.Prelude.{◌≡◌, ◌++◌, [], ◌∷◌, ℕ, Lis
 ghost use Rattle.std.specs.Global.{Box};
 ghost use Rattle.agent_config.specs.declared.config.AgentConfig.{AgentConfig};
 ghost use Rattle.agent_config.specs.declared.config.GatewayConfig.{GatewayConfig};
-ghost use Rattle.call_office.specs.declared.office.Office.{Office};
-ghost use Rattle.call_office.specs.declared.worklist.Worklist.{Worklist};
+ghost use Rattle.line_control.specs.declared.office.Office.{Office};
+ghost use Rattle.line_control.specs.declared.worklist.Worklist.{Worklist};
 ghost use Rattle.agent_gateways.specs.declared.gateway.Gateway.{Gateway};
 ghost use Rattle.agent_gateways.specs.AgentClock.{first_id, tick_to};
 ghost use Rattle.agent_gateways.specs.Announcing.{is_new, last_new};

@@ -8,7 +8,7 @@ ghost use Rattle.agent_gateways.specs.Hearing.{HearsAnnouncement, HearsCommand, 
 ghost use Rattle.agent_gateways.specs.Steps.{AnnouncesTo, WaitsIn};
 ghost use Rattle.agent_gateways.specs.Taking.{taken_place, TakesOf};
 ghost use Rattle.agent_gateways.specs.Tallying.{counted_if};
-ghost use Rattle.call_office.specs.Waiting.{Settles};
+ghost use Rattle.line_control.specs.Waiting.{Settles};
 
 use crate::announcing::announce_all;
 use crate::gateway::Gateway;

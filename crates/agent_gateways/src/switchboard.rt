@@ -15,7 +15,7 @@ use crate::dialling::Dialling;
 use crate::gateway::Gateway;
 use agent_config::{AgentConfig, copied};
 use agent_texts::Station;
-use call_office::{Office, Worklist};
+use line_control::{Office, Worklist};
 use call_routing::NumberPlan;
 use endpoint_names::{Pattern, write_name};
 use mg_bytes::{OutOfMemory, Sequence, Text};

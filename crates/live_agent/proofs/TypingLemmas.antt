@@ -3,7 +3,7 @@ use Rattle.std.proofs.Common.{◌≡◌, ℕ, Bool, List, [], ◌∷◌, Option,
 use Rattle.std.specs.Global.{Box, Vec}
 use Rattle.mg_bytes.specs.Lines.{line_of}
 use Rattle.agent_gateways.specs.declared.gateway.Gateway.{Gateway}
-use Rattle.call_office.specs.declared.office.Office.{Office}
+use Rattle.line_control.specs.declared.office.Office.{Office}
 use Rattle.live_agent.specs.declared.session.Request.{Request}
 use Rattle.live_agent.specs.declared.session.Request.TheVariants.{Nothing}
 use Rattle.agent_gateways.specs.declared.switchboard.Switchboard.{Switchboard}

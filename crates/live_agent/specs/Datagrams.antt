@@ -27,7 +27,7 @@ use Rattle.agent_gateways.specs.Steps.{AtPlace, OthersStay, Refuses, WaitsIn}
 use Rattle.agent_gateways.specs.Taking.{taken_place, TakesOf}
 use Rattle.agent_gateways.specs.Tallying.{counted_if}
 use Rattle.live_agent.specs.Tallying.{looked_counted, OnlyCounts, OnlyNotes, OnlyRecords, OnlyTells}
-use Rattle.call_office.specs.Waiting.{Settles}
+use Rattle.line_control.specs.Waiting.{Settles}
 use Rattle.live_agent.specs.Wiring.{heard_at, read_at}
 
 -- What its texts are

@@ -2,7 +2,7 @@
 use Rattle.std.specs.Prelude.{◌≡◌, ℕ, zero, suc, Bool, true, false, is_err, Option, Some, None, Result, Ok, Err}
 use Rattle.call_agent.specs.declared.issuing.Issued.{Issued}
 use Rattle.call_agent.specs.declared.issuing.IssueFault.{IssueFault}
-use Rattle.call_office.specs.Showing.{ShowsIn}
+use Rattle.line_control.specs.Showing.{ShowsIn}
 use Rattle.live_io.specs.Around.{Around}
 use Rattle.agent_gateways.specs.declared.switchboard.Switchboard.{Switchboard}
 use Rattle.agent_gateways.specs.Boards.{settling_in, SettlesIn}

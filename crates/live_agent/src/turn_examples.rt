@@ -3,7 +3,7 @@
 
 ghost use Rattle.std.specs.Prelude.{◌≡◌, [], ℕ, true, false, length, not, slice_get};
 ghost use Rattle.std.specs.declared.net.socket_addr.SocketAddrV4.{SocketAddrV4};
-ghost use Rattle.call_office.specs.Waiting.{Settles};
+ghost use Rattle.line_control.specs.Waiting.{Settles};
 ghost use Rattle.agent_gateways.specs.Boards.{settling_in, taking_in, woken_at, SettlesIn, WakesIn};
 ghost use Rattle.agent_gateways.specs.Steps.{InOffice, LinesWaitOn, OthersStay};
 ghost use Rattle.agent_gateways.specs.declared.switchboard.Switchboard.{Switchboard};

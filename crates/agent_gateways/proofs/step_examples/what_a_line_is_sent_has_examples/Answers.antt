@@ -2,9 +2,9 @@ use Rattle.std.proofs.Common.{◌≡◌, List, [], ◌∷◌, ◌++◌, Option, 
 use Rattle.std.specs.Prelude.{slice_get}
 use Rattle.call_agent.specs.declared.issuing.Issued.{Issued}
 use Rattle.call_agent.specs.declared.issuing.IssueFault.{IssueFault}
-use Rattle.call_office.specs.declared.care.Care.{Care}
+use Rattle.line_control.specs.declared.care.Care.{Care}
 use Rattle.agent_gateways.specs.declared.flight.Flight.{Flight}
-use Rattle.call_office.specs.Orders.{ordered}
+use Rattle.line_control.specs.Orders.{ordered}
 use Rattle.agent_gateways.proofs.Computing.{on_examples}
 use Rattle.agent_gateways.proofs.step_examples.what_a_line_is_sent_has_examples.Goals as goal
 

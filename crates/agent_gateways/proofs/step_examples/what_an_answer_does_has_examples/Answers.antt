@@ -1,6 +1,6 @@
 use Rattle.std.proofs.Common.{[], ◌∷◌, inl, inr, refl}
-use Rattle.call_office.specs.Duties.{begun, lost, new_care, outlived}
-use Rattle.call_office.specs.Example.{deleted_later, deleted_now}
+use Rattle.line_control.specs.Duties.{begun, lost, new_care, outlived}
+use Rattle.line_control.specs.Example.{deleted_later, deleted_now}
 use Rattle.agent_gateways.specs.Example.{wake_at}
 use Rattle.agent_gateways.proofs.Computing.{on_examples}
 use Rattle.agent_gateways.proofs.StepExampleLemmas.{answers_so}

@@ -1,5 +1,5 @@
 use Rattle.std.proofs.Common.{◌≡◌, Bool, true, false, List, ℕ, [], ◌∷◌, refl, sym, ap, ◌∙◌, true≢false}
-use Rattle.call_office.specs.Waiting.{waits}
+use Rattle.line_control.specs.Waiting.{waits}
 use Rattle.agent_gateways.proofs.step_examples.who_waits_has_examples.Goals as goal
 
 among : (is_all : Bool) → waits (3 ∷ []) is_all 3 ≡ true

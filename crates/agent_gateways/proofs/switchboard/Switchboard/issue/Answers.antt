@@ -1,6 +1,6 @@
 use Rattle.std.proofs.Common.{arith, rules}
 use Rattle.std.proofs.lemmas.Grind.{common_steps, elements}
-use Rattle.call_office.specs.Orders.{shown}
+use Rattle.line_control.specs.Orders.{shown}
 use Rattle.agent_gateways.specs.Issuing.{IssuesUnder}
 use Rattle.agent_gateways.proofs.IssueLemmas.{issued_under}
 use Rattle.agent_gateways.proofs.switchboard.Switchboard.issue.Goals as goal

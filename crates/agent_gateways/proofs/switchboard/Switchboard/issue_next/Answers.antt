@@ -1,7 +1,7 @@
 use Rattle.std.proofs.Common.{◌≡◌, Some, refl, rules}
 use Rattle.agent_gateways.specs.Issuing.{ordered_in}
 use Rattle.agent_gateways.specs.Steps.{settled_in}
-use Rattle.call_office.specs.Orders.{shown}
+use Rattle.line_control.specs.Orders.{shown}
 use Rattle.agent_gateways.proofs.IssueLemmas.{at_most, issued_order, issues_at, not_ordered, sent_alone, settled_so}
 use Rattle.agent_gateways.proofs.switchboard.Switchboard.issue_next.Goals as goal
 

@@ -1,7 +1,0 @@
-use Rattle.std.proofs.Common.{◌≡◌}
-use Rattle.mg_bytes.specs.Items.{items_of}
-use Rattle.call_office.specs.Hooks.{hook_among}
-use Rattle.call_office.proofs.hooks.hook_in.Given as goal
-
-abbrev pub invariant-loop-state : goal.invariant-loop-state
-invariant-loop-state l = hook_among l.state-iterator ≡ hook_among (items_of l.states)

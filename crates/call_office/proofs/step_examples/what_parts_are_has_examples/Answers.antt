@@ -1,4 +1,0 @@
-use Rattle.call_office.proofs.step_examples.what_parts_are_has_examples.Goals as goal
-
-pub returns-clause-older_still : goal.returns-clause-older_still
-returns-clause-older_still c = λ text is kept takes. takes.0
