@@ -4,7 +4,7 @@ use Rattle.std.specs.Prelude.{◌-◌, ◌==◌, ◌&&◌, nat_le}
 use Rattle.std.proofs.lemmas.Bool.{leb-true, leb-false, eqb-true, eqb-false, ne_eqb}
 use Rattle.endpoint_names.specs.declared.name.Pattern.{Pattern}
 use Rattle.endpoint_names.specs.declared.name.Pattern.TheVariants.{One}
-use Rattle.call_routing.specs.Exchange.{ExchangeState}
+use Rattle.call_processing.specs.Exchange.{ExchangeState}
 use Rattle.line_control.specs.declared.care.Care.{Care}
 use Rattle.agent_gateways.specs.Steps.{cares_announced, cares_if, exchange_announced, exchange_if, has_line, is_meant, line_behind, Announces}
 

@@ -4,8 +4,8 @@ use Rattle.std.specs.Prelude.{◌-◌, ◌==◌, nat_le, IfSome}
 use Rattle.std.proofs.lemmas.Bool.{and_from, eqb-true, eqb-false, le-leb}
 use Rattle.endpoint_names.specs.declared.name.Pattern.{Pattern}
 use Rattle.endpoint_names.specs.declared.name.Pattern.TheVariants.{One}
-use Rattle.call_routing.specs.Exchange.{ExchangeState, phase_of}
-use Rattle.call_routing.specs.Phases.{named_by}
+use Rattle.call_processing.specs.Exchange.{ExchangeState, phase_of}
+use Rattle.call_processing.specs.Phases.{named_by}
 use Rattle.line_control.specs.declared.office.Office.{Office}
 use Rattle.line_control.specs.Waiting.{IsWaiting, Touches, WaitOn}
 use Rattle.line_control.proofs.WaitingLemmas.{still_named, waited_on}

@@ -8,7 +8,7 @@ use Rattle.retransmission.specs.Flight.{InFlight}
 use Rattle.call_agent.specs.Agent.{AgentMachine}
 use Rattle.call_agent.specs.Flying.{first_flight, if_due}
 use Rattle.call_agent.specs.Hearing.{AgentEnds}
-use Rattle.call_routing.specs.Exchange.{ExchangeState}
+use Rattle.call_processing.specs.Exchange.{ExchangeState}
 use Rattle.line_control.specs.declared.care.Care.{Care}
 use Rattle.agent_gateways.specs.declared.gateway.Gateway.{Gateway}
 use Rattle.agent_gateways.specs.declared.gateway.Wake.{Wake}

@@ -3,7 +3,7 @@ use Rattle.std.proofs.Common.{◌≡◌, ℕ, Bool, false, List, Option, Some, N
 use Rattle.std.specs.Prelude.{not, ◌==◌, slice_get, IfSome}
 use Rattle.std.specs.Global.{Box}
 use Rattle.packages.specs.declared.observed.Observed.{Observed}
-use Rattle.call_routing.specs.Numbers.{told_in, tells_digits}
+use Rattle.call_processing.specs.Numbers.{told_in, tells_digits}
 use Rattle.line_control.specs.declared.office.Office.{Office}
 use Rattle.line_control.specs.Steps.{HearsSome}
 use Rattle.agent_gateways.specs.declared.gateway.Gateway.{Gateway}

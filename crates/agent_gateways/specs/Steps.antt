@@ -9,8 +9,8 @@ use Rattle.machine_rules.specs.declared.refusal.Refusal.{Refusal}
 use Rattle.plain_machine.specs.Event.{GatewayEvent}
 use Rattle.call_agent.specs.AgentStands.{AgentStands}
 use Rattle.call_agent.specs.Hearing.{AgentEnds, AgentEvent, plain_agent}
-use Rattle.call_routing.specs.Exchange.{ExchangeState, phase_of}
-use Rattle.call_routing.specs.Phases.{named_by}
+use Rattle.call_processing.specs.Exchange.{ExchangeState, phase_of}
+use Rattle.call_processing.specs.Phases.{named_by}
 use Rattle.line_control.specs.declared.care.Care.{Care}
 use Rattle.agent_gateways.specs.declared.gateway.Gateway.{Gateway}
 use Rattle.line_control.specs.declared.office.Office.{Office}

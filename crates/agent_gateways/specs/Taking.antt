@@ -5,7 +5,7 @@ use Rattle.packages.specs.declared.observed.Observed.{Observed}
 use Rattle.call_agent.specs.Agent.{observed_on}
 use Rattle.call_agent.specs.AgentStands.{AgentStands}
 use Rattle.call_agent.specs.Hearing.{AgentEvent, plain_agent}
-use Rattle.call_routing.specs.Numbers.{told_in, tells_digits}
+use Rattle.call_processing.specs.Numbers.{told_in, tells_digits}
 use Rattle.agent_texts.specs.declared.station.Station.{Station}
 use Rattle.agent_gateways.specs.declared.gateway.Gateway.{Gateway}
 use Rattle.line_control.specs.declared.office.Office.{Office}

@@ -1,7 +1,7 @@
 //! How the lines of a board are dialled, which stays as it was at the start.
 ghost use Rattle.std.specs.Prelude.{◌≡◌, IfOk};
 
-use call_routing::NumberPlan;
+use call_processing::NumberPlan;
 use mg_bytes::{OutOfMemory, Text};
 use std::alloc::{AllocError, Global};
 

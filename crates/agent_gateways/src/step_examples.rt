@@ -3,7 +3,7 @@
 
 ghost use Rattle.std.specs.Prelude.{◌≡◌, ⊤, [], ◌∷◌, ℕ, Bool, true, false, List, Option, Some, None, Ok, Err, codes, take};
 ghost use Rattle.std.specs.Global.{Box};
-ghost use Rattle.call_routing.specs.Exchange.{told};
+ghost use Rattle.call_processing.specs.Exchange.{told};
 ghost use Rattle.agent_gateways.specs.declared.gateway.Gateway.{Gateway};
 ghost use Rattle.line_control.specs.declared.office.Office.{Office};
 ghost use Rattle.agent_gateways.specs.declared.switchboard.Switchboard.{Switchboard};
@@ -40,7 +40,7 @@ ghost use Rattle.line_control.specs.Example.{audited, creating, deleted_later, d
 ghost use Rattle.agent_gateways.specs.Example.{wake_at, HasAgent};
 
 use crate::typed::TypedFault;
-use call_routing::Told;
+use call_processing::Told;
 use endpoint_names::Pattern;
 
 /// What becomes of the lines of a gateway, of it, and of what is settled.

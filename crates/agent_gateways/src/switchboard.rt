@@ -16,7 +16,7 @@ use crate::gateway::Gateway;
 use agent_config::{AgentConfig, copied};
 use agent_texts::Station;
 use line_control::{Office, Worklist};
-use call_routing::NumberPlan;
+use call_processing::NumberPlan;
 use endpoint_names::{Pattern, write_name};
 use mg_bytes::{OutOfMemory, Sequence, Text};
 use plain_machine::{Event, Outputs, Refusal};

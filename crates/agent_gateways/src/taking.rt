@@ -9,7 +9,7 @@ ghost use Rattle.agent_gateways.specs.Tallying.{counted_if};
 use crate::gateway::Gateway;
 use agent_texts::{Journal, Station};
 use line_control::Office;
-use call_routing::NumberPlan;
+use call_processing::NumberPlan;
 use packages::Observed;
 use std::alloc::Global;
 

@@ -1,14 +1,14 @@
 -- What the worked examples speak of.
 use Rattle.std.specs.Prelude.{ℕ, Bool, true, false, codes, List, [], ◌∷◌, Option}
-use Rattle.call_routing.specs.declared.phase.Side.TheVariants as sides
-use Rattle.call_routing.specs.declared.phase.Part.{Part}
-use Rattle.call_routing.specs.declared.phase.Phase.{Phase}
-use Rattle.call_routing.specs.declared.phase.Phase.TheVariants.{InCall}
-use Rattle.call_routing.specs.declared.line.Leg.{Leg}
-use Rattle.call_routing.specs.declared.line.Leg.TheVariants as legs
-use Rattle.call_routing.specs.declared.line.Line.{Line}
-use Rattle.call_routing.specs.Line.{new_line}
-use Rattle.call_routing.specs.Exchange.{ExchangeState, opening}
+use Rattle.call_processing.specs.declared.phase.Side.TheVariants as sides
+use Rattle.call_processing.specs.declared.phase.Part.{Part}
+use Rattle.call_processing.specs.declared.phase.Phase.{Phase}
+use Rattle.call_processing.specs.declared.phase.Phase.TheVariants.{InCall}
+use Rattle.call_processing.specs.declared.line.Leg.{Leg}
+use Rattle.call_processing.specs.declared.line.Leg.TheVariants as legs
+use Rattle.call_processing.specs.declared.line.Line.{Line}
+use Rattle.call_processing.specs.Line.{new_line}
+use Rattle.call_processing.specs.Exchange.{ExchangeState, opening}
 use Rattle.agent_texts.specs.declared.standing.Progress.{Progress}
 use Rattle.agent_texts.specs.declared.standing.Standing.{Standing}
 use Rattle.agent_texts.specs.declared.standing.Standing.TheVariants.{Caller}

@@ -1,7 +1,7 @@
 -- What a line refused for good, as it is told: what it is asked for, and the deletion of a connection.
 use Rattle.std.specs.Prelude.{ℕ, Bool, false, ◌==◌, codes, decimal, if◌then◌else◌, List, [], ◌∷◌, ◌++◌, Option, Some, None}
-use Rattle.call_routing.specs.declared.line.Line.{Line}
-use Rattle.call_routing.specs.Exchange.{ExchangeState, line_of}
+use Rattle.call_processing.specs.declared.line.Line.{Line}
+use Rattle.call_processing.specs.Exchange.{ExchangeState, line_of}
 use Rattle.agent_texts.specs.declared.refusals.Refusals.{Refusals}
 use Rattle.agent_texts.specs.declared.station.Station.{Station}
 use Rattle.agent_texts.specs.Stations.{number_at}

@@ -1,16 +1,16 @@
 -- How a line stands, as it is told to people, and what is counted where that changes.
 use Rattle.std.specs.Prelude.{ℕ, Bool, false, ◌==◌, ◌&&◌, if◌then◌else◌, Option, Some, None}
-use Rattle.call_routing.specs.declared.phase.Tone.{Tone}
-use Rattle.call_routing.specs.declared.phase.Tone.TheVariants as tones
-use Rattle.call_routing.specs.declared.phase.Side.{Side}
-use Rattle.call_routing.specs.declared.phase.Side.TheVariants as sides
-use Rattle.call_routing.specs.declared.phase.Part.{Part}
-use Rattle.call_routing.specs.declared.phase.Phase.{Phase}
-use Rattle.call_routing.specs.declared.phase.Phase.TheVariants as phases
-use Rattle.call_routing.specs.declared.line.Leg.{Leg}
-use Rattle.call_routing.specs.declared.line.Leg.TheVariants as legs
-use Rattle.call_routing.specs.declared.line.Line.{Line}
-use Rattle.call_routing.specs.Exchange.{ExchangeState, phase_of, line_of}
+use Rattle.call_processing.specs.declared.phase.Tone.{Tone}
+use Rattle.call_processing.specs.declared.phase.Tone.TheVariants as tones
+use Rattle.call_processing.specs.declared.phase.Side.{Side}
+use Rattle.call_processing.specs.declared.phase.Side.TheVariants as sides
+use Rattle.call_processing.specs.declared.phase.Part.{Part}
+use Rattle.call_processing.specs.declared.phase.Phase.{Phase}
+use Rattle.call_processing.specs.declared.phase.Phase.TheVariants as phases
+use Rattle.call_processing.specs.declared.line.Leg.{Leg}
+use Rattle.call_processing.specs.declared.line.Leg.TheVariants as legs
+use Rattle.call_processing.specs.declared.line.Line.{Line}
+use Rattle.call_processing.specs.Exchange.{ExchangeState, phase_of, line_of}
 use Rattle.agent_texts.specs.declared.standing.Progress.{Progress}
 use Rattle.agent_texts.specs.declared.standing.Progress.TheVariants.{Ringing, Answered, Connected}
 use Rattle.agent_texts.specs.declared.standing.Standing.{Standing}

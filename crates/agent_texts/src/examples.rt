@@ -2,9 +2,9 @@
 #![tactic(auto, unfolding(crate::proofs::Computing::on_examples))]
 
 ghost use Rattle.std.specs.Prelude.{◌≡◌, ◌++◌, codes, [], ◌∷◌, true, false, Some, None};
-ghost use Rattle.call_routing.specs.declared.phase.Tone.TheVariants as tones;
-ghost use Rattle.call_routing.specs.declared.phase.Phase.TheVariants as phases;
-ghost use Rattle.call_routing.specs.declared.line.Leg.TheVariants as legs;
+ghost use Rattle.call_processing.specs.declared.phase.Tone.TheVariants as tones;
+ghost use Rattle.call_processing.specs.declared.phase.Phase.TheVariants as phases;
+ghost use Rattle.call_processing.specs.declared.line.Leg.TheVariants as legs;
 ghost use Rattle.log_format.specs.declared.note.Note.TheVariants.{Unreadable, SentAgain};
 ghost use Rattle.agent_texts.specs.declared.standing.Progress.TheVariants.{Ringing, Answered, Connected};
 ghost use Rattle.agent_texts.specs.declared.standing.Standing.TheVariants.{Rest, Dialling, Busy, Reorder, Caller, Called};

@@ -5,7 +5,7 @@ ghost use Rattle.agent_texts.specs.Telling.{Tells};
 
 use crate::journal::Journal;
 use crate::station::{Station, number_at};
-use call_routing::Exchange;
+use call_processing::Exchange;
 use mg_bytes::put_decimal;
 use std::alloc::Global;
 

@@ -1,13 +1,13 @@
 //! How lines stand, as it is told to people.
 ghost use Rattle.std.specs.Prelude.{◌≡◌};
-ghost use Rattle.call_routing.specs.Exchange.{line_of};
+ghost use Rattle.call_processing.specs.Exchange.{line_of};
 ghost use Rattle.agent_texts.specs.Telling.{is_caller_in, words_of, call_line, line_line, end_told, standing_told, change_told, Tells};
 ghost use Rattle.agent_texts.specs.Standings.{stands_for, is_joined, progress_of, standing_of, with_rest, with_change};
 
 use crate::journal::Journal;
 use crate::station::{Station, number_at};
 use crate::tally::{Tally, count};
-use call_routing::{Exchange, Leg, Part, Phase, Side, Tone};
+use call_processing::{Exchange, Leg, Part, Phase, Side, Tone};
 use mg_bytes::put_decimal;
 use std::alloc::Global;
 

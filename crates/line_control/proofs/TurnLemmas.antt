@@ -1,8 +1,8 @@
 -- What an audit comes to.
 use Rattle.std.proofs.Common.{◌≡◌, ◌⊎◌, inl, inr, ℕ, Bool, false, List, sym, subst}
-use Rattle.call_routing.specs.declared.told.Told.{Told}
-use Rattle.call_routing.specs.declared.told.Told.TheVariants.{Flash}
-use Rattle.call_routing.specs.Exchange.{ExchangeState}
+use Rattle.call_processing.specs.declared.told.Told.{Told}
+use Rattle.call_processing.specs.declared.told.Told.TheVariants.{Flash}
+use Rattle.call_processing.specs.Exchange.{ExchangeState}
 use Rattle.line_control.specs.declared.care.Care.{Care}
 use Rattle.line_control.specs.Turns.{told_by_audit, TellsAudit, TakesAudit}
 

@@ -1,10 +1,10 @@
 -- Which command is next at a line beside those of the exchange: first connections of an earlier run end, then its hook is asked for. And
 -- when a command that was put off is sent again: how long that is, is this exchange's profile.
 use Rattle.std.specs.Prelude.{ℕ, ◌+◌, ◌-◌, ◌^◌, ◌==◌, ◌&&◌, ◌||◌, min, nat_lt, Bool, true, false, is_some, if◌then◌else◌, codes, List, [], Option, Some, None}
-use Rattle.call_routing.specs.declared.fate.Cause.{Cause}
-use Rattle.call_routing.specs.declared.fate.Cause.TheVariants as causes
-use Rattle.call_routing.specs.declared.fate.PutOff.{PutOff}
-use Rattle.call_routing.specs.Fates.{may_pass, most_put_off}
+use Rattle.call_processing.specs.declared.fate.Cause.{Cause}
+use Rattle.call_processing.specs.declared.fate.Cause.TheVariants as causes
+use Rattle.call_processing.specs.declared.fate.PutOff.{PutOff}
+use Rattle.call_processing.specs.Fates.{may_pass, most_put_off}
 use Rattle.agent_texts.specs.declared.standing.Standing.TheVariants.{Rest}
 use Rattle.agent_texts.specs.Refusals.{no_refusals}
 use Rattle.line_control.specs.declared.care.Duty.{Duty}

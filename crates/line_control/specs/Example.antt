@@ -1,13 +1,13 @@
 -- What the worked examples speak of.
 use Rattle.std.specs.Prelude.{ℕ, List, [], ◌∷◌, false, true, Some}
 use Rattle.mgcp_text.specs.declared.message.Param.{Param}
-use Rattle.call_routing.specs.declared.phase.Side.{Side}
-use Rattle.call_routing.specs.declared.phase.Side.TheVariants.{Caller}
-use Rattle.call_routing.specs.declared.phase.Part.{Part}
-use Rattle.call_routing.specs.declared.phase.Phase.TheVariants.{Resting, InCall}
-use Rattle.call_routing.specs.declared.command.Command.TheVariants.{Create}
-use Rattle.call_routing.specs.Line.{new_line, sent}
-use Rattle.call_routing.specs.Exchange.{ExchangeState}
+use Rattle.call_processing.specs.declared.phase.Side.{Side}
+use Rattle.call_processing.specs.declared.phase.Side.TheVariants.{Caller}
+use Rattle.call_processing.specs.declared.phase.Part.{Part}
+use Rattle.call_processing.specs.declared.phase.Phase.TheVariants.{Resting, InCall}
+use Rattle.call_processing.specs.declared.command.Command.TheVariants.{Create}
+use Rattle.call_processing.specs.Line.{new_line, sent}
+use Rattle.call_processing.specs.Exchange.{ExchangeState}
 use Rattle.line_control.specs.declared.care.Care.{Care}
 use Rattle.line_control.specs.Duties.{new_care, begun, landed}
 

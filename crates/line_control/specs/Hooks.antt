@@ -5,12 +5,12 @@ use Rattle.mg_bytes.specs.Items.{items_of}
 use Rattle.mgcp_text.specs.declared.message.Param.{Param}
 use Rattle.mgcp_text.specs.Message.{params_in, param_at}
 use Rattle.mgcp_text.specs.Reading.{Outcome as Read, message, no_header, bad_version, bad_body}
-use Rattle.call_routing.specs.declared.phase.Side.{Side}
-use Rattle.call_routing.specs.declared.phase.Side.TheVariants.{Caller, Called}
-use Rattle.call_routing.specs.declared.phase.Phase.{Phase}
-use Rattle.call_routing.specs.declared.phase.Phase.TheVariants.{Resting, Dialling, Hearing, InCall}
-use Rattle.call_routing.specs.declared.told.Told.{Told}
-use Rattle.call_routing.specs.declared.told.Told.TheVariants.{OffHook, OnHook, Flash, Dialled, TimedOut, Restarted, Disconnected}
+use Rattle.call_processing.specs.declared.phase.Side.{Side}
+use Rattle.call_processing.specs.declared.phase.Side.TheVariants.{Caller, Called}
+use Rattle.call_processing.specs.declared.phase.Phase.{Phase}
+use Rattle.call_processing.specs.declared.phase.Phase.TheVariants.{Resting, Dialling, Hearing, InCall}
+use Rattle.call_processing.specs.declared.told.Told.{Told}
+use Rattle.call_processing.specs.declared.told.Told.TheVariants.{OffHook, OnHook, Flash, Dialled, TimedOut, Restarted, Disconnected}
 
 -- off hook or on hook, as an event state says it, with its package or without (RFC 3435, 2.3.10)
 abbrev pub hook_of : List ℕ → Option Bool

@@ -1,8 +1,8 @@
 -- Which command a line is sent now.
 use Rattle.std.specs.Prelude.{ℕ, Bool, true, false, List, Option, Some, None, slice_get, slice_set}
-use Rattle.call_routing.specs.declared.command.Command.{Command}
-use Rattle.call_routing.specs.Parameters.{verb_of, parameters_of}
-use Rattle.call_routing.specs.Exchange.{ExchangeState, due, sent_to}
+use Rattle.call_processing.specs.declared.command.Command.{Command}
+use Rattle.call_processing.specs.Parameters.{verb_of, parameters_of}
+use Rattle.call_processing.specs.Exchange.{ExchangeState, due, sent_to}
 use Rattle.line_control.specs.declared.care.Duty.{Duty}
 use Rattle.line_control.specs.declared.care.Care.{Care}
 use Rattle.line_control.specs.declared.office.Order.{Order}

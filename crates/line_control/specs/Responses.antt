@@ -5,10 +5,10 @@ use Rattle.mgcp_text.specs.declared.message.Param.{Param}
 use Rattle.mgcp_text.specs.declared.message.Message.TheVariants as messages
 use Rattle.mgcp_text.specs.Message.{param_at}
 use Rattle.mgcp_text.specs.Reading.{Outcome as Read, message, no_header, bad_version, bad_body, read_text}
-use Rattle.call_routing.specs.declared.command.Command.{Command}
-use Rattle.call_routing.specs.declared.command.Command.TheVariants.{Ask, Create, Modify, Delete}
-use Rattle.call_routing.specs.declared.command.Outcome.{Outcome}
-use Rattle.call_routing.specs.declared.command.Outcome.TheVariants.{Created, Answered, GivenUp}
+use Rattle.call_processing.specs.declared.command.Command.{Command}
+use Rattle.call_processing.specs.declared.command.Command.TheVariants.{Ask, Create, Modify, Delete}
+use Rattle.call_processing.specs.declared.command.Outcome.{Outcome}
+use Rattle.call_processing.specs.declared.command.Outcome.TheVariants.{Created, Answered, GivenUp}
 
 abbrev pub creates : Option Command → Bool
 creates None = false

@@ -1,7 +1,7 @@
 -- What people are told of a line: how it stands, and what it refuses for good, where that is new.
 use Rattle.std.specs.Prelude.{◌≡◌, ◌≢◌, ℕ, List, ◌++◌, Option, Some, None, slice_get}
 use Rattle.std.specs.Global.{Box}
-use Rattle.call_routing.specs.Exchange.{ExchangeState}
+use Rattle.call_processing.specs.Exchange.{ExchangeState}
 use Rattle.agent_texts.specs.declared.journal.Journal.{Journal}
 use Rattle.agent_texts.specs.declared.station.Station.{Station}
 use Rattle.agent_texts.specs.Standings.{standing_of, with_change}

@@ -1,7 +1,7 @@
 -- What a step does to the exchange, and to what is kept of its lines beside that.
 use Rattle.std.specs.Prelude.{◌≡◌, ◌⊎◌, ℕ, Bool, true, false, is_none, List, Option, Some, None, slice_get}
-use Rattle.call_routing.specs.declared.told.Told.{Told}
-use Rattle.call_routing.specs.Exchange.{ExchangeState, due, sent_to}
+use Rattle.call_processing.specs.declared.told.Told.{Told}
+use Rattle.call_processing.specs.Exchange.{ExchangeState, due, sent_to}
 use Rattle.line_control.specs.declared.care.Duty.{Duty}
 use Rattle.line_control.specs.declared.care.Duty.TheVariants.{Audit}
 use Rattle.line_control.specs.declared.care.Care.{Care}

@@ -1,11 +1,11 @@
 -- Which turn of the exchange it is that something has happened to a line: what the exchange is then.
 use Rattle.std.specs.Prelude.{◌≡◌, ◌⊎◌, ℕ, Bool, true, false, if◌then◌else◌, List, Option, Some, None, slice_get}
 use Rattle.mgcp_text.specs.Reading.{read_text}
-use Rattle.call_routing.specs.declared.told.Told.{Told}
-use Rattle.call_routing.specs.declared.told.Told.TheVariants.{Flash, Restarted}
-use Rattle.call_routing.specs.declared.command.Outcome.{Outcome}
-use Rattle.call_routing.specs.declared.command.Outcome.TheVariants.{GivenUp}
-use Rattle.call_routing.specs.Exchange.{ExchangeState, phase_of, line_of, flight_in, told, answered, put_off_at, cleared_at}
+use Rattle.call_processing.specs.declared.told.Told.{Told}
+use Rattle.call_processing.specs.declared.told.Told.TheVariants.{Flash, Restarted}
+use Rattle.call_processing.specs.declared.command.Outcome.{Outcome}
+use Rattle.call_processing.specs.declared.command.Outcome.TheVariants.{GivenUp}
+use Rattle.call_processing.specs.Exchange.{ExchangeState, phase_of, line_of, flight_in, told, answered, put_off_at, cleared_at}
 use Rattle.line_control.specs.declared.care.Duty.{Duty}
 use Rattle.line_control.specs.declared.care.Duty.TheVariants.{Clear, Audit, Route}
 use Rattle.line_control.specs.declared.care.Care.{Care}

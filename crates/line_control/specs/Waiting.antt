@@ -1,8 +1,8 @@
 -- Lines to which something has happened, and that wait until they are settled.
 use Rattle.std.specs.Prelude.{◌≡◌, ℕ, ◌+◌, ◌-◌, ◌^◌, Bool, true, false, ◌||◌, ◌==◌, min, if◌then◌else◌, List, [], length, Option, Some, IfSome, slice_get, IsPermutation}
 use Rattle.std.specs.List.{list_any}
-use Rattle.call_routing.specs.Exchange.{phase_of}
-use Rattle.call_routing.specs.Phases.{named_by}
+use Rattle.call_processing.specs.Exchange.{phase_of}
+use Rattle.call_processing.specs.Phases.{named_by}
 use Rattle.line_control.specs.declared.office.Office.{Office}
 use Rattle.line_control.specs.declared.worklist.Worklist.{Worklist}
 

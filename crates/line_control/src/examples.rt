@@ -5,8 +5,8 @@ ghost use Rattle.std.specs.Prelude.{◌≡◌, [], ◌∷◌, true, false, Some,
 ghost use Rattle.mg_bytes.specs.Items.{items_of};
 ghost use Rattle.mgcp_text.specs.declared.message.Message.TheVariants as messages;
 ghost use Rattle.mgcp_text.specs.Reading.{message, bad_version, bad_body};
-ghost use Rattle.call_routing.specs.Phases.{named_by};
-ghost use Rattle.call_routing.specs.Exchange.{opening, sent_to, told, answered, cleared_at};
+ghost use Rattle.call_processing.specs.Phases.{named_by};
+ghost use Rattle.call_processing.specs.Exchange.{opening, sent_to, told, answered, cleared_at};
 ghost use Rattle.line_control.specs.declared.care.Duty.TheVariants.{Clear, Audit, Route};
 ghost use Rattle.line_control.specs.Waiting.{waits, settling, settled_at};
 ghost use Rattle.agent_texts.specs.Refusals.{no_refusals};
@@ -20,7 +20,7 @@ ghost use Rattle.line_control.specs.Showing.{shown_in};
 ghost use Rattle.line_control.specs.Example.{cleared, audited, found_off, param, part, answered_part, creating};
 
 use agent_texts::Standing;
-use call_routing::{Asked, Cause, Command, Outcome, Phase, Side, Told, Tone};
+use call_processing::{Asked, Cause, Command, Outcome, Phase, Side, Told, Tone};
 
 /// Each sentence at an example.
 pub fn each_sentence_has_an_example()

@@ -5,7 +5,7 @@ ghost use Rattle.mg_bytes.specs.Items.{items_of};
 ghost use Rattle.mgcp_text.specs.Reading.{read_text};
 ghost use Rattle.line_control.specs.Hooks.{hook_among, hook_by, was_off, told_by_hook, is_off_hook, notified};
 
-use call_routing::{Phase, Side, Told};
+use call_processing::{Phase, Side, Told};
 use mg_bytes::{OutOfMemory, list_items, same_no_case};
 use mgcp_text::{TextFault, param_at, read_message};
 use std::alloc::{AllocError, Global};

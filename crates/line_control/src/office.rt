@@ -2,11 +2,11 @@
 //!
 //! Nothing goes over all lines but the opening: those to which something has happened wait, and are settled.
 ghost use Rattle.std.specs.Prelude.{◌≡◌, ◌≢◌, ◌⊎◌, ◌↔◌, ℕ, true, false, length, replicate, Some, IfOk, IfSome, IsTrue, option_map, slice_get};
-ghost use Rattle.call_routing.specs.Phases.{named_by};
-ghost use Rattle.call_routing.specs.declared.told.Told.TheVariants.{Flash};
-ghost use Rattle.call_routing.specs.declared.command.Outcome.TheVariants.{GivenUp};
-ghost use Rattle.call_routing.specs.Exchange.{opening, phase_of, flight_in, line_of, told};
-ghost use Rattle.call_routing.specs.Numbers.{told_in, tells_digits};
+ghost use Rattle.call_processing.specs.Phases.{named_by};
+ghost use Rattle.call_processing.specs.declared.told.Told.TheVariants.{Flash};
+ghost use Rattle.call_processing.specs.declared.command.Outcome.TheVariants.{GivenUp};
+ghost use Rattle.call_processing.specs.Exchange.{opening, phase_of, flight_in, line_of, told};
+ghost use Rattle.call_processing.specs.Numbers.{told_in, tells_digits};
 ghost use Rattle.agent_texts.specs.Standings.{with_change};
 ghost use Rattle.agent_texts.specs.Telling.{change_told, Tells};
 ghost use Rattle.line_control.specs.declared.care.Duty.TheVariants.{Audit};
@@ -26,7 +26,7 @@ use agent_config::copied;
 use agent_texts::{
     Journal, Standing, Station, refusals_of, standing_of, tell_change, tell_refusals,
 };
-use call_routing::{Command, Exchange, NumberPlan, Outcome, Told, named_by, told_in};
+use call_processing::{Command, Exchange, NumberPlan, Outcome, Told, named_by, told_in};
 use packages::Observed;
 use mg_bytes::{OutOfMemory, Text};
 use std::alloc::{AllocError, Global};

@@ -4,7 +4,7 @@ ghost use Rattle.mgcp_text.specs.Reading.{read_text};
 ghost use Rattle.line_control.specs.Responses.{connection_in, created, created_by, is_creation, outcome_by};
 
 use agent_config::copied;
-use call_routing::{Command, Outcome};
+use call_processing::{Command, Outcome};
 use mg_bytes::{Identifier, OutOfMemory};
 use mgcp_text::{Message, Param, TextFault, param_at, read_message};
 use std::alloc::{AllocError, Global};

@@ -4,9 +4,9 @@
 ghost use Rattle.std.specs.Prelude.{◌≡◌, [], ◌∷◌, ℕ, true, false, List, Option, Some, None, codes, IsPermutation};
 ghost use Rattle.std.specs.Global.{Box};
 ghost use Rattle.mgcp_text.specs.Reading.{bad_body, bad_version, no_header};
-ghost use Rattle.call_routing.specs.declared.fate.Cause.TheVariants as causes;
-ghost use Rattle.call_routing.specs.declared.fate.PutOff.{PutOff};
-ghost use Rattle.call_routing.specs.Exchange.{ExchangeState, opening, sent_to, told, answered, cleared_at};
+ghost use Rattle.call_processing.specs.declared.fate.Cause.TheVariants as causes;
+ghost use Rattle.call_processing.specs.declared.fate.PutOff.{PutOff};
+ghost use Rattle.call_processing.specs.Exchange.{ExchangeState, opening, sent_to, told, answered, cleared_at};
 ghost use Rattle.agent_texts.specs.declared.journal.Journal.{Journal};
 ghost use Rattle.agent_texts.specs.declared.station.Station.{Station};
 ghost use Rattle.agent_texts.specs.Standings.{with_change};
@@ -27,7 +27,7 @@ ghost use Rattle.line_control.specs.declared.worklist.Worklist.{Worklist};
 ghost use Rattle.line_control.specs.Example.{audited, cleared, creating, found_off, param};
 
 use agent_texts::Standing;
-use call_routing::{Outcome, Told};
+use call_processing::{Outcome, Told};
 
 /// What becomes of a line.
 pub fn steps_at_a_line_have_examples()

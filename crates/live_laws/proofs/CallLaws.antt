@@ -3,20 +3,20 @@ use Rattle.std.proofs.Common.{◌≡◌, ◌≢◌, ℕ, ◌+◌, Bool, true, fa
 use Rattle.std.specs.Prelude.{not, nat_lt, slice_get, slice_set, if◌then◌else◌}
 use Rattle.packages.specs.declared.hook.Hook.{Hook}
 use Rattle.packages.specs.declared.hook.Hook.TheVariants as hooks
-use Rattle.call_routing.specs.declared.phase.Part.{Part}
-use Rattle.call_routing.specs.declared.phase.Tone.{Tone}
-use Rattle.call_routing.specs.declared.phase.Tone.TheVariants.{Busy, Reorder}
-use Rattle.call_routing.specs.declared.phase.Phase.{Phase}
-use Rattle.call_routing.specs.declared.phase.Phase.TheVariants.{Resting, Dialling, Hearing, InCall}
-use Rattle.call_routing.specs.declared.told.Told.{Told}
-use Rattle.call_routing.specs.declared.told.Told.TheVariants.{OffHook, OnHook, Flash, Dialled, TimedOut, Restarted, Disconnected}
-use Rattle.call_routing.specs.declared.command.Command.{Command}
-use Rattle.call_routing.specs.Phases.{other_end, left, rings, ringing_in, is_in_call, is_free, is_in, waits}
-use Rattle.call_routing.specs.Calls.{CallState, joined, parted, cut_off, cut_off_in, turned, answered_by, picked_up, hearing, greatest_call, caller_of, begun, put_through, reached, dialled, dialled_in, given_up_in, timed_out, heard, failed, found, found_in}
-use Rattle.call_routing.specs.Line.{failing, finding}
-use Rattle.call_routing.specs.Exchange.{ExchangeState, opening, phase_of, line_of, flight_in, told, fate_at, answered, cleared_at, due, sent_by, sent_to}
+use Rattle.call_processing.specs.declared.phase.Part.{Part}
+use Rattle.call_processing.specs.declared.phase.Tone.{Tone}
+use Rattle.call_processing.specs.declared.phase.Tone.TheVariants.{Busy, Reorder}
+use Rattle.call_processing.specs.declared.phase.Phase.{Phase}
+use Rattle.call_processing.specs.declared.phase.Phase.TheVariants.{Resting, Dialling, Hearing, InCall}
+use Rattle.call_processing.specs.declared.told.Told.{Told}
+use Rattle.call_processing.specs.declared.told.Told.TheVariants.{OffHook, OnHook, Flash, Dialled, TimedOut, Restarted, Disconnected}
+use Rattle.call_processing.specs.declared.command.Command.{Command}
+use Rattle.call_processing.specs.Phases.{other_end, left, rings, ringing_in, is_in_call, is_free, is_in, waits}
+use Rattle.call_processing.specs.Calls.{CallState, joined, parted, cut_off, cut_off_in, turned, answered_by, picked_up, hearing, greatest_call, caller_of, begun, put_through, reached, dialled, dialled_in, given_up_in, timed_out, heard, failed, found, found_in}
+use Rattle.call_processing.specs.Line.{failing, finding}
+use Rattle.call_processing.specs.Exchange.{ExchangeState, opening, phase_of, line_of, flight_in, told, fate_at, answered, cleared_at, due, sent_by, sent_to}
 use Rattle.live_laws.specs.CallTurns.{Turn, tells, answers, sends, clears, after_one, after}
-use Rattle.call_routing.proofs.ElementLemmas.{set_here, set_other, set_still}
+use Rattle.call_processing.proofs.ElementLemmas.{set_here, set_other, set_still}
 use Rattle.live_laws.proofs.PhaseLemmas.{AreMutual, same_part, not_itself, left_free, free_here, free_still, unnamed, named_once, named_once_there, set_mutual, parted_mutual, joined_mutual, resting_mutual}
 
 -- A line that is in no call

@@ -4,22 +4,22 @@ use Rattle.std.specs.Prelude.{nat_lt, slice_get, slice_set, if◌then◌else◌}
 use Rattle.std.proofs.lemmas.Bool.{true≢false}
 use Rattle.packages.specs.declared.hook.Hook.{Hook}
 use Rattle.packages.specs.declared.hook.Hook.TheVariants as hooks
-use Rattle.call_routing.specs.declared.phase.Part.{Part}
-use Rattle.call_routing.specs.declared.phase.Tone.{Tone}
-use Rattle.call_routing.specs.declared.phase.Tone.TheVariants.{Busy, Reorder}
-use Rattle.call_routing.specs.declared.phase.Phase.{Phase}
-use Rattle.call_routing.specs.declared.phase.Phase.TheVariants.{Resting, Dialling, Hearing, InCall}
-use Rattle.call_routing.specs.declared.told.Told.{Told}
-use Rattle.call_routing.specs.declared.told.Told.TheVariants.{OffHook, OnHook, Flash, Dialled, TimedOut, Restarted, Disconnected}
-use Rattle.call_routing.specs.declared.command.Outcome.{Outcome}
-use Rattle.call_routing.specs.declared.line.Line.{Line}
-use Rattle.call_routing.specs.Phases.{other_end, named_by, left, rings, ringing_in, is_free, is_in_call, is_in, waits}
-use Rattle.call_routing.specs.Calls.{CallState, joined, parted, cut_off, cut_off_in, turned, answered_by, picked_up, hearing, greatest_call, caller_of, begun, put_through, reached, dialled, dialled_in, given_up_in, timed_out, heard, failed, found, found_in}
-use Rattle.call_routing.specs.Line.{landed, failing, finding, heard_on}
-use Rattle.call_routing.specs.Next.{line_stands, is_ready, next_of}
-use Rattle.call_routing.specs.Exchange.{ExchangeState, opening, phase_of, line_of, flight_in, told, fate_at, answered, due_by, due}
+use Rattle.call_processing.specs.declared.phase.Part.{Part}
+use Rattle.call_processing.specs.declared.phase.Tone.{Tone}
+use Rattle.call_processing.specs.declared.phase.Tone.TheVariants.{Busy, Reorder}
+use Rattle.call_processing.specs.declared.phase.Phase.{Phase}
+use Rattle.call_processing.specs.declared.phase.Phase.TheVariants.{Resting, Dialling, Hearing, InCall}
+use Rattle.call_processing.specs.declared.told.Told.{Told}
+use Rattle.call_processing.specs.declared.told.Told.TheVariants.{OffHook, OnHook, Flash, Dialled, TimedOut, Restarted, Disconnected}
+use Rattle.call_processing.specs.declared.command.Outcome.{Outcome}
+use Rattle.call_processing.specs.declared.line.Line.{Line}
+use Rattle.call_processing.specs.Phases.{other_end, named_by, left, rings, ringing_in, is_free, is_in_call, is_in, waits}
+use Rattle.call_processing.specs.Calls.{CallState, joined, parted, cut_off, cut_off_in, turned, answered_by, picked_up, hearing, greatest_call, caller_of, begun, put_through, reached, dialled, dialled_in, given_up_in, timed_out, heard, failed, found, found_in}
+use Rattle.call_processing.specs.Line.{landed, failing, finding, heard_on}
+use Rattle.call_processing.specs.Next.{line_stands, is_ready, next_of}
+use Rattle.call_processing.specs.Exchange.{ExchangeState, opening, phase_of, line_of, flight_in, told, fate_at, answered, due_by, due}
 use Rattle.live_laws.specs.CallTurns.{Turn, after, IsApart, IsAsBefore}
-use Rattle.call_routing.proofs.ElementLemmas.{set_here, set_other, changed_other}
+use Rattle.call_processing.proofs.ElementLemmas.{set_here, set_other, changed_other}
 use Rattle.live_laws.proofs.PhaseLemmas.{AreMutual, left_free, free_here, free_still}
 use Rattle.live_laws.proofs.CallLaws.{always_mutual}
 

@@ -1,23 +1,23 @@
 -- Each end is given the description of the other end's connection.
 use Rattle.std.proofs.Common.{true, Option, Some, ◌≡◌, ℕ, Bool, false, List, None, refl, sym, ap, ◌∙◌}
-use Rattle.call_routing.specs.declared.phase.Phase.{Phase}
-use Rattle.call_routing.specs.declared.phase.Phase.TheVariants.{InCall}
-use Rattle.call_routing.specs.declared.phase.Side.TheVariants.{Caller, Called}
+use Rattle.call_processing.specs.declared.phase.Phase.{Phase}
+use Rattle.call_processing.specs.declared.phase.Phase.TheVariants.{InCall}
+use Rattle.call_processing.specs.declared.phase.Side.TheVariants.{Caller, Called}
 use Rattle.std.specs.Prelude.{◌==◌, is_some, if◌then◌else◌}
 use Rattle.std.proofs.lemmas.Bool.{eqb-true, true≢false}
-use Rattle.call_routing.specs.declared.phase.Side.{Side}
-use Rattle.call_routing.specs.declared.phase.Part.{Part}
-use Rattle.call_routing.specs.declared.asked.Asked.{Asked}
-use Rattle.call_routing.specs.declared.command.Command.{Command}
-use Rattle.call_routing.specs.declared.command.Command.TheVariants.{Ask, Delete}
-use Rattle.call_routing.specs.declared.line.Leg.{Leg}
-use Rattle.call_routing.specs.declared.line.Leg.TheVariants.{Absent, Unknown, Standing}
-use Rattle.call_routing.specs.declared.line.Line.{Line}
-use Rattle.call_routing.specs.Phases.{talks_in}
-use Rattle.call_routing.specs.Asking.{wanted_in, is_asked}
-use Rattle.call_routing.specs.Next.{stands_for, line_stands, is_ready, created_for, joined_for, connection_next, request_or, connection_or, is_request_first, first_of, next_of}
-use Rattle.call_routing.specs.Exchange.{ExchangeState, phase_of, line_of, due, due_by}
-use Rattle.call_routing.specs.Parameters.{description_in, description_on, description_by, description_of_other, gives, leg_in, leg_of}
+use Rattle.call_processing.specs.declared.phase.Side.{Side}
+use Rattle.call_processing.specs.declared.phase.Part.{Part}
+use Rattle.call_processing.specs.declared.asked.Asked.{Asked}
+use Rattle.call_processing.specs.declared.command.Command.{Command}
+use Rattle.call_processing.specs.declared.command.Command.TheVariants.{Ask, Delete}
+use Rattle.call_processing.specs.declared.line.Leg.{Leg}
+use Rattle.call_processing.specs.declared.line.Leg.TheVariants.{Absent, Unknown, Standing}
+use Rattle.call_processing.specs.declared.line.Line.{Line}
+use Rattle.call_processing.specs.Phases.{talks_in}
+use Rattle.call_processing.specs.Asking.{wanted_in, is_asked}
+use Rattle.call_processing.specs.Next.{stands_for, line_stands, is_ready, created_for, joined_for, connection_next, request_or, connection_or, is_request_first, first_of, next_of}
+use Rattle.call_processing.specs.Exchange.{ExchangeState, phase_of, line_of, due, due_by}
+use Rattle.call_processing.specs.Parameters.{description_in, description_on, description_by, description_of_other, gives, leg_in, leg_of}
 
 -- The ends of the call in the worked examples. Two exchanges are compared with one of these, since to compare them with each other is dear.
 

@@ -2,20 +2,20 @@
 use Rattle.std.proofs.Common.{◌≡◌, ℕ, Bool, true, false, List, Option, Some, None, refl, sym, ap, ◌∙◌, inl, inr, ◌⊎◌}
 use Rattle.std.specs.Prelude.{◌==◌, if◌then◌else◌}
 use Rattle.std.proofs.lemmas.Bool.{true≢false}
-use Rattle.call_routing.specs.declared.phase.Side.{Side}
-use Rattle.call_routing.specs.declared.phase.Side.TheVariants.{Caller, Called}
-use Rattle.call_routing.specs.declared.phase.Part.{Part}
-use Rattle.call_routing.specs.declared.phase.Phase.{Phase}
-use Rattle.call_routing.specs.declared.phase.Phase.TheVariants.{InCall}
-use Rattle.call_routing.specs.declared.command.Command.{Command}
-use Rattle.call_routing.specs.declared.command.Command.TheVariants.{Delete}
-use Rattle.call_routing.specs.declared.line.Leg.{Leg}
-use Rattle.call_routing.specs.declared.line.Leg.TheVariants.{Absent, Unknown, Standing}
-use Rattle.call_routing.specs.declared.line.Line.{Line}
-use Rattle.call_routing.specs.Phases.{across, other_end, talks_in}
-use Rattle.call_routing.specs.Asking.{wanted_in, is_asked}
-use Rattle.call_routing.specs.Next.{stands_for, line_stands, is_ready, created_for, joined_for, connection_next}
-use Rattle.call_routing.specs.Exchange.{ExchangeState, opening, phase_of, line_of, due, due_by}
+use Rattle.call_processing.specs.declared.phase.Side.{Side}
+use Rattle.call_processing.specs.declared.phase.Side.TheVariants.{Caller, Called}
+use Rattle.call_processing.specs.declared.phase.Part.{Part}
+use Rattle.call_processing.specs.declared.phase.Phase.{Phase}
+use Rattle.call_processing.specs.declared.phase.Phase.TheVariants.{InCall}
+use Rattle.call_processing.specs.declared.command.Command.{Command}
+use Rattle.call_processing.specs.declared.command.Command.TheVariants.{Delete}
+use Rattle.call_processing.specs.declared.line.Leg.{Leg}
+use Rattle.call_processing.specs.declared.line.Leg.TheVariants.{Absent, Unknown, Standing}
+use Rattle.call_processing.specs.declared.line.Line.{Line}
+use Rattle.call_processing.specs.Phases.{across, other_end, talks_in}
+use Rattle.call_processing.specs.Asking.{wanted_in, is_asked}
+use Rattle.call_processing.specs.Next.{stands_for, line_stands, is_ready, created_for, joined_for, connection_next}
+use Rattle.call_processing.specs.Exchange.{ExchangeState, opening, phase_of, line_of, due, due_by}
 use Rattle.live_laws.specs.CallTurns.{Turn, after, is_flying, is_in_flight, IsConnected}
 use Rattle.live_laws.proofs.CallLaws.{name_each_other}
 use Rattle.live_laws.proofs.LineLemmas.{IsIdle, idle_where_none}

@@ -2,28 +2,28 @@
 use Rattle.std.proofs.Common.{◌≡◌, ℕ, ◌+◌, ◌*◌, ◌≤◌, Bool, true, false, List, Option, Some, None, refl, sym, arith}
 use Rattle.std.specs.Prelude.{◌&&◌, not, nat_lt, is_some, if◌then◌else◌}
 use Rattle.std.proofs.lemmas.Bool.{true≢false}
-use Rattle.call_routing.specs.declared.asked.Asked.{Asked}
-use Rattle.call_routing.specs.declared.asked.Asked.TheVariants.{Rest, Digits, Ring, Ringback, BusyTone, ReorderTone, Talk}
-use Rattle.call_routing.specs.declared.phase.Phase.{Phase}
-use Rattle.call_routing.specs.declared.phase.Phase.TheVariants.{Resting}
-use Rattle.call_routing.specs.declared.command.Command.{Command}
-use Rattle.call_routing.specs.declared.command.Command.TheVariants.{Ask, Create, Modify, Delete}
-use Rattle.call_routing.specs.declared.command.Outcome.{Outcome}
-use Rattle.call_routing.specs.declared.command.Outcome.TheVariants.{Created, Answered, GivenUp}
-use Rattle.call_routing.specs.declared.fate.Cause.{Cause}
-use Rattle.call_routing.specs.declared.fate.Cause.TheVariants as causes
-use Rattle.call_routing.specs.declared.fate.PutOff.{PutOff}
-use Rattle.call_routing.specs.declared.fate.Fate.{Fate}
-use Rattle.call_routing.specs.declared.fate.Fate.TheVariants.{Done, Again, Refused, Open}
-use Rattle.call_routing.specs.declared.line.Leg.{Leg}
-use Rattle.call_routing.specs.declared.line.Leg.TheVariants.{Absent, Unknown, Standing}
-use Rattle.call_routing.specs.declared.line.Line.{Line}
-use Rattle.call_routing.specs.Phases.{talks_in}
-use Rattle.call_routing.specs.Asking.{wanted_in, is_asked}
-use Rattle.call_routing.specs.Fates.{is_success, is_deleted, passes, most_put_off, times_of, request_cause, put_off_by, put_off_then}
-use Rattle.call_routing.specs.Line.{sent, landed, landed_as, asked_then, deleted_then, cleared}
-use Rattle.call_routing.specs.Next.{connection_next, request_or, connection_or, is_request_first, first_of, next_of}
-use Rattle.call_routing.specs.Exchange.{fate_with, fate_in}
+use Rattle.call_processing.specs.declared.asked.Asked.{Asked}
+use Rattle.call_processing.specs.declared.asked.Asked.TheVariants.{Rest, Digits, Ring, Ringback, BusyTone, ReorderTone, Talk}
+use Rattle.call_processing.specs.declared.phase.Phase.{Phase}
+use Rattle.call_processing.specs.declared.phase.Phase.TheVariants.{Resting}
+use Rattle.call_processing.specs.declared.command.Command.{Command}
+use Rattle.call_processing.specs.declared.command.Command.TheVariants.{Ask, Create, Modify, Delete}
+use Rattle.call_processing.specs.declared.command.Outcome.{Outcome}
+use Rattle.call_processing.specs.declared.command.Outcome.TheVariants.{Created, Answered, GivenUp}
+use Rattle.call_processing.specs.declared.fate.Cause.{Cause}
+use Rattle.call_processing.specs.declared.fate.Cause.TheVariants as causes
+use Rattle.call_processing.specs.declared.fate.PutOff.{PutOff}
+use Rattle.call_processing.specs.declared.fate.Fate.{Fate}
+use Rattle.call_processing.specs.declared.fate.Fate.TheVariants.{Done, Again, Refused, Open}
+use Rattle.call_processing.specs.declared.line.Leg.{Leg}
+use Rattle.call_processing.specs.declared.line.Leg.TheVariants.{Absent, Unknown, Standing}
+use Rattle.call_processing.specs.declared.line.Line.{Line}
+use Rattle.call_processing.specs.Phases.{talks_in}
+use Rattle.call_processing.specs.Asking.{wanted_in, is_asked}
+use Rattle.call_processing.specs.Fates.{is_success, is_deleted, passes, most_put_off, times_of, request_cause, put_off_by, put_off_then}
+use Rattle.call_processing.specs.Line.{sent, landed, landed_as, asked_then, deleted_then, cleared}
+use Rattle.call_processing.specs.Next.{connection_next, request_or, connection_or, is_request_first, first_of, next_of}
+use Rattle.call_processing.specs.Exchange.{fate_with, fate_in}
 use Rattle.live_laws.specs.CallTurns.{is_given_up, count_if, IsClear}
 
 -- the answers that a line that rests waits for: to the command in flight, to DLCX where a connection may stand then, and to RQNT

@@ -2,15 +2,15 @@
 use Rattle.std.proofs.Common.{◌≡◌, ◌≢◌, ℕ, zero, suc, Bool, true, false, List, replicate, Option, Some, None, refl, sym, ap, subst, ◌∙◌, inl, inr, ◌⊎◌}
 use Rattle.std.specs.Prelude.{slice_get, slice_set, if◌then◌else◌}
 use Rattle.std.proofs.lemmas.Bool.{cases_eq, true≢false}
-use Rattle.call_routing.specs.declared.phase.Side.{Side}
-use Rattle.call_routing.specs.declared.phase.Side.TheVariants.{Caller, Called}
-use Rattle.call_routing.specs.declared.phase.Part.{Part}
-use Rattle.call_routing.specs.declared.phase.Tone.{Tone}
-use Rattle.call_routing.specs.declared.phase.Phase.{Phase}
-use Rattle.call_routing.specs.declared.phase.Phase.TheVariants.{Resting, Hearing, InCall}
-use Rattle.call_routing.specs.Phases.{across, other_end, left, rings, is_in_call}
-use Rattle.call_routing.specs.Calls.{joined}
-use Rattle.call_routing.proofs.ElementLemmas.{set_here, set_other, set_there}
+use Rattle.call_processing.specs.declared.phase.Side.{Side}
+use Rattle.call_processing.specs.declared.phase.Side.TheVariants.{Caller, Called}
+use Rattle.call_processing.specs.declared.phase.Part.{Part}
+use Rattle.call_processing.specs.declared.phase.Tone.{Tone}
+use Rattle.call_processing.specs.declared.phase.Phase.{Phase}
+use Rattle.call_processing.specs.declared.phase.Phase.TheVariants.{Resting, Hearing, InCall}
+use Rattle.call_processing.specs.Phases.{across, other_end, left, rings, is_in_call}
+use Rattle.call_processing.specs.Calls.{joined}
+use Rattle.call_processing.proofs.ElementLemmas.{set_here, set_other, set_there}
 
 -- the line that a line in a call names is in the same call, and names it
 abbrev pub AreMutual : List Phase → Type 0

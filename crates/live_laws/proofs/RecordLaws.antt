@@ -2,26 +2,26 @@
 use Rattle.std.proofs.Common.{◌≡◌, ◌≢◌, ℕ, ◌+◌, ◌≤◌, Bool, true, false, List, [], ◌∷◌, ◌++◌, Option, Some, None, refl, sym, ap, subst, ◌∙◌, inl, inr, ◌⊎◌, arith}
 use Rattle.std.specs.Prelude.{◌==◌, ◌&&◌, not, is_some, is_none, nat_lt, option_map, if◌then◌else◌}
 use Rattle.std.proofs.lemmas.Bool.{cases_eq, eq-eqb, true≢false}
-use Rattle.call_routing.specs.declared.phase.Phase.{Phase}
-use Rattle.call_routing.specs.declared.asked.Asked.{Asked}
-use Rattle.call_routing.specs.declared.told.Told.{Told}
-use Rattle.call_routing.specs.declared.told.Told.TheVariants.{OffHook, OnHook, Flash, Dialled, TimedOut, Restarted, Disconnected}
-use Rattle.call_routing.specs.declared.command.Command.{Command}
-use Rattle.call_routing.specs.declared.command.Command.TheVariants.{Ask, Create, Modify, Delete}
-use Rattle.call_routing.specs.declared.command.Outcome.{Outcome}
-use Rattle.call_routing.specs.declared.command.Outcome.TheVariants.{Created, Answered, GivenUp}
-use Rattle.call_routing.specs.declared.fate.Cause.TheVariants as causes
-use Rattle.call_routing.specs.declared.fate.PutOff.{PutOff}
-use Rattle.call_routing.specs.declared.fate.Fate.{Fate}
-use Rattle.call_routing.specs.declared.fate.Fate.TheVariants.{Done, Again, Refused, Open}
-use Rattle.call_routing.specs.declared.line.Leg.{Leg}
-use Rattle.call_routing.specs.declared.line.Leg.TheVariants.{Absent}
-use Rattle.call_routing.specs.declared.line.Line.{Line}
-use Rattle.call_routing.specs.Fates.{is_success, is_deleted, may_pass, passes, most_put_off, times_of, request_cause, is_wanted, refused_by}
-use Rattle.call_routing.specs.Line.{sent, landed, landed_as, asked_then, deleted_then, left_then, heard_on, cleared}
-use Rattle.call_routing.specs.Exchange.{ExchangeState, opening, line_of, flight_in, told, fate_with, fate_in, fate_at, answered, cleared_at, due, sent_by, sent_to}
+use Rattle.call_processing.specs.declared.phase.Phase.{Phase}
+use Rattle.call_processing.specs.declared.asked.Asked.{Asked}
+use Rattle.call_processing.specs.declared.told.Told.{Told}
+use Rattle.call_processing.specs.declared.told.Told.TheVariants.{OffHook, OnHook, Flash, Dialled, TimedOut, Restarted, Disconnected}
+use Rattle.call_processing.specs.declared.command.Command.{Command}
+use Rattle.call_processing.specs.declared.command.Command.TheVariants.{Ask, Create, Modify, Delete}
+use Rattle.call_processing.specs.declared.command.Outcome.{Outcome}
+use Rattle.call_processing.specs.declared.command.Outcome.TheVariants.{Created, Answered, GivenUp}
+use Rattle.call_processing.specs.declared.fate.Cause.TheVariants as causes
+use Rattle.call_processing.specs.declared.fate.PutOff.{PutOff}
+use Rattle.call_processing.specs.declared.fate.Fate.{Fate}
+use Rattle.call_processing.specs.declared.fate.Fate.TheVariants.{Done, Again, Refused, Open}
+use Rattle.call_processing.specs.declared.line.Leg.{Leg}
+use Rattle.call_processing.specs.declared.line.Leg.TheVariants.{Absent}
+use Rattle.call_processing.specs.declared.line.Line.{Line}
+use Rattle.call_processing.specs.Fates.{is_success, is_deleted, may_pass, passes, most_put_off, times_of, request_cause, is_wanted, refused_by}
+use Rattle.call_processing.specs.Line.{sent, landed, landed_as, asked_then, deleted_then, left_then, heard_on, cleared}
+use Rattle.call_processing.specs.Exchange.{ExchangeState, opening, line_of, flight_in, told, fate_with, fate_in, fate_at, answered, cleared_at, due, sent_by, sent_to}
 use Rattle.live_laws.specs.CallTurns.{Turn, tells, answers, sends, clears, after_one, after, is_flying, count_if, count_turns, is_request, is_creation, is_asked_on, is_absent, is_bare, says_done, accepts, ends_by, is_restart, ends}
-use Rattle.call_routing.proofs.ElementLemmas.{changed_here, changed_other}
+use Rattle.call_processing.proofs.ElementLemmas.{changed_here, changed_other}
 use Rattle.live_laws.proofs.RowLaws.{free_where_due, found_phase}
 use Rattle.live_laws.proofs.LineLemmas.{sent_if}
 

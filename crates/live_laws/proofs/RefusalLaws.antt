@@ -2,24 +2,24 @@
 use Rattle.std.proofs.Common.{◌≡◌, ℕ, ◌+◌, Bool, true, false, List, Option, Some, None, refl, sym, ap, subst, ◌∙◌, inl, inr, ◌⊎◌}
 use Rattle.std.specs.Prelude.{◌&&◌, nat_lt, slice_get, option_map, if◌then◌else◌}
 use Rattle.std.proofs.lemmas.Bool.{true≢false}
-use Rattle.call_routing.specs.declared.phase.Tone.TheVariants.{Reorder}
-use Rattle.call_routing.specs.declared.phase.Phase.{Phase}
-use Rattle.call_routing.specs.declared.phase.Phase.TheVariants.{Resting, Dialling, Hearing, InCall}
-use Rattle.call_routing.specs.declared.asked.Asked.{Asked}
-use Rattle.call_routing.specs.declared.command.Command.{Command}
-use Rattle.call_routing.specs.declared.command.Command.TheVariants.{Ask, Create, Modify, Delete}
-use Rattle.call_routing.specs.declared.command.Outcome.TheVariants.{Answered}
-use Rattle.call_routing.specs.declared.fate.Cause.{Cause}
-use Rattle.call_routing.specs.declared.fate.Cause.TheVariants as causes
-use Rattle.call_routing.specs.declared.fate.PutOff.{PutOff}
-use Rattle.call_routing.specs.declared.fate.Fate.{Fate}
-use Rattle.call_routing.specs.declared.fate.Fate.TheVariants.{Done, Again, Refused, Open}
-use Rattle.call_routing.specs.declared.line.Line.{Line}
-use Rattle.call_routing.specs.Phases.{is_in, is_in_call}
-use Rattle.call_routing.specs.Calls.{cut_off, failed}
-use Rattle.call_routing.specs.Fates.{is_success, is_deleted, may_pass, passes, most_put_off, times_of, refusal_fate, request_cause, is_wanted, request_fate, deletion_fate, refused_by, put_off_then}
-use Rattle.call_routing.specs.Line.{landed, landed_as, left_then, failing}
-use Rattle.call_routing.specs.Exchange.{ExchangeState, phase_of, line_of, flight_in, found_by, fate_with, fate_in, fate_at, answered}
+use Rattle.call_processing.specs.declared.phase.Tone.TheVariants.{Reorder}
+use Rattle.call_processing.specs.declared.phase.Phase.{Phase}
+use Rattle.call_processing.specs.declared.phase.Phase.TheVariants.{Resting, Dialling, Hearing, InCall}
+use Rattle.call_processing.specs.declared.asked.Asked.{Asked}
+use Rattle.call_processing.specs.declared.command.Command.{Command}
+use Rattle.call_processing.specs.declared.command.Command.TheVariants.{Ask, Create, Modify, Delete}
+use Rattle.call_processing.specs.declared.command.Outcome.TheVariants.{Answered}
+use Rattle.call_processing.specs.declared.fate.Cause.{Cause}
+use Rattle.call_processing.specs.declared.fate.Cause.TheVariants as causes
+use Rattle.call_processing.specs.declared.fate.PutOff.{PutOff}
+use Rattle.call_processing.specs.declared.fate.Fate.{Fate}
+use Rattle.call_processing.specs.declared.fate.Fate.TheVariants.{Done, Again, Refused, Open}
+use Rattle.call_processing.specs.declared.line.Line.{Line}
+use Rattle.call_processing.specs.Phases.{is_in, is_in_call}
+use Rattle.call_processing.specs.Calls.{cut_off, failed}
+use Rattle.call_processing.specs.Fates.{is_success, is_deleted, may_pass, passes, most_put_off, times_of, refusal_fate, request_cause, is_wanted, request_fate, deletion_fate, refused_by, put_off_then}
+use Rattle.call_processing.specs.Line.{landed, landed_as, left_then, failing}
+use Rattle.call_processing.specs.Exchange.{ExchangeState, phase_of, line_of, flight_in, found_by, fate_with, fate_in, fate_at, answered}
 use Rattle.live_laws.specs.CallTurns.{IsPutOffOr}
 use Rattle.live_laws.proofs.CallLaws.{cut_free}
 use Rattle.live_laws.proofs.RowLaws.{found_phase}

@@ -5,25 +5,25 @@ use Rattle.std.specs.List.{list_all}
 use Rattle.std.proofs.lemmas.Bool.{cases_eq, eq-eqb, ne_eqb, true≢false, and_parts, not-true}
 use Rattle.packages.specs.declared.hook.Hook.{Hook}
 use Rattle.packages.specs.declared.hook.Hook.TheVariants as hooks
-use Rattle.call_routing.specs.declared.phase.Part.{Part}
-use Rattle.call_routing.specs.declared.phase.Tone.{Tone}
-use Rattle.call_routing.specs.declared.phase.Tone.TheVariants.{Busy, Reorder}
-use Rattle.call_routing.specs.declared.phase.Phase.{Phase}
-use Rattle.call_routing.specs.declared.phase.Phase.TheVariants.{Resting, Dialling, Hearing, InCall}
-use Rattle.call_routing.specs.declared.told.Told.{Told}
-use Rattle.call_routing.specs.declared.told.Told.TheVariants.{OffHook, OnHook, Flash, Dialled, TimedOut, Restarted, Disconnected}
-use Rattle.call_routing.specs.declared.command.Command.{Command}
-use Rattle.call_routing.specs.declared.command.Outcome.{Outcome}
-use Rattle.call_routing.specs.declared.fate.Fate.{Fate}
-use Rattle.call_routing.specs.declared.line.Line.{Line}
-use Rattle.call_routing.specs.Phases.{other_end, left, rings, ringing_in, talks_in, is_free, is_in, waits}
-use Rattle.call_routing.specs.Calls.{CallState, parted, cut_off, cut_off_in, turned, answered_by, picked_up, hearing, greatest_call, caller_of, begun, put_through, reached, dialled, dialled_in, given_up_in, timed_out, heard, failed, found, found_in}
-use Rattle.call_routing.specs.Fates.{most_put_off, times_of, put_off_by}
-use Rattle.call_routing.specs.Line.{sent, landed, failing, finding, heard_on, cleared}
-use Rattle.call_routing.specs.Next.{is_ready}
-use Rattle.call_routing.specs.Exchange.{ExchangeState, opening, phase_of, line_of, changed, flight_in, told, fate_in, fate_at, answered, cleared_at, due, due_by, sent_by, sent_to}
+use Rattle.call_processing.specs.declared.phase.Part.{Part}
+use Rattle.call_processing.specs.declared.phase.Tone.{Tone}
+use Rattle.call_processing.specs.declared.phase.Tone.TheVariants.{Busy, Reorder}
+use Rattle.call_processing.specs.declared.phase.Phase.{Phase}
+use Rattle.call_processing.specs.declared.phase.Phase.TheVariants.{Resting, Dialling, Hearing, InCall}
+use Rattle.call_processing.specs.declared.told.Told.{Told}
+use Rattle.call_processing.specs.declared.told.Told.TheVariants.{OffHook, OnHook, Flash, Dialled, TimedOut, Restarted, Disconnected}
+use Rattle.call_processing.specs.declared.command.Command.{Command}
+use Rattle.call_processing.specs.declared.command.Outcome.{Outcome}
+use Rattle.call_processing.specs.declared.fate.Fate.{Fate}
+use Rattle.call_processing.specs.declared.line.Line.{Line}
+use Rattle.call_processing.specs.Phases.{other_end, left, rings, ringing_in, talks_in, is_free, is_in, waits}
+use Rattle.call_processing.specs.Calls.{CallState, parted, cut_off, cut_off_in, turned, answered_by, picked_up, hearing, greatest_call, caller_of, begun, put_through, reached, dialled, dialled_in, given_up_in, timed_out, heard, failed, found, found_in}
+use Rattle.call_processing.specs.Fates.{most_put_off, times_of, put_off_by}
+use Rattle.call_processing.specs.Line.{sent, landed, failing, finding, heard_on, cleared}
+use Rattle.call_processing.specs.Next.{is_ready}
+use Rattle.call_processing.specs.Exchange.{ExchangeState, opening, phase_of, line_of, changed, flight_in, told, fate_in, fate_at, answered, cleared_at, due, due_by, sent_by, sent_to}
 use Rattle.live_laws.specs.CallTurns.{Turn, tells, answers, sends, clears, after_one, after, is_given_up, is_flying, is_in_flight, count_if, is_coded, is_put_off, is_settled, count_turns, dials, leaves_alone, AreQuietFor, IsClear, IsAtRest}
-use Rattle.call_routing.proofs.ElementLemmas.{set_here, set_other, changed_here, changed_other}
+use Rattle.call_processing.proofs.ElementLemmas.{set_here, set_other, changed_here, changed_other}
 use Rattle.live_laws.proofs.PhaseLemmas.{AreMutual}
 use Rattle.live_laws.proofs.CallLaws.{found_mutual, sent_to_phases, one_mutual, always_mutual}
 use Rattle.live_laws.proofs.LineLemmas.{left_of, three_most, landed_lands, landed_idle, cleared_less, sent_if, sent_no_more, clear_at_none, clear_at_idle, none_in_flight as no_flight}

@@ -2,29 +2,29 @@
 use Rattle.std.proofs.Common.{◌≡◌, ◌≢◌, ℕ, zero, suc, ◌+◌, Bool, true, false, List, [], ◌∷◌, replicate, Option, Some, None, refl, sym, ap, ◌∙◌, inl, inr, ◌⊎◌, arith, ◌≤◌, ◌<◌, subst}
 use Rattle.std.specs.Prelude.{◌&&◌, is_some, slice_get, option_map, if◌then◌else◌, nat_lt}
 use Rattle.std.proofs.lemmas.Bool.{cases_eq, eq-eqb, ne_eqb, true≢false, and_parts, ltb-true}
-use Rattle.call_routing.specs.declared.phase.Phase.{Phase}
-use Rattle.call_routing.specs.declared.told.Told.{Told}
-use Rattle.call_routing.specs.declared.command.Command.{Command}
-use Rattle.call_routing.specs.declared.command.Outcome.{Outcome}
-use Rattle.call_routing.specs.declared.line.Leg.TheVariants.{Absent}
-use Rattle.call_routing.specs.declared.line.Line.{Line}
-use Rattle.call_routing.specs.declared.told.Told.TheVariants.{OffHook, OnHook, Flash, Dialled, TimedOut, Restarted, Disconnected}
-use Rattle.call_routing.specs.declared.fate.Fate.{Fate}
-use Rattle.call_routing.specs.Phases.{talks_in, is_in}
-use Rattle.call_routing.specs.Fates.{is_deleted, is_success, passes, most_put_off, times_of, refusal_fate, request_cause, is_wanted, refused_in_call, fate_of, put_off_then}
-use Rattle.call_routing.specs.Line.{new_line, sent, landed, heard_on, cleared, landed_as}
-use Rattle.call_routing.specs.Next.{is_ready}
-use Rattle.call_routing.specs.Exchange.{ExchangeState, opening, phase_of, line_of, changed, told, fate_at, answered, cleared_at, due, due_by, sent_by, sent_to, flight_in, found_by, fate_with, fate_in}
+use Rattle.call_processing.specs.declared.phase.Phase.{Phase}
+use Rattle.call_processing.specs.declared.told.Told.{Told}
+use Rattle.call_processing.specs.declared.command.Command.{Command}
+use Rattle.call_processing.specs.declared.command.Outcome.{Outcome}
+use Rattle.call_processing.specs.declared.line.Leg.TheVariants.{Absent}
+use Rattle.call_processing.specs.declared.line.Line.{Line}
+use Rattle.call_processing.specs.declared.told.Told.TheVariants.{OffHook, OnHook, Flash, Dialled, TimedOut, Restarted, Disconnected}
+use Rattle.call_processing.specs.declared.fate.Fate.{Fate}
+use Rattle.call_processing.specs.Phases.{talks_in, is_in}
+use Rattle.call_processing.specs.Fates.{is_deleted, is_success, passes, most_put_off, times_of, refusal_fate, request_cause, is_wanted, refused_in_call, fate_of, put_off_then}
+use Rattle.call_processing.specs.Line.{new_line, sent, landed, heard_on, cleared, landed_as}
+use Rattle.call_processing.specs.Next.{is_ready}
+use Rattle.call_processing.specs.Exchange.{ExchangeState, opening, phase_of, line_of, changed, told, fate_at, answered, cleared_at, due, due_by, sent_by, sent_to, flight_in, found_by, fate_with, fate_in}
 use Rattle.live_laws.specs.CallTurns.{Turn, tells, answers, sends, clears, after_one, after, is_flying, is_in_flight, count_if, is_sent, is_answered, count_turns}
-use Rattle.call_routing.proofs.ElementLemmas.{changed_here, changed_other}
+use Rattle.call_processing.proofs.ElementLemmas.{changed_here, changed_other}
 use Rattle.live_laws.proofs.LineLemmas.{landed_none, sent_flies, blocked, unblocked, sent_put_off, cleared_less}
-use Rattle.call_routing.specs.declared.asked.Asked.{Asked}
-use Rattle.call_routing.specs.declared.command.Command.TheVariants.{Ask, Create, Modify, Delete}
-use Rattle.call_routing.specs.declared.command.Outcome.TheVariants.{Created, Answered, GivenUp}
-use Rattle.call_routing.specs.declared.fate.Cause.{Cause}
-use Rattle.call_routing.specs.declared.fate.Cause.TheVariants as causes
-use Rattle.call_routing.specs.declared.fate.PutOff.{PutOff}
-use Rattle.call_routing.specs.declared.fate.Fate.TheVariants.{Done, Again, Refused, Open}
+use Rattle.call_processing.specs.declared.asked.Asked.{Asked}
+use Rattle.call_processing.specs.declared.command.Command.TheVariants.{Ask, Create, Modify, Delete}
+use Rattle.call_processing.specs.declared.command.Outcome.TheVariants.{Created, Answered, GivenUp}
+use Rattle.call_processing.specs.declared.fate.Cause.{Cause}
+use Rattle.call_processing.specs.declared.fate.Cause.TheVariants as causes
+use Rattle.call_processing.specs.declared.fate.PutOff.{PutOff}
+use Rattle.call_processing.specs.declared.fate.Fate.TheVariants.{Done, Again, Refused, Open}
 
 -- No command is sent to a line while one is in flight to it.
 

@@ -5,11 +5,11 @@ use Rattle.packages.specs.declared.event.LineEvent.TheVariants as events
 use Rattle.mg_bytes.specs.declared.letter.Letter.{Letter}
 use Rattle.packages.specs.declared.observed.Observed.{Observed}
 use Rattle.packages.specs.declared.observed.Observed.TheVariants.{Happened}
-use Rattle.call_routing.specs.declared.phase.Phase.{Phase}
-use Rattle.call_routing.specs.declared.told.Told.TheVariants.{OffHook, OnHook, Dialled}
-use Rattle.call_routing.specs.declared.command.Command.{Command}
-use Rattle.call_routing.specs.declared.command.Outcome.TheVariants.{Created, Answered, GivenUp}
-use Rattle.call_routing.specs.Exchange.{ExchangeState, opening, phase_of}
+use Rattle.call_processing.specs.declared.phase.Phase.{Phase}
+use Rattle.call_processing.specs.declared.told.Told.TheVariants.{OffHook, OnHook, Dialled}
+use Rattle.call_processing.specs.declared.command.Command.{Command}
+use Rattle.call_processing.specs.declared.command.Outcome.TheVariants.{Created, Answered, GivenUp}
+use Rattle.call_processing.specs.Exchange.{ExchangeState, opening, phase_of}
 use Rattle.live_laws.specs.CallTurns.{Turn, tells, answers, sends, after, commands_in}
 
 -- an exchange of three lines

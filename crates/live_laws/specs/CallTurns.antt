@@ -1,21 +1,21 @@
 -- All that happens to an exchange, turn after turn, in whatever order its owner takes it.
 use Rattle.std.specs.Prelude.{◌≡◌, ◌≢◌, ◌⊎◌, ℕ, ◌+◌, ◌==◌, ◌&&◌, not, is_some, is_none, Bool, true, false, List, [], ◌∷◌, ◌++◌, Option, Some, None}
 use Rattle.std.specs.List.{list_all}
-use Rattle.call_routing.specs.declared.phase.Phase.TheVariants.{Resting}
-use Rattle.call_routing.specs.declared.told.Told.{Told}
-use Rattle.call_routing.specs.declared.told.Told.TheVariants.{OffHook, OnHook, Flash, Dialled, TimedOut, Restarted, Disconnected}
-use Rattle.call_routing.specs.declared.asked.Asked.TheVariants.{Rest}
-use Rattle.call_routing.specs.declared.command.Command.{Command}
-use Rattle.call_routing.specs.declared.command.Command.TheVariants.{Ask, Create, Modify, Delete}
-use Rattle.call_routing.specs.declared.command.Outcome.{Outcome}
-use Rattle.call_routing.specs.declared.command.Outcome.TheVariants.{Created, Answered, GivenUp}
-use Rattle.call_routing.specs.declared.line.Leg.{Leg}
-use Rattle.call_routing.specs.declared.line.Leg.TheVariants.{Absent, Unknown, Standing}
-use Rattle.call_routing.specs.declared.line.Line.{Line}
-use Rattle.call_routing.specs.Phases.{named_by}
-use Rattle.call_routing.specs.Fates.{is_success, is_deleted, times_of}
-use Rattle.call_routing.specs.Next.{stands_for}
-use Rattle.call_routing.specs.Exchange.{ExchangeState, phase_of, line_of, flight_in, told, answered, put_off_at, cleared_at, due, sent_to}
+use Rattle.call_processing.specs.declared.phase.Phase.TheVariants.{Resting}
+use Rattle.call_processing.specs.declared.told.Told.{Told}
+use Rattle.call_processing.specs.declared.told.Told.TheVariants.{OffHook, OnHook, Flash, Dialled, TimedOut, Restarted, Disconnected}
+use Rattle.call_processing.specs.declared.asked.Asked.TheVariants.{Rest}
+use Rattle.call_processing.specs.declared.command.Command.{Command}
+use Rattle.call_processing.specs.declared.command.Command.TheVariants.{Ask, Create, Modify, Delete}
+use Rattle.call_processing.specs.declared.command.Outcome.{Outcome}
+use Rattle.call_processing.specs.declared.command.Outcome.TheVariants.{Created, Answered, GivenUp}
+use Rattle.call_processing.specs.declared.line.Leg.{Leg}
+use Rattle.call_processing.specs.declared.line.Leg.TheVariants.{Absent, Unknown, Standing}
+use Rattle.call_processing.specs.declared.line.Line.{Line}
+use Rattle.call_processing.specs.Phases.{named_by}
+use Rattle.call_processing.specs.Fates.{is_success, is_deleted, times_of}
+use Rattle.call_processing.specs.Next.{stands_for}
+use Rattle.call_processing.specs.Exchange.{ExchangeState, phase_of, line_of, flight_in, told, answered, put_off_at, cleared_at, due, sent_to}
 
 -- a line tells something; what became of the command in flight to a line; what is to be sent to a line is sent; a deletion of all that
 -- a line has was answered by a code

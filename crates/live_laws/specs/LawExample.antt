@@ -9,8 +9,8 @@ use Rattle.gateway_core.specs.Accounts.{account_of, no_account}
 use Rattle.gateway_core.specs.GatewayState.{GatewayState}
 use Rattle.gateway_core.specs.Outcomes.{outcomes_of}
 use Rattle.live_io.specs.Sending.{Received}
-use Rattle.call_routing.specs.declared.told.Told.TheVariants.{OffHook, OnHook}
-use Rattle.call_routing.specs.Exchange.{ExchangeState}
+use Rattle.call_processing.specs.declared.told.Told.TheVariants.{OffHook, OnHook}
+use Rattle.call_processing.specs.Exchange.{ExchangeState}
 use Rattle.rgw_scripts.specs.Moves.{give, sends as shows}
 use Rattle.traces.specs.Writing.{Entry, after_input, input_text, opening_script, passed, showed}
 use Rattle.live_play.specs.Running.{Live, live, sent_of}

@@ -6,18 +6,18 @@ ghost use Rattle.mg_bytes.specs.declared.letter.Letter.TheVariants as keys;
 ghost use Rattle.packages.specs.declared.event.LineEvent.TheVariants as events;
 ghost use Rattle.packages.specs.declared.signal.Signal.TheVariants.{DialTone};
 ghost use Rattle.packages.specs.declared.observed.Observed.TheVariants as observed;
-ghost use Rattle.call_routing.specs.Phases.{other_end, named_by};
-ghost use Rattle.call_routing.specs.Calls.{greatest_call, caller_of, put_through, all_resting};
-ghost use Rattle.call_routing.specs.declared.fate.Fate.TheVariants as fates;
-ghost use Rattle.call_routing.specs.declared.line.Line.{Line};
-ghost use Rattle.call_routing.specs.Fates.{is_success, may_pass, is_deleted, hook_told, refusal_fate, put_off_then};
-ghost use Rattle.call_routing.specs.Numbers.{line_called, told_in, tells_digits};
-ghost use Rattle.call_routing.specs.Parameters.{verb_of, request_lines, creation_lines, change_lines, deletion_lines, parameters_of};
-ghost use Rattle.call_routing.specs.Exchange.{phase_of, line_of, put_off_at, due};
+ghost use Rattle.call_processing.specs.Phases.{other_end, named_by};
+ghost use Rattle.call_processing.specs.Calls.{greatest_call, caller_of, put_through, all_resting};
+ghost use Rattle.call_processing.specs.declared.fate.Fate.TheVariants as fates;
+ghost use Rattle.call_processing.specs.declared.line.Line.{Line};
+ghost use Rattle.call_processing.specs.Fates.{is_success, may_pass, is_deleted, hook_told, refusal_fate, put_off_then};
+ghost use Rattle.call_processing.specs.Numbers.{line_called, told_in, tells_digits};
+ghost use Rattle.call_processing.specs.Parameters.{verb_of, request_lines, creation_lines, change_lines, deletion_lines, parameters_of};
+ghost use Rattle.call_processing.specs.Exchange.{phase_of, line_of, put_off_at, due};
 ghost use Rattle.live_laws.specs.CallTurns.{tells, sends, clears, after, is_sent, is_answered, is_coded, is_put_off, is_settled, count_turns, commands_in, leaves_alone, is_asked_on, is_bare, is_request, is_creation, accepts, ends};
 ghost use Rattle.live_laws.specs.CallExample.{opened, all_sent, driven, coded, accepted, given_up, created_first, created_second, ready, dial, ring, pick_up, connect, hang_up, then_is, phase_then, sent_at, key};
 
-use call_routing::{Asked, Cause, Command, Leg, Outcome, Phase, Side, Told, Tone};
+use call_processing::{Asked, Cause, Command, Leg, Outcome, Phase, Side, Told, Tone};
 use packages::Hook;
 
 /// Each sentence at an example.

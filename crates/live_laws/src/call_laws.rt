@@ -1,24 +1,24 @@
 //! Laws of calls, for every list of turns: whatever lines tell, whatever becomes of commands, in whatever order they are sent.
 //! Each function has an empty body: its clauses are the theorems.
 ghost use Rattle.std.specs.Prelude.{◌≡◌, ◌≢◌, ◌+◌, ◌*◌, ◌≤◌, ℕ, Bool, List, [], ◌∷◌, ◌++◌, true, false, Some, None};
-ghost use Rattle.call_routing.specs.declared.phase.Part.{Part};
-ghost use Rattle.call_routing.specs.declared.phase.Phase.{Phase};
-ghost use Rattle.call_routing.specs.declared.phase.Phase.TheVariants.{Resting, InCall};
-ghost use Rattle.call_routing.specs.declared.phase.Tone.TheVariants.{Busy, Reorder};
-ghost use Rattle.call_routing.specs.declared.told.Told.{Told};
-ghost use Rattle.call_routing.specs.declared.told.Told.TheVariants.{OnHook, Restarted};
-ghost use Rattle.call_routing.specs.declared.command.Outcome.{Outcome};
-ghost use Rattle.call_routing.specs.declared.command.Outcome.TheVariants.{Answered};
-ghost use Rattle.call_routing.specs.declared.command.Command.{Command};
-ghost use Rattle.call_routing.specs.declared.command.Command.TheVariants.{Ask, Create, Modify, Delete};
-ghost use Rattle.call_routing.specs.declared.asked.Asked.{Asked};
-ghost use Rattle.call_routing.specs.declared.line.Line.{Line};
-ghost use Rattle.call_routing.specs.declared.line.Leg.TheVariants.{Standing};
-ghost use Rattle.call_routing.specs.Phases.{other_end, left, is_in};
-ghost use Rattle.call_routing.specs.Asking.{wanted_in, is_asked};
-ghost use Rattle.call_routing.specs.Fates.{is_success, is_deleted, is_wanted, most_put_off, times_of};
-ghost use Rattle.call_routing.specs.Parameters.{gives, leg_of, description_of_other};
-ghost use Rattle.call_routing.specs.Exchange.{ExchangeState, opening, phase_of, line_of, told, answered, due};
+ghost use Rattle.call_processing.specs.declared.phase.Part.{Part};
+ghost use Rattle.call_processing.specs.declared.phase.Phase.{Phase};
+ghost use Rattle.call_processing.specs.declared.phase.Phase.TheVariants.{Resting, InCall};
+ghost use Rattle.call_processing.specs.declared.phase.Tone.TheVariants.{Busy, Reorder};
+ghost use Rattle.call_processing.specs.declared.told.Told.{Told};
+ghost use Rattle.call_processing.specs.declared.told.Told.TheVariants.{OnHook, Restarted};
+ghost use Rattle.call_processing.specs.declared.command.Outcome.{Outcome};
+ghost use Rattle.call_processing.specs.declared.command.Outcome.TheVariants.{Answered};
+ghost use Rattle.call_processing.specs.declared.command.Command.{Command};
+ghost use Rattle.call_processing.specs.declared.command.Command.TheVariants.{Ask, Create, Modify, Delete};
+ghost use Rattle.call_processing.specs.declared.asked.Asked.{Asked};
+ghost use Rattle.call_processing.specs.declared.line.Line.{Line};
+ghost use Rattle.call_processing.specs.declared.line.Leg.TheVariants.{Standing};
+ghost use Rattle.call_processing.specs.Phases.{other_end, left, is_in};
+ghost use Rattle.call_processing.specs.Asking.{wanted_in, is_asked};
+ghost use Rattle.call_processing.specs.Fates.{is_success, is_deleted, is_wanted, most_put_off, times_of};
+ghost use Rattle.call_processing.specs.Parameters.{gives, leg_of, description_of_other};
+ghost use Rattle.call_processing.specs.Exchange.{ExchangeState, opening, phase_of, line_of, told, answered, due};
 ghost use Rattle.live_laws.specs.CallTurns.{IsApart, IsAsBefore, Turn, sends, after, is_in_flight, count_if, is_sent, is_answered, is_coded, is_put_off, is_settled, count_turns, AreQuietFor, IsAtRest, is_request, is_creation, is_asked_on, is_bare, accepts, ends, IsPutOffOr, IsConnected};
 
 /// Where a line is in a call, the line that it names is in the same call, from the other side, and names it.

@@ -2,11 +2,11 @@
 #![tactic(auto, unfolding(crate::proofs::Computing::on_examples))]
 
 ghost use Rattle.std.specs.Prelude.{◌≡◌, codes, false, true, Some};
-ghost use Rattle.call_routing.specs.Line.{new_line};
+ghost use Rattle.call_processing.specs.Line.{new_line};
 ghost use Rattle.live_laws.specs.CallExample.{created_first, pick_up, ready, ring, then_is};
 ghost use Rattle.live_laws.specs.CallTurns.{after_one, IsApart, IsAsBefore, IsClear, IsConnected, IsPutOffOr};
 
-use call_routing::{Asked, Cause, Command, Leg};
+use call_processing::{Asked, Cause, Command, Leg};
 
 /// A line is clear that is asked for off hook alone, without a connection, and to which nothing is in flight.
 pub fn a_line_is_clear_without_anything()

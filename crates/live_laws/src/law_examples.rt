@@ -11,17 +11,17 @@ ghost use Rattle.live_play.specs.Readable.{AreByTicks, AreLater};
 ghost use Rattle.live_play.specs.Running.{Ran};
 ghost use Rattle.live_gateway.specs.declared.admission.Admission.{Admission};
 ghost use Rattle.live_gateway.specs.Desk.{GoesOnBy};
-ghost use Rattle.call_routing.specs.Calls.{caller_of};
-ghost use Rattle.call_routing.specs.Exchange.{answered, due, flight_in, line_of, phase_of, told};
-ghost use Rattle.call_routing.specs.Fates.{is_deleted, is_success, is_wanted};
-ghost use Rattle.call_routing.specs.Parameters.{gives};
+ghost use Rattle.call_processing.specs.Calls.{caller_of};
+ghost use Rattle.call_processing.specs.Exchange.{answered, due, flight_in, line_of, phase_of, told};
+ghost use Rattle.call_processing.specs.Fates.{is_deleted, is_success, is_wanted};
+ghost use Rattle.call_processing.specs.Parameters.{gives};
 ghost use Rattle.live_laws.specs.CallTurns.{after, sends, count_turns, is_asked_on, is_bare, is_creation, is_in_flight, is_put_off, is_request, is_settled, AreQuietFor, IsApart};
 ghost use Rattle.live_laws.specs.CallExample.{accepted, coded, created_first, created_second, dial, opened, pick_up, ready, ring, then_is};
 ghost use Rattle.live_laws.specs.Example.{sockets};
 ghost use Rattle.live_laws.specs.Replay.{AreWritable};
 ghost use Rattle.live_laws.specs.LawExample.{announced_desk, announced_entries, announced_gateway, announced_live, announcement, comes_to_rest, connected, from_opening, hung_up, opened_desk, opened_gateway, opened_live, to_create, unheard};
 
-use call_routing::{Asked, Command, Outcome, Phase, Side, Told};
+use call_processing::{Asked, Command, Outcome, Phase, Side, Told};
 
 /// What laws ask of a gateway that runs live is met by one that announces itself.
 pub fn what_is_asked_of_a_run_has_examples()

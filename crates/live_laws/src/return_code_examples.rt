@@ -3,8 +3,8 @@
 
 ghost use Rattle.std.specs.Prelude.{◌≡◌, [], ◌∷◌, ◌++◌, false, true, filter, map, nat_le, option_map, Some, None};
 ghost use Rattle.mg_bytes.specs.ReturnCode.{number_of, words_of};
-ghost use Rattle.call_routing.specs.ReturnCodes.{code_rows, row_in};
-ghost use Rattle.call_routing.specs.Fates.{hook_told, is_deleted, may_pass};
+ghost use Rattle.call_processing.specs.ReturnCodes.{code_rows, row_in};
+ghost use Rattle.call_processing.specs.Fates.{hook_told, is_deleted, may_pass};
 ghost use Rattle.live_laws.specs.CallExample.{numbers_from};
 
 use mg_bytes::ReturnCode;

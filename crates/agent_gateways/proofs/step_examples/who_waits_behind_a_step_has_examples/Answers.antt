@@ -1,8 +1,8 @@
 use Rattle.std.proofs.Common.{true, arith, refl, subst}
 use Rattle.std.specs.Prelude.{IfSome}
 use Rattle.endpoint_names.specs.declared.name.Pattern.TheVariants.{One}
-use Rattle.call_routing.specs.Exchange.{ExchangeState, phase_of}
-use Rattle.call_routing.specs.Phases.{named_by}
+use Rattle.call_processing.specs.Exchange.{ExchangeState, phase_of}
+use Rattle.call_processing.specs.Phases.{named_by}
 use Rattle.line_control.specs.Waiting.{IsWaiting}
 use Rattle.agent_gateways.specs.Steps.{exchange_announced}
 use Rattle.agent_gateways.proofs.step_examples.who_waits_behind_a_step_has_examples.Goals as goal

@@ -1,7 +1,7 @@
 use Rattle.std.proofs.Common.{◌≡◌, List, [], Some, inl, inr, ℕ}
 use Rattle.std.proofs.lemmas.Bool.{false≢true}
-use Rattle.call_routing.specs.declared.command.Outcome.TheVariants.{Answered}
-use Rattle.call_routing.specs.Exchange.{ExchangeState, answered}
+use Rattle.call_processing.specs.declared.command.Outcome.TheVariants.{Answered}
+use Rattle.call_processing.specs.Exchange.{ExchangeState, answered}
 use Rattle.line_control.specs.declared.care.Care.{Care}
 use Rattle.line_control.specs.declared.care.Duty.TheVariants.{Route}
 use Rattle.line_control.specs.Example.{creating}

@@ -1,6 +1,6 @@
 use Rattle.std.proofs.Common.{◌≡◌, ◌∙◌, true, ap, inl, inr, subst, Option}
-use Rattle.call_routing.specs.declared.command.Command.{Command}
-use Rattle.call_routing.specs.declared.command.Outcome.{Outcome}
+use Rattle.call_processing.specs.declared.command.Command.{Command}
+use Rattle.call_processing.specs.declared.command.Outcome.{Outcome}
 use Rattle.line_control.specs.Responses.{is_creation, outcome_by}
 use Rattle.line_control.specs.Turns.{Routes}
 use Rattle.line_control.proofs.office.answer.Goals as goal

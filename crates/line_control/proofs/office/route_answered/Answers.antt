@@ -1,5 +1,5 @@
 use Rattle.std.proofs.Common.{◌∙◌, ap, Option}
-use Rattle.call_routing.specs.declared.fate.PutOff.{PutOff}
+use Rattle.call_processing.specs.declared.fate.PutOff.{PutOff}
 use Rattle.line_control.specs.Duties.{routed_by}
 use Rattle.line_control.specs.Orders.{cared}
 use Rattle.line_control.proofs.office.route_answered.Goals as goal

@@ -1,7 +1,7 @@
 use Rattle.std.proofs.Common.{◌≡◌, false, List, Some, inl, inr, sym}
 use Rattle.std.proofs.lemmas.Bool.{true≢false}
-use Rattle.call_routing.specs.declared.told.Told.TheVariants.{OnHook}
-use Rattle.call_routing.specs.Exchange.{ExchangeState}
+use Rattle.call_processing.specs.declared.told.Told.TheVariants.{OnHook}
+use Rattle.call_processing.specs.Exchange.{ExchangeState}
 use Rattle.line_control.specs.declared.care.Care.{Care}
 use Rattle.line_control.specs.Duties.{told_care}
 use Rattle.line_control.specs.Orders.{cared}

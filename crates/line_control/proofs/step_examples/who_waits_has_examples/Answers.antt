@@ -1,7 +1,7 @@
 use Rattle.std.proofs.Common.{Bool, ap, subst}
 use Rattle.std.specs.Prelude.{IfSome}
-use Rattle.call_routing.specs.Exchange.{ExchangeState, phase_of}
-use Rattle.call_routing.specs.Phases.{named_by}
+use Rattle.call_processing.specs.Exchange.{ExchangeState, phase_of}
+use Rattle.call_processing.specs.Phases.{named_by}
 use Rattle.line_control.specs.declared.worklist.Worklist.{Worklist}
 use Rattle.line_control.specs.Waiting.{waits, IsWaiting}
 use Rattle.line_control.proofs.step_examples.who_waits_has_examples.Goals as goal

@@ -1,5 +1,5 @@
 use Rattle.std.proofs.Common.{◌≡◌, [], ◌∷◌, ◌++◌, refl, sym, ◌∙◌}
-use Rattle.call_routing.specs.declared.told.Told.TheVariants.{OffHook}
+use Rattle.call_processing.specs.declared.told.Told.TheVariants.{OffHook}
 use Rattle.live_laws.specs.CallTurns.{tells}
 use Rattle.live_laws.specs.CallExample.{coded, dial, phase_then}
 use Rattle.live_laws.proofs.Computing.{on_examples}

@@ -1,8 +1,8 @@
 use Rattle.std.proofs.Common.{◌≡◌, Option, None, Some, refl}
-use Rattle.call_routing.specs.declared.asked.Asked.{Asked}
-use Rattle.call_routing.specs.declared.asked.Asked.TheVariants.{BusyTone, Rest}
-use Rattle.call_routing.specs.declared.command.Command.TheVariants.{Ask}
-use Rattle.call_routing.specs.declared.line.Leg.TheVariants.{Absent, Unknown}
+use Rattle.call_processing.specs.declared.asked.Asked.{Asked}
+use Rattle.call_processing.specs.declared.asked.Asked.TheVariants.{BusyTone, Rest}
+use Rattle.call_processing.specs.declared.command.Command.TheVariants.{Ask}
+use Rattle.call_processing.specs.declared.line.Leg.TheVariants.{Absent, Unknown}
 use Rattle.live_laws.proofs.Computing.{on_examples}
 use Rattle.live_laws.proofs.call_record_examples.a_line_is_clear_without_anything.Goals as goal
 

@@ -1,9 +1,9 @@
 use Rattle.std.proofs.Common.{◌≡◌, ℕ, true, Option, None, Some, refl, sym, ap, ◌∙◌, arith}
 use Rattle.std.specs.Option.{unwrap_or}
-use Rattle.call_routing.specs.Exchange.{phase_of}
-use Rattle.call_routing.specs.Phases.{named_by}
-use Rattle.call_routing.specs.declared.command.Command.{Command}
-use Rattle.call_routing.specs.declared.command.Command.TheVariants.{Create}
+use Rattle.call_processing.specs.Exchange.{phase_of}
+use Rattle.call_processing.specs.Phases.{named_by}
+use Rattle.call_processing.specs.declared.command.Command.{Command}
+use Rattle.call_processing.specs.declared.command.Command.TheVariants.{Create}
 use Rattle.live_laws.specs.CallExample.{ready, ring, then_is}
 use Rattle.live_laws.proofs.Computing.{on_examples}
 use Rattle.live_laws.proofs.call_record_examples.another_line_is_apart.Goals as goal

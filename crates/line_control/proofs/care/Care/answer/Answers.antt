@@ -1,7 +1,7 @@
 use Rattle.std.proofs.Common.{◌∙◌, sym, arith}
 use Rattle.std.specs.Prelude.{nat_lt}
 use Rattle.std.proofs.lemmas.Bool.{and_parts, ltb-true}
-use Rattle.call_routing.specs.Fates.{may_pass, most_put_off}
+use Rattle.call_processing.specs.Fates.{may_pass, most_put_off}
 use Rattle.line_control.proofs.care.Care.answer.Goals as goal
 
 pub overflow_add-self : goal.overflow_add-self

@@ -1,6 +1,0 @@
-use Rattle.std.proofs.Common.{◌≡◌, replicate}
-use Rattle.call_routing.specs.Line.{new_line}
-use Rattle.call_routing.proofs.exchange.new_lines.Given as goal
-
-abbrev pub invariant-loop : goal.invariant-loop
-invariant-loop l = l.lines.items ≡ replicate l.counter new_line
