@@ -8,7 +8,7 @@ use Rattle.std.specs.declared.net.socket_addr.SocketAddrV4.{SocketAddrV4}
 use Rattle.endpoint_names.specs.declared.name.Pattern.TheVariants.{One}
 use Rattle.endpoint_names.specs.Name.{name_text}
 use Rattle.agent_config.specs.declared.config.GatewayConfig.{GatewayConfig}
-use Rattle.agent_texts.specs.declared.station.Station.{Station}
+use Rattle.agent_log.specs.declared.station.Station.{Station}
 use Rattle.agent_gateways.specs.declared.gateway.Gateway.{Gateway}
 use Rattle.agent_gateways.specs.Opening.{begins_as, gateways_from, known_as, lines_of, Known, StandsNew}
 use Rattle.agent_gateways.specs.Opening.{greatest_line, new_station, stations_behind, stations_from}

@@ -13,9 +13,9 @@ use Rattle.endpoint_names.specs.declared.name.Pattern.{Pattern}
 use Rattle.endpoint_names.specs.declared.name.Pattern.TheVariants.{One, All, Any}
 use Rattle.endpoint_names.specs.declared.name.NameFault.{NameFault}
 use Rattle.endpoint_names.specs.Name.{name_of}
-use Rattle.agent_texts.specs.declared.journal.Journal.{Journal}
-use Rattle.agent_texts.specs.declared.tally.Tally.{Tally}
-use Rattle.agent_texts.specs.Counts.{with_announcement, with_answer, with_strange_name}
+use Rattle.agent_log.specs.declared.journal.Journal.{Journal}
+use Rattle.agent_log.specs.declared.tally.Tally.{Tally}
+use Rattle.agent_log.specs.Counts.{with_announcement, with_answer, with_strange_name}
 use Rattle.agent_gateways.specs.declared.flight.Flight.{Flight}
 use Rattle.agent_gateways.specs.declared.gateway.Gateway.{Gateway}
 use Rattle.line_control.specs.declared.office.Office.{Office}

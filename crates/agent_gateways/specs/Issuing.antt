@@ -10,7 +10,7 @@ use Rattle.call_agent.specs.declared.issuing.IssueFault.TheVariants.{OutOfMemory
 use Rattle.call_agent.specs.AgentStands.{AgentStands, AgentStays, AgentTook}
 use Rattle.call_agent.specs.Hearing.{AgentEvent, issues, plain_agent}
 use Rattle.call_agent.specs.Issuing.{IssueRefusal, no_more_ids, bad_command, issue_refusal}
-use Rattle.agent_texts.specs.declared.station.Station.{Station}
+use Rattle.agent_log.specs.declared.station.Station.{Station}
 use Rattle.agent_gateways.specs.declared.flight.Flight.{Flight}
 use Rattle.agent_gateways.specs.declared.gateway.Gateway.{Gateway}
 use Rattle.line_control.specs.declared.office.Office.{Office}

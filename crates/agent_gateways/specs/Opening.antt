@@ -3,7 +3,7 @@ use Rattle.std.specs.Prelude.{◌≡◌, ◌&&◌, ◌+◌, ℕ, Bool, is_some, 
 use Rattle.std.specs.declared.net.socket_addr.SocketAddrV4.{SocketAddrV4}
 use Rattle.agent_config.specs.declared.config.AgentConfig.{AgentConfig}
 use Rattle.agent_config.specs.declared.config.GatewayConfig.{GatewayConfig}
-use Rattle.agent_texts.specs.declared.station.Station.{Station}
+use Rattle.agent_log.specs.declared.station.Station.{Station}
 use Rattle.endpoint_names.specs.declared.name.Pattern.TheVariants.{One}
 use Rattle.endpoint_names.specs.Name.{name_text}
 use Rattle.endpoint_names.specs.declared.route.Route.TheVariants as routes

@@ -6,7 +6,7 @@ use Rattle.call_agent.specs.Agent.{observed_on}
 use Rattle.call_agent.specs.AgentStands.{AgentStands}
 use Rattle.call_agent.specs.Hearing.{AgentEvent, plain_agent}
 use Rattle.call_processing.specs.Numbers.{told_in, tells_digits}
-use Rattle.agent_texts.specs.declared.station.Station.{Station}
+use Rattle.agent_log.specs.declared.station.Station.{Station}
 use Rattle.agent_gateways.specs.declared.gateway.Gateway.{Gateway}
 use Rattle.line_control.specs.declared.office.Office.{Office}
 use Rattle.agent_gateways.specs.declared.switchboard.Switchboard.{Switchboard}

@@ -1,6 +1,6 @@
 -- What counts.
 use Rattle.std.specs.Prelude.{Bool, if◌then◌else◌}
-use Rattle.agent_texts.specs.declared.tally.Tally.{Tally}
+use Rattle.agent_log.specs.declared.tally.Tally.{Tally}
 
 -- something counts once, where it is so
 abbrev pub counted_if : Bool → (Tally → Tally) → Tally → Tally

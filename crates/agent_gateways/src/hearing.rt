@@ -1,6 +1,6 @@
 //! What a board hears from its gateways: answers, announcements, notifications; and what lines have told is taken of them.
 ghost use Rattle.std.specs.Prelude.{◌≡◌, true, IfSome, slice_get};
-ghost use Rattle.agent_texts.specs.Counts.{with_notification, with_strange_name};
+ghost use Rattle.agent_log.specs.Counts.{with_notification, with_strange_name};
 ghost use Rattle.agent_gateways.specs.Boards.{taking_in};
 ghost use Rattle.agent_gateways.specs.Hearing.{is_strange, AnswersAt};
 ghost use Rattle.agent_gateways.specs.Hearing.{announcement_counted, command_counted, message_counted, response_counted};
@@ -15,7 +15,7 @@ use crate::gateway::Gateway;
 use crate::naming::{line_meant, method_of};
 use crate::switchboard::Switchboard;
 use crate::taking::take_from;
-use agent_texts::Journal;
+use agent_log::Journal;
 use endpoint_names::read_name;
 use mg_bytes::same_no_case;
 use mgcp_text::{Message, Param, TextFault, TransactionId, Verb, read_message};

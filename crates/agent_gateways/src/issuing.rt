@@ -1,6 +1,6 @@
 //! What a board issues: what is typed, what lines that are settled are sent; and what falls due: what is given up, who is woken.
 ghost use Rattle.std.specs.Prelude.{◌≡◌, IfOk, None, is_err, is_some, option_map, position, slice_get};
-ghost use Rattle.agent_texts.specs.Counts.{with_given_up};
+ghost use Rattle.agent_log.specs.Counts.{with_given_up};
 ghost use Rattle.agent_gateways.specs.Boards.{settling_in, SettlesIn, woken_at, WakesIn};
 ghost use Rattle.agent_gateways.specs.Dues.{FallsDue};
 ghost use Rattle.agent_gateways.specs.GivingUp.{ended_in, EndsAt, GivesUp};
@@ -21,7 +21,7 @@ use crate::naming::has_domain;
 use crate::orders::issue_named;
 use crate::switchboard::Switchboard;
 use crate::typed::{TypedFault, typed_in};
-use agent_texts::Journal;
+use agent_log::Journal;
 use call_agent::{IssueFault, Issued};
 use line_control::{Office, Order};
 use mg_bytes::{OutOfMemory, split_once};

@@ -21,7 +21,7 @@ ghost use Rattle.call_agent.specs.AgentStands.{AgentStands, AgentStays, AgentToo
 ghost use Rattle.machine_rules.specs.declared.refusal.Refusal.TheVariants as refusals;
 ghost use Rattle.plain_machine.specs.Event.{tick};
 ghost use Rattle.call_agent.specs.Hearing.{AgentEvent, issues, plain_agent};
-ghost use Rattle.agent_texts.specs.declared.station.Station.{Station};
+ghost use Rattle.agent_log.specs.declared.station.Station.{Station};
 ghost use Rattle.agent_gateways.specs.Boards.{Answers};
 ghost use Rattle.agent_gateways.specs.Dues.{FallsDue, FallsDueAt};
 ghost use Rattle.line_control.specs.Duties.{announced, begun, fixed_order, lost, new_care, outlived, owed};

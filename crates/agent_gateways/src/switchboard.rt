@@ -14,7 +14,7 @@ ghost use Rattle.agent_gateways.specs.Steps.{AtPlace, OthersStay, Refuses, Ticks
 use crate::dialling::Dialling;
 use crate::gateway::Gateway;
 use agent_config::{AgentConfig, copied};
-use agent_texts::Station;
+use agent_log::Station;
 use line_control::{Office, Worklist};
 use call_processing::NumberPlan;
 use endpoint_names::{Pattern, write_name};

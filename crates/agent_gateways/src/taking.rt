@@ -1,13 +1,13 @@
 //! What a line of a gateway has told and wasn't taken yet is taken, each event once.
 ghost use Rattle.std.specs.Prelude.{◌≡◌, true, false, drop};
-ghost use Rattle.agent_texts.specs.Counts.{with_notification};
+ghost use Rattle.agent_log.specs.Counts.{with_notification};
 ghost use Rattle.line_control.specs.Steps.{HearsSome};
 ghost use Rattle.agent_gateways.specs.Steps.{OfOffice, WaitsIn};
 ghost use Rattle.agent_gateways.specs.Taking.{TakesFrom};
 ghost use Rattle.agent_gateways.specs.Tallying.{counted_if};
 
 use crate::gateway::Gateway;
-use agent_texts::{Journal, Station};
+use agent_log::{Journal, Station};
 use line_control::Office;
 use call_processing::NumberPlan;
 use packages::Observed;

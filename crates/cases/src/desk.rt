@@ -16,7 +16,7 @@ use crate::stories::{
     told, unread_outlet,
 };
 use agent_config::{AgentConfig, ConfigRefusal, read_config};
-use agent_texts::Journal;
+use agent_log::Journal;
 use live_agent::{Recorder, Wire, WireSettings, serve_over, wire_over};
 use live_system::{AddressWord, CommonEnding, SocketWanted};
 use mg_bytes::OutOfMemory;

@@ -2,9 +2,9 @@
 use Rattle.std.proofs.Common.{◌≡◌, ℕ, List, Option, Some, sym, ap, subst, ◌∙◌}
 use Rattle.std.specs.Prelude.{slice_get}
 use Rattle.std.specs.Global.{Box}
-use Rattle.agent_texts.specs.declared.journal.Journal.{Journal}
-use Rattle.agent_texts.specs.declared.station.Station.{Station}
-use Rattle.agent_texts.specs.Telling.{Tells}
+use Rattle.agent_log.specs.declared.journal.Journal.{Journal}
+use Rattle.agent_log.specs.declared.station.Station.{Station}
+use Rattle.agent_log.specs.Telling.{Tells}
 use Rattle.line_control.specs.declared.office.Office.{Office}
 use Rattle.line_control.specs.Showing.{ShowsIn, ShowsLine}
 

@@ -5,8 +5,8 @@ use Rattle.call_processing.specs.declared.fate.Cause.{Cause}
 use Rattle.call_processing.specs.declared.fate.Cause.TheVariants as causes
 use Rattle.call_processing.specs.declared.fate.PutOff.{PutOff}
 use Rattle.call_processing.specs.Fates.{may_pass, most_put_off}
-use Rattle.agent_texts.specs.declared.standing.Standing.TheVariants.{Rest}
-use Rattle.agent_texts.specs.Refusals.{no_refusals}
+use Rattle.agent_log.specs.declared.standing.Standing.TheVariants.{Rest}
+use Rattle.agent_log.specs.Refusals.{no_refusals}
 use Rattle.line_control.specs.declared.care.Duty.{Duty}
 use Rattle.line_control.specs.declared.care.Duty.TheVariants.{Clear, Audit, Route}
 use Rattle.line_control.specs.declared.care.Care.{Care}

@@ -2,11 +2,11 @@
 use Rattle.std.specs.Prelude.{◌≡◌, ◌≢◌, ℕ, List, ◌++◌, Option, Some, None, slice_get}
 use Rattle.std.specs.Global.{Box}
 use Rattle.call_processing.specs.Exchange.{ExchangeState}
-use Rattle.agent_texts.specs.declared.journal.Journal.{Journal}
-use Rattle.agent_texts.specs.declared.station.Station.{Station}
-use Rattle.agent_texts.specs.Standings.{standing_of, with_change}
-use Rattle.agent_texts.specs.Refusals.{refusals_of, refusals_told}
-use Rattle.agent_texts.specs.Telling.{change_told, Tells}
+use Rattle.agent_log.specs.declared.journal.Journal.{Journal}
+use Rattle.agent_log.specs.declared.station.Station.{Station}
+use Rattle.agent_log.specs.Standings.{standing_of, with_change}
+use Rattle.agent_log.specs.Refusals.{refusals_of, refusals_told}
+use Rattle.agent_log.specs.Telling.{change_told, Tells}
 use Rattle.line_control.specs.declared.care.Care.{Care}
 use Rattle.line_control.specs.declared.care.Shown.{Shown}
 use Rattle.line_control.specs.declared.office.Office.{Office}

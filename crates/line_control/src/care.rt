@@ -2,7 +2,7 @@
 ghost use Rattle.std.specs.Prelude.{◌≡◌, option_map};
 ghost use Rattle.line_control.specs.Duties.{is_held, begun, owed_behind, owed, lost, announced, held_from, woken, is_put_off, duty_answered, duty_behind, routed_by, changed_by, fixed_order};
 
-use agent_texts::{Refusals, Standing};
+use agent_log::{Refusals, Standing};
 use call_processing::{Cause, MOST_PUT_OFF, PutOff, may_pass};
 
 /// A command that was put off is sent again so long behind its answer, in ms.

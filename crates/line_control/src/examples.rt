@@ -9,8 +9,8 @@ ghost use Rattle.call_processing.specs.Phases.{named_by};
 ghost use Rattle.call_processing.specs.Exchange.{opening, sent_to, told, answered, cleared_at};
 ghost use Rattle.line_control.specs.declared.care.Duty.TheVariants.{Clear, Audit, Route};
 ghost use Rattle.line_control.specs.Waiting.{waits, settling, settled_at};
-ghost use Rattle.agent_texts.specs.Refusals.{no_refusals};
-ghost use Rattle.agent_texts.specs.Example.{refused_with};
+ghost use Rattle.agent_log.specs.Refusals.{no_refusals};
+ghost use Rattle.agent_log.specs.Example.{refused_with};
 ghost use Rattle.line_control.specs.Duties.{new_care, duty_begun, begun, landed, owed, lost, outlived, announced, found, told_of, told_care, again_at, held_from, woken, duty_answered, routed_by, fixed_order};
 ghost use Rattle.line_control.specs.Hooks.{hook_of, hook_among, hook_told, is_off, was_off, told_by_hook, notified};
 ghost use Rattle.line_control.specs.Responses.{creates, connection_in, created, is_creation, created_by, outcome_by};
@@ -19,7 +19,7 @@ ghost use Rattle.line_control.specs.Turns.{forsaken, heard_by, announced_by, out
 ghost use Rattle.line_control.specs.Showing.{shown_in};
 ghost use Rattle.line_control.specs.Example.{cleared, audited, found_off, param, part, answered_part, creating};
 
-use agent_texts::Standing;
+use agent_log::Standing;
 use call_processing::{Asked, Cause, Command, Outcome, Phase, Side, Told, Tone};
 
 /// Each sentence at an example.

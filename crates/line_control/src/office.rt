@@ -7,8 +7,8 @@ ghost use Rattle.call_processing.specs.declared.told.Told.TheVariants.{Flash};
 ghost use Rattle.call_processing.specs.declared.command.Outcome.TheVariants.{GivenUp};
 ghost use Rattle.call_processing.specs.Exchange.{opening, phase_of, flight_in, line_of, told};
 ghost use Rattle.call_processing.specs.Numbers.{told_in, tells_digits};
-ghost use Rattle.agent_texts.specs.Standings.{with_change};
-ghost use Rattle.agent_texts.specs.Telling.{change_told, Tells};
+ghost use Rattle.agent_log.specs.Standings.{with_change};
+ghost use Rattle.agent_log.specs.Telling.{change_told, Tells};
 ghost use Rattle.line_control.specs.declared.care.Duty.TheVariants.{Audit};
 ghost use Rattle.line_control.specs.Duties.{new_care, landed, lost, announced, told_of, woken, changed_by};
 ghost use Rattle.line_control.specs.Orders.{shown, flight_of, was_found_off, is_outlived, has_told, again_of, is_put_off_in, cared, ordered};
@@ -23,7 +23,7 @@ use crate::hooks::{audited_hook, is_off_hook, notified, told_by_hook};
 use crate::responses::outcome_of;
 use crate::worklist::Worklist;
 use agent_config::copied;
-use agent_texts::{
+use agent_log::{
     Journal, Standing, Station, refusals_of, standing_of, tell_change, tell_refusals,
 };
 use call_processing::{Command, Exchange, NumberPlan, Outcome, Told, named_by, told_in};

@@ -7,9 +7,9 @@ ghost use Rattle.mgcp_text.specs.Reading.{bad_body, bad_version, no_header};
 ghost use Rattle.call_processing.specs.declared.fate.Cause.TheVariants as causes;
 ghost use Rattle.call_processing.specs.declared.fate.PutOff.{PutOff};
 ghost use Rattle.call_processing.specs.Exchange.{ExchangeState, opening, sent_to, told, answered, cleared_at};
-ghost use Rattle.agent_texts.specs.declared.journal.Journal.{Journal};
-ghost use Rattle.agent_texts.specs.declared.station.Station.{Station};
-ghost use Rattle.agent_texts.specs.Standings.{with_change};
+ghost use Rattle.agent_log.specs.declared.journal.Journal.{Journal};
+ghost use Rattle.agent_log.specs.declared.station.Station.{Station};
+ghost use Rattle.agent_log.specs.Standings.{with_change};
 ghost use Rattle.line_control.specs.declared.care.Care.{Care};
 ghost use Rattle.line_control.specs.declared.care.Change.TheVariants as changes;
 ghost use Rattle.line_control.specs.declared.care.Duty.TheVariants.{Clear, Audit, Route};
@@ -26,7 +26,7 @@ ghost use Rattle.line_control.specs.Waiting.{IsWaiting, Settles, Touches};
 ghost use Rattle.line_control.specs.declared.worklist.Worklist.{Worklist};
 ghost use Rattle.line_control.specs.Example.{audited, cleared, creating, found_off, param};
 
-use agent_texts::Standing;
+use agent_log::Standing;
 use call_processing::{Outcome, Told};
 
 /// What becomes of a line.

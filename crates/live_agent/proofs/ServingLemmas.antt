@@ -1,7 +1,7 @@
 -- Turns, one behind another.
 use Rattle.std.proofs.Common.{◌≡◌, inl, ℕ, ◌+◌, suc, Bool, true, false, Result, Ok, refl, sym, ap, subst, ◌∙◌, arith}
 use Rattle.std.specs.Prelude.{⊤, not, List, Option}
-use Rattle.agent_texts.specs.declared.journal.Journal.{Journal}
+use Rattle.agent_log.specs.declared.journal.Journal.{Journal}
 use Rattle.live_io.specs.Around.{Around}
 use Rattle.live_io.specs.declared.surroundings.Fault.{Fault}
 use Rattle.agent_gateways.specs.declared.gateway.Gateway.{Gateway}

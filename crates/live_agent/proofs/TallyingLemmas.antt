@@ -1,8 +1,8 @@
 -- What counts where a datagram is sent.
 use Rattle.std.proofs.Common.{◌≡◌, Bool, true, false, Option, Some, None, refl, subst}
 use Rattle.std.specs.Prelude.{⊤, is_err, is_some, Result, Ok, Err}
-use Rattle.agent_texts.specs.declared.tally.Tally.{Tally}
-use Rattle.agent_texts.specs.Counts.{with_handed_out}
+use Rattle.agent_log.specs.declared.tally.Tally.{Tally}
+use Rattle.agent_log.specs.Counts.{with_handed_out}
 use Rattle.impairment.specs.declared.network.BadNetwork.{BadNetwork}
 use Rattle.impairment.specs.declared.packet.Way.TheVariants.{Out}
 use Rattle.live_io.specs.declared.surroundings.Fault.{Fault}

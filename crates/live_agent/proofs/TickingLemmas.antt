@@ -1,7 +1,7 @@
 -- What a tick leaves of a board and of a wire, gateway by gateway.
 use Rattle.std.proofs.Common.{◌≡◌, ◌⊎◌, inl, inr, ℕ, ◌+◌, zero, suc, Bool, true, false, length, sym, subst, arith}
-use Rattle.agent_texts.specs.declared.tally.Tally.{Tally}
-use Rattle.agent_texts.specs.Counts.{with_given_up}
+use Rattle.agent_log.specs.declared.tally.Tally.{Tally}
+use Rattle.agent_log.specs.Counts.{with_given_up}
 use Rattle.live_io.specs.Around.{Around}
 use Rattle.agent_gateways.specs.Tallying.{counted_if}
 use Rattle.agent_gateways.specs.declared.switchboard.Switchboard.{Switchboard}

@@ -1,6 +1,6 @@
 -- Surroundings of which a worked example asks nothing, and who writes and serves over them: of each a number.
 use Rattle.std.specs.Prelude.{◌≡◌, ⊤, ℕ, List, Result}
-use Rattle.agent_texts.specs.declared.journal.Journal.{Journal}
+use Rattle.agent_log.specs.declared.journal.Journal.{Journal}
 use Rattle.live_io.specs.Around.{Around, unasked}
 use Rattle.live_io.specs.declared.surroundings.Fault.{Fault}
 use Rattle.output_queues.specs.declared.written.Written.{Written}

@@ -2,8 +2,8 @@
 use Rattle.std.specs.Prelude.{◌≡◌, ℕ, zero, suc, Bool, true, false, is_some, position, List, [], ◌∷◌, take, length, Option, Some, None, IfNone, IfSome, IfOk, OnErr, Result, Ok, slice_get}
 use Rattle.std.specs.Result.{result_err}
 use Rattle.std.specs.declared.net.socket_addr.SocketAddrV4.{SocketAddrV4}
-use Rattle.agent_texts.specs.declared.tally.Tally.{Tally}
-use Rattle.agent_texts.specs.Counts.{one_more, with_notification, with_received}
+use Rattle.agent_log.specs.declared.tally.Tally.{Tally}
+use Rattle.agent_log.specs.Counts.{one_more, with_notification, with_received}
 use Rattle.impairment.specs.declared.network.BadNetwork.{BadNetwork}
 use Rattle.impairment.specs.declared.packet.Packet.{Packet}
 use Rattle.impairment.specs.declared.packet.Way.TheVariants.{In}

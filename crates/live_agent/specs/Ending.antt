@@ -1,7 +1,7 @@
 -- How a call agent ends that served.
 use Rattle.std.specs.Prelude.{◌≡◌, ◌⊎◌, ℕ, Bool, ◌||◌, if◌then◌else◌, List, ◌++◌}
-use Rattle.agent_texts.specs.declared.journal.Journal.{Journal}
-use Rattle.agent_texts.specs.Counts.{counts_text}
+use Rattle.agent_log.specs.declared.journal.Journal.{Journal}
+use Rattle.agent_log.specs.Counts.{counts_text}
 use Rattle.live_system.specs.declared.ending.CommonEnding.{CommonEnding}
 use Rattle.live_system.specs.declared.ending.CommonEnding.TheVariants.{Clock, OutOfMemory}
 use Rattle.output_queues.specs.declared.written.Written.{Written}

@@ -2,7 +2,7 @@
 -- it, and what it hands over.
 use Rattle.std.specs.Prelude.{◌≡◌, ◌⊎◌, ⊤, ℕ, Bool, true, false, List, [], ◌∷◌, length, Option, Some, None, Result}
 use Rattle.std.specs.declared.net.socket_addr.SocketAddrV4.{SocketAddrV4}
-use Rattle.agent_texts.specs.declared.tally.Tally.{Tally}
+use Rattle.agent_log.specs.declared.tally.Tally.{Tally}
 use Rattle.impairment.specs.declared.network.BadNetwork.{BadNetwork}
 use Rattle.impairment.specs.declared.packet.Packet.{Packet}
 use Rattle.impairment.specs.declared.packet.Way.{Way}

@@ -2,7 +2,7 @@
 -- each counts once.
 use Rattle.std.specs.Prelude.{◌≡◌, ℕ, Bool, true, false, List, [], ◌∷◌, Option, Some, None, Result, Ok, Err}
 use Rattle.std.specs.declared.net.socket_addr.SocketAddrV4.{SocketAddrV4}
-use Rattle.agent_texts.specs.Counts.{with_handed_out}
+use Rattle.agent_log.specs.Counts.{with_handed_out}
 use Rattle.impairment.specs.declared.network.BadNetwork.{BadNetwork}
 use Rattle.impairment.specs.declared.packet.Way.TheVariants.{Out}
 use Rattle.machine_rules.specs.declared.refusal.Refusal.{Refusal}

@@ -1,7 +1,7 @@
 -- How a call agent serves: one turn behind another, until the end comes.
 use Rattle.std.specs.Prelude.{◌≡◌, ◌⊎◌, ⊤, ℕ, zero, suc, ◌-◌, ◌^◌, Bool, true, false, is_err, List, Result, Ok, Err}
 use Rattle.agent_config.specs.declared.config.AgentConfig.{AgentConfig}
-use Rattle.agent_texts.specs.declared.journal.Journal.{Journal}
+use Rattle.agent_log.specs.declared.journal.Journal.{Journal}
 use Rattle.live_system.specs.declared.ending.CommonEnding.{CommonEnding}
 use Rattle.live_system.specs.declared.ending.CommonEnding.TheVariants.{OutOfMemory}
 use Rattle.output_queues.specs.declared.written.Written.{Written}

@@ -1,9 +1,9 @@
 -- What counts of what goes over a wire.
 use Rattle.std.specs.Prelude.{◌≡◌, ◌⊎◌, ⊤, ℕ, ◌==◌, Bool, if◌then◌else◌, Option, Some, None, Result, Ok, Err}
 use Rattle.std.specs.declared.net.socket_addr.SocketAddrV4.{SocketAddrV4}
-use Rattle.agent_texts.specs.declared.journal.Journal.{Journal}
-use Rattle.agent_texts.specs.declared.tally.Tally.{Tally}
-use Rattle.agent_texts.specs.Counts.{one_more, with_handed_out}
+use Rattle.agent_log.specs.declared.journal.Journal.{Journal}
+use Rattle.agent_log.specs.declared.tally.Tally.{Tally}
+use Rattle.agent_log.specs.Counts.{one_more, with_handed_out}
 use Rattle.impairment.specs.declared.fate.Fate.{Fate}
 use Rattle.impairment.specs.declared.fate.Fate.TheVariants.{Lost, Once, Twice}
 use Rattle.impairment.specs.declared.network.BadNetwork.{BadNetwork}

@@ -2,7 +2,7 @@
 -- settled.
 use Rattle.std.specs.Prelude.{◌≡◌, ◌⊎◌, ℕ, zero, suc, Bool, true, false, is_ok, is_some, List, [], length, None, IfNone, IfOk, OnErr, Result, Ok, slice_get}
 use Rattle.std.specs.Result.{result_err}
-use Rattle.agent_texts.specs.Counts.{with_given_up}
+use Rattle.agent_log.specs.Counts.{with_given_up}
 use Rattle.call_agent.specs.AgentStands.{AgentStays, AgentTook}
 use Rattle.call_agent.specs.Hearing.{hears}
 use Rattle.machine_rules.specs.declared.refusal.Refusal.{Refusal}

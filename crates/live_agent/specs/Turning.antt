@@ -18,8 +18,8 @@ use Rattle.turns.specs.declared.schedule.Schedule.{Schedule}
 use Rattle.turns.specs.declared.situation.Situation.{Situation}
 use Rattle.turns.specs.declared.turn.Turn.{Turn}
 use Rattle.turns.specs.declared.turn.Turn.TheVariants as turns
-use Rattle.agent_texts.specs.Telling.{Tells}
-use Rattle.agent_texts.specs.declared.journal.Journal.{Journal}
+use Rattle.agent_log.specs.Telling.{Tells}
+use Rattle.agent_log.specs.declared.journal.Journal.{Journal}
 use Rattle.log_format.specs.Pausing.{pause_line}
 use Rattle.live_system.specs.Waiting.{longest_wait}
 use Rattle.live_agent.specs.declared.session.Request.{Request}

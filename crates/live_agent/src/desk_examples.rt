@@ -5,10 +5,10 @@ ghost use Rattle.std.specs.Prelude.{◌≡◌, ◌⊎◌, [], ◌∷◌, ℕ, tr
 ghost use Rattle.std.specs.declared.net.socket_addr.SocketAddrV4.{SocketAddrV4};
 ghost use Rattle.std.specs.Result.{result_err};
 ghost use Rattle.agent_config.specs.declared.config.AgentConfig.{AgentConfig};
-ghost use Rattle.agent_texts.specs.declared.journal.Journal.{Journal};
-ghost use Rattle.agent_texts.specs.declared.tally.Tally.{Tally};
-ghost use Rattle.agent_texts.specs.Counts.{with_given_up, with_notification};
-ghost use Rattle.agent_texts.specs.Telling.{Tells};
+ghost use Rattle.agent_log.specs.declared.journal.Journal.{Journal};
+ghost use Rattle.agent_log.specs.declared.tally.Tally.{Tally};
+ghost use Rattle.agent_log.specs.Counts.{with_given_up, with_notification};
+ghost use Rattle.agent_log.specs.Telling.{Tells};
 ghost use Rattle.log_format.specs.Pausing.{pause_line};
 ghost use Rattle.impairment.specs.declared.network.BadNetwork.{BadNetwork};
 ghost use Rattle.impairment.specs.declared.packet.Packet.{Packet};

@@ -2,7 +2,7 @@
 ghost use Rattle.std.specs.Prelude.{◌≡◌, ◌&&◌, not};
 ghost use Rattle.mg_bytes.specs.Lists.{is_empty};
 
-use agent_texts::Journal;
+use agent_log::Journal;
 use live_system::DayWatch;
 use output_queues::{Finisher, Outlets, Written};
 use std::alloc::Global;
@@ -11,7 +11,7 @@ use std::rt::{Clock, Files};
 /// Where what was recorded is written. What it makes of that is its own; that it was told to is said.
 pub trait Recorder {
     ghost use Rattle.std.specs.Prelude.{⊤, ℕ};
-    ghost use Rattle.agent_texts.specs.declared.journal.Journal.{Journal};
+    ghost use Rattle.agent_log.specs.declared.journal.Journal.{Journal};
 
     /// It was told once to write what was recorded, at a moment: that left this of it.
     ghost writes: { Self → Journal → ℕ → Self → Journal → Type 0 } = { λ was journal time is left. ⊤ };

@@ -1,6 +1,6 @@
 //! Serves a call agent from its opening to its end.
 ghost use Rattle.std.specs.Prelude.{◌≡◌, ◌⊎◌, [], None, true, is_some, IfErr, IfOk};
-ghost use Rattle.agent_texts.specs.Counts.{nothing_counted};
+ghost use Rattle.agent_log.specs.Counts.{nothing_counted};
 ghost use Rattle.live_system.specs.declared.ending.CommonEnding.TheVariants.{OutOfMemory};
 ghost use Rattle.live_agent.specs.Clock.{milliseconds};
 ghost use Rattle.live_agent.specs.Ending.{is_record_refused};
@@ -15,7 +15,7 @@ use crate::recorder::{Recorder, Recording};
 use crate::session::serve;
 use crate::wire::Wire;
 use agent_config::AgentConfig;
-use agent_texts::Journal;
+use agent_log::Journal;
 use impairment::{BadNetwork, Spoiling};
 use log_format::put_peer;
 use live_system::{CommonEnding, DayWatch, Live, SocketWanted, open_capture};

@@ -15,7 +15,7 @@ ghost use Rattle.live_agent.specs.Wiring.{due_of, ms_until, longest_until, IsSit
 
 use crate::recorder::Recorder;
 use crate::wire::{MOST_AT_ONCE, Wire, log_pause};
-use agent_texts::count;
+use agent_log::count;
 use impairment::Way;
 use call_agent::{IssueFault, Issued};
 use output_queues::{DONE, NO_MEMORY, STOP_FROM_AFAR};

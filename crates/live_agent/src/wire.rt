@@ -2,7 +2,7 @@
 ghost use Rattle.std.specs.Prelude.{◌≡◌, ◌≤◌, ⊤, ◌∷◌, ℕ, Bool, Option, Some, None, Result, [], true, false, not, length, is_some, IfOk, IfSome};
 ghost use Rattle.std.specs.declared.net.socket_addr.SocketAddrV4.{SocketAddrV4 as Peer};
 ghost use Rattle.impairment.specs.declared.packet.Way.TheVariants.{In};
-ghost use Rattle.agent_texts.specs.Telling.{Tells};
+ghost use Rattle.agent_log.specs.Telling.{Tells};
 ghost use Rattle.log_format.specs.Pausing.{pause_line};
 ghost use Rattle.live_system.specs.Waiting.{longest_wait};
 ghost use Rattle.mg_bytes.specs.Lists.{is_empty};
@@ -18,7 +18,7 @@ ghost use Rattle.live_io.specs.Typing.{left_of, behind};
 ghost use Rattle.live_io.specs.declared.surroundings.Fault.{Fault};
 ghost use Rattle.live_io.specs.declared.surroundings.Told.{Told};
 
-use agent_texts::{Journal, Tally, count};
+use agent_log::{Journal, Tally, count};
 use impairment::{BadNetwork, Fate, Packet, Way};
 use log_format::{Note, Stamp, put_pause};
 use live_system::longest_wait;
@@ -122,7 +122,7 @@ fn offer_to(
 }
 
 /// That the program was stopped, and goes on at this moment, in microseconds since 1970, is put into the log.
-#[tactic(auto, using(agent_texts::proofs::TellingLemmas::telling))]
+#[tactic(auto, using(agent_log::proofs::TellingLemmas::telling))]
 pub(crate) fn log_pause(alloc: Global, log: &mut Record, time: u64, pause: Pause)
     ensures { Tells (pause_line time pause.lateness pause.read) log.old log.new }
 {

@@ -165,7 +165,7 @@ impl LateLog {
     }
 
     /// Keeps what a call agent recorded, at this time, as that does.
-    pub fn write_agent(&mut self, journal: &mut agent_texts::Journal, time: u64)
+    pub fn write_agent(&mut self, journal: &mut agent_log::Journal, time: u64)
         ensures { journal.new.tally ≡ journal.old.tally }
     {
         journal.write(&mut self.outlets, time);

@@ -125,7 +125,7 @@ impl Records {
     }
 
     /// Keeps what a call agent recorded at this time as that does, where that is read late: whether it is.
-    pub fn keep_agent_late(&mut self, journal: &mut agent_texts::Journal, time: u64) -> bool
+    pub fn keep_agent_late(&mut self, journal: &mut agent_log::Journal, time: u64) -> bool
         ensures { journal.new.tally ≡ journal.old.tally }
     {
         let Some(late_log) = &mut self.late_log else {

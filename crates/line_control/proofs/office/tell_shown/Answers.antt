@@ -1,6 +1,6 @@
 use Rattle.std.proofs.Common.{ap, ◌∙◌}
-use Rattle.agent_texts.proofs.TellingLemmas.{tells_both}
-use Rattle.agent_texts.specs.declared.journal.Journal.{Journal}
+use Rattle.agent_log.proofs.TellingLemmas.{tells_both}
+use Rattle.agent_log.specs.declared.journal.Journal.{Journal}
 use Rattle.line_control.proofs.ShowingLemmas.{counted_behind, shown_rest, told_same}
 use Rattle.line_control.proofs.office.tell_shown.Goals as goal
 

@@ -1,6 +1,6 @@
 use Rattle.std.proofs.Common.{List, refl, sym, ap, subst}
 use Rattle.std.specs.Prelude.{slice_get}
-use Rattle.agent_texts.specs.declared.journal.Journal.{Journal}
+use Rattle.agent_log.specs.declared.journal.Journal.{Journal}
 use Rattle.line_control.specs.declared.care.Care.{Care}
 use Rattle.line_control.specs.Showing.{ShowsLine}
 use Rattle.line_control.proofs.step_examples.what_is_shown_has_examples.Goals as goal

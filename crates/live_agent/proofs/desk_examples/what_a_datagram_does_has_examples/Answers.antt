@@ -2,8 +2,8 @@ use Rattle.std.proofs.Common.{◌≡◌, ℕ, Bool, List, [], Option, Result, Ok
 use Rattle.std.specs.Prelude.{IfNone, IfSome, slice_get}
 use Rattle.agent_gateways.specs.Steps.{WaitsIn}
 use Rattle.std.specs.declared.net.socket_addr.SocketAddrV4.{SocketAddrV4}
-use Rattle.agent_texts.specs.declared.journal.Journal.{Journal}
-use Rattle.agent_texts.specs.Counts.{with_notification}
+use Rattle.agent_log.specs.declared.journal.Journal.{Journal}
+use Rattle.agent_log.specs.Counts.{with_notification}
 use Rattle.live_io.specs.declared.surroundings.Fault.{Fault}
 use Rattle.agent_gateways.specs.declared.gateway.Gateway.{Gateway}
 use Rattle.agent_gateways.specs.declared.switchboard.Switchboard.{Switchboard}

@@ -1,5 +1,5 @@
 use Rattle.std.proofs.Common.{ap}
-use Rattle.agent_texts.specs.declared.journal.Journal.{Journal}
+use Rattle.agent_log.specs.declared.journal.Journal.{Journal}
 use Rattle.live_agent.proofs.desk_examples.what_is_recorded_has_examples.Goals as goal
 
 pub returns-clause-counts : goal.returns-clause-counts

@@ -1,7 +1,7 @@
 use Rattle.std.proofs.Common.{◌≡◌, ℕ, [], List, Option, None, Result, ap, subst}
 use Rattle.std.specs.Prelude.{⊤, codes}
 use Rattle.std.specs.declared.net.socket_addr.SocketAddrV4.{SocketAddrV4}
-use Rattle.agent_texts.specs.declared.journal.Journal.{Journal}
+use Rattle.agent_log.specs.declared.journal.Journal.{Journal}
 use Rattle.impairment.specs.declared.network.BadNetwork.{BadNetwork}
 use Rattle.live_io.specs.declared.surroundings.Fault.{Fault}
 use Rattle.agent_gateways.specs.Issuing.{IssuesSettled}

@@ -4,7 +4,7 @@ use Rattle.live_system.specs.Waiting.{longest_wait}
 use Rattle.live_io.specs.declared.surroundings.Fault.{Fault}
 use Rattle.live_agent.specs.Tallying.{waited_counted}
 use Rattle.live_agent.specs.Wiring.{longest_until}
-use Rattle.agent_texts.specs.declared.journal.Journal.{Journal}
+use Rattle.agent_log.specs.declared.journal.Journal.{Journal}
 use Rattle.agent_gateways.specs.declared.switchboard.Switchboard.{Switchboard}
 use Rattle.live_agent.specs.declared.wire.Wire.{Wire}
 use Rattle.live_agent.proofs.desk_examples.what_turns_leave_has_examples.Goals as goal

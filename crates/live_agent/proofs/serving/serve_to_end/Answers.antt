@@ -1,5 +1,5 @@
 use Rattle.std.proofs.Common.{◌≡◌, Bool, inl, inr, refl, sym, ap, ◌∙◌}
-use Rattle.agent_texts.specs.declared.journal.Journal.{Journal}
+use Rattle.agent_log.specs.declared.journal.Journal.{Journal}
 use Rattle.live_system.specs.Ending.{served_ending}
 use Rattle.output_queues.specs.Written.{faults_in}
 use Rattle.live_agent.specs.Ending.{counted_in, ending_of, is_record_refused}

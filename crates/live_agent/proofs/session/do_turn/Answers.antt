@@ -1,5 +1,5 @@
 use Rattle.std.proofs.Common.{ℕ, Bool, Option, length, refl, ap, subst, ◌∙◌}
-use Rattle.agent_texts.specs.declared.journal.Journal.{Journal}
+use Rattle.agent_log.specs.declared.journal.Journal.{Journal}
 use Rattle.turns.specs.Clock.{earlier}
 use Rattle.live_agent.specs.Ticking.{GivesUpEach, TicksEach, WakesEach}
 use Rattle.live_agent.proofs.ServingLemmas.{waited_until}

@@ -1,5 +1,5 @@
 use Rattle.std.proofs.Common.{inl, inr, ap, ◌∙◌}
-use Rattle.agent_texts.specs.declared.journal.Journal.{Journal}
+use Rattle.agent_log.specs.declared.journal.Journal.{Journal}
 use Rattle.impairment.specs.declared.fate.Fate.{Fate}
 use Rattle.live_agent.specs.Tallying.{with_fate}
 use Rattle.live_agent.proofs.wire.offer_to.Goals as goal

@@ -1,7 +1,7 @@
 use Rattle.std.proofs.Common.{◌≡◌, true, inl, inr, refl, ap, subst, ◌∙◌, rules}
 use Rattle.std.specs.Prelude.{slice_get}
 use Rattle.mgcp_text.specs.Reading.{Outcome, message, read_text, takes_memory}
-use Rattle.agent_texts.specs.declared.tally.Tally.{Tally}
+use Rattle.agent_log.specs.declared.tally.Tally.{Tally}
 use Rattle.line_control.specs.declared.worklist.Worklist.{Worklist}
 use Rattle.agent_gateways.specs.Hearing.{message_counted, outcome_counted, HearsOutcome}
 use Rattle.agent_gateways.proofs.switchboard.Switchboard.hear.Goals as goal

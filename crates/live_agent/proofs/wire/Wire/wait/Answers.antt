@@ -1,5 +1,5 @@
 use Rattle.std.proofs.Common.{ℕ, ◌∙◌, ap, subst, sym}
-use Rattle.agent_texts.specs.declared.journal.Journal.{Journal}
+use Rattle.agent_log.specs.declared.journal.Journal.{Journal}
 use Rattle.live_agent.specs.Tallying.{with_receive_fault}
 use Rattle.live_agent.proofs.TallyingLemmas.{fault_counts, nothing_counts}
 use Rattle.live_agent.proofs.wire.Wire.wait.Goals as goal

@@ -1,7 +1,0 @@
-use Rattle.agent_texts.specs.Telling.{piece_told}
-use Rattle.agent_texts.proofs.PuttingLemmas.{put_one}
-use Rattle.agent_texts.proofs.journal.put_line.Goals as goal
-
-pub loop-piece-preserved : goal.loop-piece-preserved
-loop-piece-preserved c =
-    put_one piece_told c.args.pieces.now c.loop-piece.piece-index _ _ _ _ c.loop-piece-test.true c.put_plain.ensures c.loop-piece.invariant
