@@ -3,8 +3,8 @@ ghost use Rattle.std.specs.Prelude.{◌≡◌};
 ghost use Rattle.agent_gateways.specs.Steps.{cares_if, exchange_if, has_line, Announces, TouchesIf, TouchesMeant};
 
 use crate::naming::{is_meant, line_behind};
-use line_control::Office;
 use endpoint_names::Pattern;
+use line_control::Office;
 
 // Whether a gateway with so many lines has this one.
 fn has_line(line: u16, lines: u16) -> bool

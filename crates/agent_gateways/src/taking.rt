@@ -8,8 +8,8 @@ ghost use Rattle.agent_gateways.specs.Tallying.{counted_if};
 
 use crate::gateway::Gateway;
 use agent_log::{Journal, Station};
-use line_control::Office;
 use call_processing::NumberPlan;
+use line_control::Office;
 use packages::Observed;
 use std::alloc::Global;
 

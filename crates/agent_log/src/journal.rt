@@ -11,14 +11,14 @@ ghost use Rattle.agent_log.specs.Telling.{plain, line_of_pieces, Tells};
 use crate::noting::text_note;
 use crate::tally::{Tally, count};
 use crate::text::header_word;
-use packages::{Observed, write_observed};
 use log_format::{
     Note, Packet, Stamp, Way, put_given_up, put_head, put_message, put_note, put_packet,
     write_shown,
 };
-use output_queues::{Outlets, Record, Written};
 use mg_bytes::{Draft, OutOfMemory, lines};
 use mgcp_text::parts;
+use output_queues::{Outlets, Record, Written};
+use packages::{Observed, write_observed};
 use std::alloc::Global;
 use std::io::Write;
 use std::net::SocketAddrV4;

@@ -13,11 +13,11 @@ ghost use Rattle.audits.specs.EndpointReport.{active_text, map_text, event_param
 
 use crate::word::{of_copy, of_name, of_text};
 use event_syntax::{Handling, Notifying, Quarantined, write_observed};
+use events_and_signals::ActiveSignal;
 use mg_bytes::{OutOfMemory, Text, same_no_case};
 use mg_line::Line;
-use packages::signal_name;
 use mgcp_text::Param;
-use events_and_signals::ActiveSignal;
+use packages::signal_name;
 use std::alloc::Global;
 
 // D: the digit map.

@@ -9,22 +9,22 @@ ghost use Rattle.call_agent.specs.Hearing.{AgentEvent, AgentEnds, issues, hears,
 ghost use Rattle.call_agent.specs.State.{answer_in};
 ghost use Rattle.call_agent.specs.AgentStands.{AgentStands, AgentTook, AgentStays, IssueEnds};
 
+use crate::flights::Flights;
+use crate::growing::Growing;
 use crate::issuing::{IssueFault, Issued, issue_under_next_id};
 use crate::setup::AgentSetup;
 use crate::state::{Context, State};
 use crate::told::TakenEvents;
 use crate::working::step_state;
 use endpoint_names::Route;
-use packages::Observed;
-use crate::flights::Flights;
-use crate::growing::Growing;
-use transmission::History;
 use mg_bytes::{OutOfMemory, Text};
-use retransmission::{Answer, answer_with};
+use packages::Observed;
 use plain_machine::{Event, Outputs, Refusal};
+use retransmission::{Answer, answer_with};
 use std::alloc::Global;
 use std::marker::Model;
 use std::net::SocketAddrV4;
+use transmission::History;
 
 /// A call agent that works with one gateway. It issues commands, each under an id of its own, and repeats each until it is
 /// answered or given up; and it takes the commands of the gateway, each once (RFC 3435, 3.5).

@@ -10,13 +10,12 @@ ghost use Rattle.transmission.specs.Transacting.{message_to};
 ghost use Rattle.call_agent.specs.Issuing.{command_text, is_good, refusal_under};
 ghost use Rattle.call_agent.specs.AgentStands.{GoodEnds, IssueEnds};
 
-use endpoint_names::Route;
 use crate::flights::Flights;
+use endpoint_names::Route;
 use mg_bytes::{Draft, OutOfMemory, Text};
-use mgcp_text::{TextFault, TransactionId, read_message};
-use retransmission::{Pending, is_command_with};
-use mgcp_text::is_joinable;
+use mgcp_text::{TextFault, TransactionId, is_joinable, read_message};
 use plain_machine::OutDatagram;
+use retransmission::{Pending, is_command_with};
 use std::alloc::{AllocError, Global};
 use std::net::SocketAddrV4;
 use transmission::LARGEST_DATAGRAM;

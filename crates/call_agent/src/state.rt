@@ -1,12 +1,12 @@
 //! What changes in an agent.
 
-use crate::setup::AgentSetup;
-use crate::told::TakenEvents;
 use crate::flights::Flights;
 use crate::growing::Growing;
-use transmission::History;
+use crate::setup::AgentSetup;
+use crate::told::TakenEvents;
 use retransmission::Answered;
 use std::alloc::Global;
+use transmission::History;
 
 /// What changes in an agent: the clock, the commands in flight with the id of the next, the answers, what was told of each
 /// line, and the history of transactions.

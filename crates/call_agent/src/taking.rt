@@ -13,13 +13,12 @@ ghost use Rattle.call_agent.specs.State.{kept_in, Does};
 use crate::state::{Context, State};
 use crate::told::TakenEvents;
 use endpoint_names::{Pattern, read_name};
-use packages::{Observed, read_observed};
-use transmission::IdSpan;
 use mg_bytes::{CodeFault, OutOfMemory, ReturnCode, Sequence};
 use mgcp_text::{AnswerContent, Message, Param, Verb, param_at, read_k};
+use packages::{Observed, read_observed};
 use plain_machine::OutDatagram;
 use std::alloc::{AllocError, Global};
-use transmission::{Origin, answer, spans_of};
+use transmission::{IdSpan, Origin, answer, spans_of};
 
 /// What a notification of a line tells.
 #[derive(Drop)]

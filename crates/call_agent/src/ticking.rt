@@ -8,12 +8,12 @@ ghost use Rattle.call_agent.specs.Choosing.{first_flight, if_due};
 ghost use Rattle.call_agent.specs.Flying.{flown_on, pass, ticked};
 ghost use Rattle.call_agent.specs.State.{kept_in, Flies, Happens};
 
-use crate::state::{Context, State};
 use crate::flights::Flights;
+use crate::state::{Context, State};
 use machine_rules::tick_refusal;
 use mg_bytes::{OutOfMemory, Text};
-use retransmission::{Pending, Repeat};
 use plain_machine::{OutDatagram, Refusal};
+use retransmission::{Pending, Repeat};
 use std::alloc::Global;
 use transmission::send;
 

@@ -4,9 +4,9 @@ ghost use Rattle.std.specs.List.{slice_index_or};
 ghost use Rattle.call_agent.specs.Growing.{Grown, grown_to, committed, rolled_back, all_in, told_at};
 ghost use Rattle.call_agent.specs.Taking.{with_taken};
 
-use packages::Observed;
 use crate::growing::Growing;
 use mg_bytes::{OutOfMemory, Sequence};
+use packages::Observed;
 use std::alloc::Global;
 use std::marker::Model;
 

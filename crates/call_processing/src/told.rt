@@ -3,9 +3,8 @@ ghost use Rattle.std.specs.Prelude.{◌≡◌, ◌++◌, true, IfOk, OnOk, OnErr
 ghost use Rattle.call_processing.specs.Numbers.{last_of, digits_in, digits_told, digits_of, any_digit, told_in, tells_digits};
 
 use crate::number_plan::NumberPlan;
-use packages::Observed;
 use mg_bytes::{Letter, OutOfMemory, Text};
-use packages::LineEvent;
+use packages::{LineEvent, Observed};
 use std::alloc::Global;
 
 /// What a line told, or its owner knows of it.

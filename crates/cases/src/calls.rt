@@ -10,9 +10,9 @@
 //!
 //! Where nothing is printed the answer is `ok`; more than a line is all that is printed, with `\n` for each line end.
 use crate::played::{settings_with, simulated};
+use gateway_config::{flaw_of, read_config, told, told_setup};
 use gateway_core::Gateway;
 use mg_bytes::{OutOfMemory, Sequence};
-use gateway_config::{flaw_of, read_config, told, told_setup};
 use scenario_files::{
     Outcome, Row, Scenario, TextDraft, WrittenScenario, number_in, parted, read_scenario, value_of,
 };

@@ -37,13 +37,13 @@ use crate::stories::{
     Clocks, EndClock, LateRecord, Machine, Place, Program, Records, Story, Transcript, line_of,
     told,
 };
+use gateway_config::read_config;
 use gateway_core::{ConfigFault, Gateway};
 use live_gateway::{Admission, Desk, DeskSettings, boxed, end_desk, open_desk, speakers_of};
+use live_io::Speakers;
 use live_journal::{Journal, Recorder, Trace};
 use mg_bytes::OutOfMemory;
-use traces::FirstNumber;
 use page_http::HostNames;
-use gateway_config::read_config;
 use rgwd_words::{Settings, Start, hosts_in, speakers_in};
 use scenario_files::{Report, Titled};
 use std::alloc::{AllocError, Global};
@@ -51,7 +51,7 @@ use std::collections::VecDeque;
 use std::mem;
 use std::net::{Ipv4Addr, Net, SocketAddrV4};
 use std::rc::Rc;
-use live_io::Speakers;
+use traces::FirstNumber;
 
 /// The program `rgwd`.
 #[derive(Clone, Copy)]

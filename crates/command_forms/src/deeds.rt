@@ -17,8 +17,8 @@ use crate::values::{
 use crate::verbs::Connecting;
 use connections::{Change, Creation, Deletion, Options};
 use endpoint_names::Table;
-use events_and_signals::{EventRequest, Request};
 use event_syntax::{read_detect, read_events, read_signals};
+use events_and_signals::{EventRequest, Request};
 use mg_bytes::Identifier;
 use mgcp_text::{Param, param_at};
 use sdp_subset::Session;

@@ -4,10 +4,10 @@ ghost use Rattle.gateway_config.specs.Flaws.{flaw_of};
 ghost use Rattle.config_flaws.specs.Flaws.{NamesFile};
 
 use crate::judged::{KEYS, judged, judged_number, key_called, key_names};
+use gateway_config::{Flaw, flaw_of, told as first_told};
 use log_format::{write_number, write_shown};
 use mg_bytes::{Draft, OutOfMemory};
 use plain_machine::ConfigKey;
-use gateway_config::{Flaw, flaw_of, told as first_told};
 use std::alloc::{AllocError, Global};
 use toml::de::Error;
 use toml::{Table, Value};

@@ -1,7 +1,7 @@
 //! What may stand at a key, judged in a configuration that is else right.
+use gateway_config::{bounds_of, flaw_of, told};
 use mg_bytes::{Draft, OutOfMemory};
 use plain_machine::ConfigKey;
-use gateway_config::{bounds_of, flaw_of, told};
 use std::alloc::Global;
 use toml::Value;
 use toml_places::{replaced, written};

@@ -5,8 +5,8 @@ ghost use Rattle.plain_machine.specs.GivingUp.{given_up_if, given_up_under, give
 
 use crate::store::Store;
 use mg_bytes::OutOfMemory;
-use retransmission::{Pending, Repeat};
 use plain_machine::{GivenUpCommand, Post, PostOwner, own_verb, owner_of};
+use retransmission::{Pending, Repeat};
 use timers::{DueItem, DueKind};
 
 // The command in flight of this line, where it is given up at this moment.

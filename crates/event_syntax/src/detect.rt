@@ -10,8 +10,8 @@ ghost use Rattle.event_syntax.specs.Detect.{detected, detected_in, detected_of, 
 
 use crate::event_spelling::are_detected;
 use crate::events::{Events, events_called, put_events};
-use packages::{Inside, entries, form_of, has_at_most};
 use mg_bytes::{CodeFault, Few, OutOfMemory, ReturnCode, Text};
+use packages::{Inside, entries, form_of, has_at_most};
 use std::alloc::Global;
 
 /// The most entries that T and R may have (this gateway's profile).

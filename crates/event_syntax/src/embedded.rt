@@ -10,8 +10,8 @@ use crate::detect::MOST_EVENTS;
 use crate::request::{EmbeddedEvent, EmbeddedEvents, EmbeddedRequest};
 use crate::rule::{Joined, rule_of};
 use digit_map::read_map;
-use packages::{Inside, SignalRequests, entries, form_of, has_at_most, items, signals_in};
 use mg_bytes::{CodeFault, ReturnCode, same_no_case};
+use packages::{Inside, SignalRequests, entries, form_of, has_at_most, items, signals_in};
 use std::alloc::Global;
 
 // An entry of R, where no request can be embedded once more.

@@ -3,8 +3,8 @@ ghost use Rattle.std.specs.Prelude.{◌≡◌};
 ghost use Rattle.event_syntax.specs.EventSpelling.{is_event, is_detected, are_detected};
 
 use crate::range::is_bracketed;
-use packages::{entries, form_of, is_name, is_word, with_parameters};
 use mg_bytes::{same_no_case, split_once};
+use packages::{entries, form_of, is_name, is_word, with_parameters};
 
 #[tactic(auto, unfolding(crate::specs::EventSpelling::is_event))]
 pub(crate) fn is_event(text: &[u8]) -> bool

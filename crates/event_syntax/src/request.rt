@@ -1,8 +1,8 @@
 //! What R holds (RFC 3435, 2.3.3): events with what is done at them, and requests embedded in these.
 use crate::events::Events;
 use digit_map::MapText;
-use packages::SignalRequests;
 use mg_bytes::{OutOfMemory, Sequence};
+use packages::SignalRequests;
 use std::alloc::Global;
 use std::marker::Model;
 use std::rc::Rc;

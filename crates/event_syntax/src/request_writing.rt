@@ -11,8 +11,8 @@ ghost use Rattle.event_syntax.specs.Requested.{requested_text, is_spelled_map, h
 use crate::events::put_events;
 use crate::request::{Action, EmbeddedEvent, EmbeddedRequest, Reaction, RequestedEvent};
 use digit_map::MapText;
-use packages::{SignalRequest, write_signals};
 use mg_bytes::{OutOfMemory, Text};
+use packages::{SignalRequest, write_signals};
 use std::alloc::Global;
 
 fn action_name(action: Action) -> &'static [u8]

@@ -15,8 +15,8 @@ use crate::embedded::embedded_in;
 use crate::request::{Embedding, Reaction, RequestedEvent, RequestedEvents};
 use crate::rule::{Joined, rule_of};
 use crate::walk::are_requested;
-use packages::{entries, has_at_most};
 use mg_bytes::{CodeFault, ReturnCode};
+use packages::{entries, has_at_most};
 use std::alloc::Global;
 
 fn embedding_in(alloc: Global, inside: &[u8]) -> Result<Embedding, CodeFault>

@@ -7,8 +7,8 @@ ghost use Rattle.event_syntax.specs.Actions.{word_seen, joined_seen, so_far_seen
 
 use crate::events::{Events, events_called};
 use crate::request::Action;
-use packages::{Inside, form_of, items};
 use mg_bytes::{ReturnCode, same_no_case};
+use packages::{Inside, form_of, items};
 
 /// What one action says.
 #[derive(Clone, Copy)]

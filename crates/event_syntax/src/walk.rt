@@ -13,8 +13,8 @@ ghost use Rattle.event_syntax.specs.Walking.{behind_signals, behind_map, part_op
 ghost use Rattle.event_syntax.specs.Walking.{nothing_seen, stepped, is_left, holds_events};
 
 use crate::event_spelling::is_event;
-use packages::{are_parameters, are_signals, deeper, is_word};
 use mg_bytes::{OutOfMemory, all_blank, same_no_case, trimmed};
+use packages::{are_parameters, are_signals, deeper, is_word};
 use std::alloc::Global;
 
 /// Which parts an embedded request has had so far.

@@ -1,8 +1,8 @@
 //! The quarantined events of a line.
 
 use circular_buffer::{HeapCircularBuffer, Iter};
-use packages::Observed;
 use mg_bytes::OutOfMemory;
+use packages::Observed;
 use std::alloc::Global;
 use std::marker::Model;
 

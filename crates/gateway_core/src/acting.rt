@@ -6,9 +6,9 @@ ghost use Rattle.plain_machine.specs.Refusing.{act_refusal, is_unheeded, ends};
 ghost use Rattle.endpoints.specs.Telling.{MayTell};
 ghost use Rattle.gateway_core.specs.State.{machine_in, Happens};
 
+use crate::state::State;
 use endpoints::{Context, Occasion, acted_on};
 use machine_rules::act_refusal;
-use crate::state::State;
 use mg_line::Act;
 use plain_machine::{OutMessage, Refusal};
 

@@ -9,22 +9,22 @@ ghost use Rattle.gateway_core.specs.State.{machine_in};
 
 use crate::account::{Account, give_way};
 use crate::changing::{is_marked, no_marks};
+use crate::outcome::TextOutcome;
+use crate::outcomes::Outcomes;
 use crate::sent::SentMessage;
+use crate::state::{State, opening_state};
 use crate::stopped::Stopped;
 use crate::working::step_state;
 use arrayvec::ArrayVec;
 use connections::Connection;
 use endpoints::{Context, judged};
-use crate::outcome::TextOutcome;
-use crate::outcomes::Outcomes;
-use crate::state::{State, opening_state};
-use transmission::MOST_FIRSTS;
+use events_and_signals::ActiveSignal;
 use mg_line::Hook;
 use plain_machine::{Config, ConfigFault, Event, GivenUpCommand, Outputs, Refusal, Setup};
-use events_and_signals::ActiveSignal;
 use std::alloc::Global;
 use std::marker::Model;
 use std::mem::swap;
+use transmission::MOST_FIRSTS;
 
 /// A residential gateway. A contract sees its setup, what it keeps of the plain machine, and what is told of the last event: what
 /// its texts were, what was sent, what was given up, and at which lines it may have changed something; `Stands` says which lists of events it stands for.

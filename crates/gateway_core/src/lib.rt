@@ -42,4 +42,7 @@ pub use crate::served::Served;
 pub use crate::stopped::Stopped;
 pub use crate::wire::{DATAGRAM_ROOM, Input, Wire, WireFault};
 pub use endpoints::key_at_fault;
-pub use plain_machine::{Config, ConfigFault, ConfigKey, Event, FIRSTS, GivenUpCommand, Label, NamedRoute, OutDatagram, Outputs, Refusal, What, Whose};
+pub use plain_machine::{
+    Config, ConfigFault, ConfigKey, Event, FIRSTS, GivenUpCommand, Label, NamedRoute, OutDatagram,
+    Outputs, Refusal, What, Whose,
+};

@@ -7,10 +7,10 @@ ghost use Rattle.gateway_core.specs.Outcomes.{reply_by};
 ghost use Rattle.gateway_core.specs.Hearing.{passed_over};
 
 use crate::outcome::{Reply, TextOutcome};
-use transmission::{History, Look};
 use mg_bytes::ReturnCode;
 use mgcp_text::{Message, TextFault, TransactionId};
 use plain_machine::front_code;
+use transmission::{History, Look};
 
 // What a command with this id gets that comes now: an answer with this code, if it is new; nothing of it is told to be at fault.
 fn reply_by(history: &History, now: u64, id: TransactionId, code: u16) -> Reply

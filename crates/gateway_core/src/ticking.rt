@@ -9,9 +9,9 @@ ghost use Rattle.machine_rules.specs.Refusing.{tick_refusal};
 ghost use Rattle.endpoints.specs.Telling.{MayTell};
 ghost use Rattle.gateway_core.specs.State.{machine_in, found_in, Happens};
 
+use crate::state::State;
 use endpoints::{Context, is_due, pass};
 use machine_rules::tick_refusal;
-use crate::state::State;
 use plain_machine::{GivenUpCommand, OutMessage, Refusal};
 
 /// A tick to a moment: what is sent; and what is given up is noted behind what was given up before. One up to which nothing is

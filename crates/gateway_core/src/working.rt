@@ -16,13 +16,13 @@ ghost use Rattle.gateway_core.specs.Changing.{Changes, StaysFound};
 
 use crate::account::Account;
 use crate::acting::act_on;
+use crate::answering::take_datagram;
 use crate::changing::mark;
+use crate::outcomes::Outcomes;
 use crate::parting::part;
+use crate::state::State;
 use crate::ticking::tick;
 use endpoints::Context;
-use crate::answering::take_datagram;
-use crate::outcomes::Outcomes;
-use crate::state::State;
 use plain_machine::{Event, GivenUpCommand, OutMessage, Outputs, Refusal};
 use transmission::packed;
 

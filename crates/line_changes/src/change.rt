@@ -5,8 +5,8 @@ ghost use Rattle.line_changes.specs.Changes.{codec_text, is_same_hook, is_same_e
 use crate::address::{is_same_address, is_same_remote};
 use crate::seen::SeenConnection;
 use connections::{Codec, mode_text};
-use packages::{Hook, Signal};
 use events_and_signals::ActiveSignal;
+use packages::{Hook, Signal};
 
 /// What changed at a line.
 #[derive(Clone, Copy)]

@@ -7,9 +7,9 @@ ghost use Rattle.line_changes.specs.Changes.{hook_change, ended, begun, over, st
 
 use crate::change::{Change, is_same_active, is_same_connection, is_same_hook};
 use crate::seen::{SeenConnection, SeenLine};
+use events_and_signals::ActiveSignal;
 use mg_bytes::OutOfMemory;
 use packages::{Hook, Signal};
-use events_and_signals::ActiveSignal;
 
 fn is_of(active: ActiveSignal, signal: Signal) -> bool
     ensures { result ≡ is_same_signal active.signal signal }

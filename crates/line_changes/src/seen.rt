@@ -4,10 +4,10 @@ ghost use Rattle.line_changes.specs.Seen.{leading, remote_of, seen_connection, n
 
 use arrayvec::ArrayVec;
 use connections::{Codec, Codecs, Connection, Mode};
+use events_and_signals::ActiveSignal;
 use mg_bytes::OutOfMemory;
 use packages::Hook;
 use sdp_subset::Session;
-use events_and_signals::ActiveSignal;
 use std::alloc::Global;
 use std::marker::Model;
 use std::net::{Ipv4Addr, SocketAddrV4};

@@ -6,11 +6,11 @@ ghost use Rattle.line_changes.specs.Telling.{remote_text, ends_text, media_text,
 use crate::change::{Change, codec_text};
 use crate::seen::SeenConnection;
 use connections::{mode_text, write_number};
+use events_and_signals::ActiveSignal;
 use log_format::put_peer;
 use mg_bytes::{Draft, OutOfMemory};
 use packages::signal_name;
 use rgw_scripts::{hook_word, put_end};
-use events_and_signals::ActiveSignal;
 use std::alloc::Global;
 use std::marker::Model;
 use std::net::SocketAddrV4;

@@ -3,7 +3,7 @@
 //! That is the exchange (`call_processing`) in the program's hands. Beside the exchange's own commands a line is cleared and audited
 //! (`care`); an answer to an audit tells of its hook (`hooks`), one to the exchange's command what became of that (`responses`). The lines
 //! to which something has happened wait until they are settled (`worklist`). Nothing here knows of a gateway: whose a line is, what it is
-//! called, and who issues a command to it is said above, in `agent_gateways`.
+//! called, and who issues a command to it is said above, in `switchboard`.
 #![tactic(auto)]
 
 mod care;

@@ -23,12 +23,10 @@ use crate::hooks::{audited_hook, is_off_hook, notified, told_by_hook};
 use crate::responses::outcome_of;
 use crate::worklist::Worklist;
 use agent_config::copied;
-use agent_log::{
-    Journal, Standing, Station, refusals_of, standing_of, tell_change, tell_refusals,
-};
+use agent_log::{Journal, Standing, Station, refusals_of, standing_of, tell_change, tell_refusals};
 use call_processing::{Command, Exchange, NumberPlan, Outcome, Told, named_by, told_in};
-use packages::Observed;
 use mg_bytes::{OutOfMemory, Text};
+use packages::Observed;
 use std::alloc::{AllocError, Global};
 
 /// An exchange, and what is kept of its lines beside that.

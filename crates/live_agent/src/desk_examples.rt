@@ -57,8 +57,8 @@ ghost use Rattle.agent_gateways.specs.TypedCommands.{IssuesCommand, IssuesMeant,
 ghost use Rattle.live_agent.specs.TypedCommands.{fault_text, issued_text, TellsIssued, AnswersAll, AnswersIssued, IsTypedNext};
 ghost use Rattle.live_agent.specs.Wiring.{longest_until, FallsDueFirst, IsWaitedFor, SpoilsSo};
 
-use live_system::CommonEnding;
 use agent_gateways::TypedFault;
+use live_system::CommonEnding;
 use turns::Turn;
 
 /// What is waited for, and how long.

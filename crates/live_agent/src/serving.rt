@@ -15,19 +15,19 @@ use crate::recorder::{Recorder, Recording};
 use crate::session::serve;
 use crate::wire::Wire;
 use agent_config::AgentConfig;
+use agent_gateways::Switchboard;
 use agent_log::Journal;
 use impairment::{BadNetwork, Spoiling};
-use log_format::put_peer;
+use live_io::Surroundings;
 use live_system::{CommonEnding, DayWatch, Live, SocketWanted, open_capture};
-use output_queues::{Finisher, Outlets, Written, boxed};
+use log_format::put_peer;
 use mg_bytes::{Draft, OutOfMemory};
+use output_queues::{Finisher, Outlets, Written, boxed};
 use std::alloc::{AllocError, Global};
 use std::io::Write;
 use std::net::{Net, SocketAddrV4};
 use std::rt::{Clock, Files};
 use std::time::Instant;
-use live_io::Surroundings;
-use agent_gateways::Switchboard;
 
 // Microseconds in a millisecond.
 const MICROSECONDS: u64 = 1000;

@@ -15,16 +15,16 @@ ghost use Rattle.live_agent.specs.Wiring.{due_of, ms_until, longest_until, IsSit
 
 use crate::recorder::Recorder;
 use crate::wire::{MOST_AT_ONCE, Wire, log_pause};
+use agent_gateways::{Switchboard, TypedFault, typed_text};
 use agent_log::count;
-use impairment::Way;
 use call_agent::{IssueFault, Issued};
-use output_queues::{DONE, NO_MEMORY, STOP_FROM_AFAR};
+use impairment::Way;
+use live_io::{Fault, Lines, Surroundings};
 use mg_bytes::{OutOfMemory, put_decimal};
+use output_queues::{DONE, NO_MEMORY, STOP_FROM_AFAR};
 use plain_machine::{Outputs, Refusal};
 use std::alloc::Global;
 use std::net::SocketAddrV4;
-use live_io::{Fault, Lines, Surroundings};
-use agent_gateways::{Switchboard, TypedFault, typed_text};
 use transmission::texts;
 use turns::{Ready, Schedule, Situation, Turn, earlier};
 

@@ -20,13 +20,13 @@ ghost use Rattle.live_io.specs.declared.surroundings.Told.{Told};
 
 use agent_log::{Journal, Tally, count};
 use impairment::{BadNetwork, Fate, Packet, Way};
-use log_format::{Note, Stamp, put_pause};
+use live_io::{Lines, Surroundings};
 use live_system::longest_wait;
+use log_format::{Note, Stamp, put_pause};
 use output_queues::{Now, Record};
 use plain_machine::OutDatagram;
 use std::alloc::{AllocError, Global};
 use std::net::SocketAddrV4;
-use live_io::{Lines, Surroundings};
 use turns::{Pause, Ready};
 
 /// So many packets are handed out at most at a turn, or commands given up, or lines woken, where more are due: the others are at the next.

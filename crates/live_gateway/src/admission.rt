@@ -5,10 +5,10 @@ ghost use Rattle.live_io.specs.Speaking.{admitted_by};
 ghost use Rattle.live_gateway.specs.Admitting.{hosts_of, known_hosts, known_to, is_sent_by, is_heard};
 
 use endpoint_names::Route;
+use live_io::Speakers;
 use plain_machine::Setup;
 use std::alloc::{AllocError, Global};
 use std::net::{Ipv4Addr, SocketAddrV4};
-use live_io::Speakers;
 
 /// Whom a gateway hears, and whether its telephones are open to other machines.
 pub struct Admission {

@@ -30,15 +30,15 @@ use crate::opening::DeskSettings;
 use crate::turn_parts::{note_datagram, note_taken, situation, take_from_page};
 use crate::visitors::Visitors;
 use gateway_core::{DATAGRAM_ROOM, Gateway};
+use live_io::{Lines, Surroundings, Teller};
 use live_journal::{Recorder, Trace, report_with};
-use output_queues::{DONE, boxed};
 use live_play::LivePlay;
+use output_queues::{DONE, boxed};
+use std::alloc::{AllocError, Global};
 use telephone_control::{
     PHONES_FROM_AFAR, TelephoneRequest, Watch, act_answer, all_shown, answer_put, lost_of,
     question_answer, request_in, short_answer, show, typist_of,
 };
-use std::alloc::{AllocError, Global};
-use live_io::{Lines, Surroundings, Teller};
 use turns::{Schedule, Turn};
 
 /// A gateway that runs, all that it stands on, and what is kept of it.

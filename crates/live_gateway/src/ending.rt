@@ -6,12 +6,12 @@ ghost use Rattle.output_queues.specs.Written.{faults_in};
 ghost use Rattle.live_gateway.specs.Ending.{AsksForEnd, is_record_refused, WritesLast, EndsWith, OnlyEnds};
 
 use crate::desk::Desk;
-use live_system::CommonEnding;
+use live_io::Surroundings;
 use live_journal::{Journal, Recorder, Trace};
+use live_system::CommonEnding;
 use output_queues::{Finisher, Written};
 use std::alloc::AllocError;
 use std::rt::Clock;
-use live_io::Surroundings;
 
 // Whether memory was refused for something that is recorded.
 fn is_record_refused(trace: &Trace, journal: &Journal) -> bool

@@ -18,18 +18,18 @@ use crate::admission::Admission;
 use crate::opening::{DeskSettings, journal_of, network_of};
 use crate::spoilt_way::SpoiltWay;
 use crate::visitors::Visitors;
-use impairment::{Fate, Packet, Way};
-use log_format::Note;
 use gateway_core::{Gateway, SentMessage};
-use live_system::longest_wait;
+use impairment::{Fate, Packet, Way};
+use live_io::{Fault, Lines, Surroundings};
 use live_journal::Journal;
-use output_queues::Now;
 use live_play::{FIRST_UNREAD, Outlet};
+use live_system::longest_wait;
+use log_format::Note;
 use message_counts::{Faults, Taken};
+use output_queues::Now;
 use small_rules::count;
 use std::alloc::{AllocError, Global};
 use std::net::SocketAddrV4;
-use live_io::{Fault, Lines, Surroundings};
 use traces::Mark;
 
 /// So many packets are handed out at most where the network before the socket is looked for one that comes in.

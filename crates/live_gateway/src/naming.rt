@@ -3,12 +3,12 @@ ghost use Rattle.std.specs.Prelude.{◌≡◌, IfOk, OnOk, option_copied};
 ghost use Rattle.live_gateway.specs.Naming.{word_of, with_named_host, known_word, agents_line};
 
 use crate::admission::known_hosts;
+use live_io::Speakers;
 use log_format::put_host;
 use mg_bytes::{Draft, OutOfMemory};
 use plain_machine::Setup;
 use std::alloc::Global;
 use std::net::Ipv4Addr;
-use live_io::Speakers;
 
 // An address is named behind the others of a word, which admits these: where it isn't admitted yet; commas part those that are.
 fn name(

@@ -6,8 +6,8 @@ ghost use Rattle.live_gateway.specs.Opening.{CountsNothing, BeginsBoard, BeginsL
 use crate::spoilt_way::SpoiltWay;
 use impairment::{BadNetwork, Spoiling};
 use live_journal::{Capture, Journal};
-use output_queues::{Written, boxed};
 use message_counts::MessageTally;
+use output_queues::{Written, boxed};
 use page_state::Board;
 use std::alloc::{AllocError, Global};
 use std::net::SocketAddrV4;

@@ -7,10 +7,10 @@ ghost use Rattle.live_io.specs.Sending.{Grows};
 ghost use Rattle.live_gateway.specs.Offering.{offered_by, came_over, brings, brought, Offers, TakesFirst};
 
 use impairment::{BadNetwork, Fate, Packet, Way};
+use live_io::{SentDatagram, keep};
 use mg_bytes::OutOfMemory;
 use std::alloc::Global;
 use std::net::SocketAddrV4;
-use live_io::{SentDatagram, keep};
 
 /// A bad network before the sockets; and what was offered to it on the way out, and what it handed over on the way in, where that is
 /// kept.

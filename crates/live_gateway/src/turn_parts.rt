@@ -14,13 +14,13 @@ ghost use Rattle.live_play.specs.Readable.{first_unread};
 
 use crate::exchange::Exchange;
 use crate::visitors::{Visitors, are_ready, next_deadline};
-use log_format::Note;
 use gateway_core::{SentMessage, TextOutcome};
-use telephone_control::take_act;
+use live_io::{Lines, Speakers, Surroundings};
+use log_format::Note;
 use small_rules::count;
 use std::alloc::Global;
 use std::net::SocketAddrV4;
-use live_io::{Lines, Speakers, Surroundings};
+use telephone_control::take_act;
 use turns::{Ready, Situation, earlier};
 
 // Whether something falls due by this moment.

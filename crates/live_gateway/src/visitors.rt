@@ -2,8 +2,8 @@
 ghost use Rattle.std.specs.Prelude.{◌≡◌};
 ghost use Rattle.live_gateway.specs.Visiting.{AreReady, ClosesAt};
 
-use page_state::Board;
 use live_io::Surroundings;
+use page_state::Board;
 
 /// Visitors of a page, who come over the same surroundings and are served between the gateway's turns. They can be held to what they said
 /// when they were asked, and to each turn that they had.

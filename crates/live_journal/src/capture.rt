@@ -5,8 +5,8 @@ ghost use Rattle.live_journal.specs.Recording.{Begins};
 ghost use Rattle.live_journal.specs.Capturing.{BeginsFile, Captures};
 
 use log_format::{Packet, put_head, put_packet};
-use output_queues::Record;
 use mg_bytes::{OutOfMemory, Text};
+use output_queues::Record;
 use std::alloc::Global;
 use std::net::SocketAddrV4;
 

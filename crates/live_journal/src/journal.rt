@@ -15,11 +15,11 @@ ghost use Rattle.live_journal.specs.Capturing.{Captures};
 ghost use Rattle.live_journal.specs.Spoiling.{fate_note, Notes};
 
 use crate::capture::Capture;
+use gateway_core::SentMessage;
 use impairment::Fate;
 use log_format::Note;
-use gateway_core::SentMessage;
-use output_queues::{Now, Written};
 use message_counts::{MessageTally, Taken};
+use output_queues::{Now, Written};
 use page_state::{Board, Kind};
 use std::net::SocketAddrV4;
 use told_messages::{Log, nobody, show, show_sent, show_turned};

@@ -8,11 +8,11 @@ ghost use Rattle.live_journal.specs.Writing.{IsKept, IsKeptFor, KeepsLog, KeepsC
 
 use crate::journal::Journal;
 use crate::trace::Trace;
-use output_queues::{Outlet, Outlets, Record, TEXT_ROOM};
+use live_io::Teller;
 use message_counts::{Faults, report_text};
+use output_queues::{Outlet, Outlets, Record, TEXT_ROOM};
 use std::alloc::{AllocError, Global};
 use std::io::Write;
-use live_io::Teller;
 
 /// Where what was recorded is written. What it makes of that is its own; that it was told to write it is said.
 pub trait Recorder<T: Teller> {

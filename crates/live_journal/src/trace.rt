@@ -3,11 +3,11 @@ ghost use Rattle.std.specs.Prelude.{◌≡◌, ◌≤◌, ◌<◌, ◌-◌, ◌+
 ghost use Rattle.output_queues.specs.declared.record.RecordState.TheVariants.{Off, OutOfMemory};
 ghost use Rattle.live_journal.specs.Recording.{whole_lines, trace_head, Begins, is_telling, has_ended, HasPlace};
 
-use output_queues::{Outlet, Record, TEXT_ROOM};
+use live_io::Teller;
 use mg_bytes::{Draft, OutOfMemory};
+use output_queues::{Outlet, Record, TEXT_ROOM};
 use std::alloc::Global;
 use std::io::Write;
-use live_io::Teller;
 use traces::{broken_off_line, put_first};
 
 /// The trace of a gateway. What it is told has its place in what is kept for its outlet at once, and so before anything goes out that

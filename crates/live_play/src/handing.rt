@@ -10,8 +10,8 @@ use crate::ends::Outlet;
 use crate::placed::Placed;
 use crate::telling::tell_mark;
 use gateway_core::{OutDatagram, SentMessage, split_sent};
-use std::alloc::Global;
 use live_io::Teller;
+use std::alloc::Global;
 
 /// The first place that isn't read again, of 19 digits.
 pub const FIRST_UNREAD: u64 = 1_000_000_000_000_000_000;

@@ -2,8 +2,8 @@
 ghost use Rattle.std.specs.Prelude.{◌≡◌, None};
 ghost use Rattle.live_io.specs.Sending.{Grows};
 
-use mg_bytes::Draft;
 use live_io::Teller;
+use mg_bytes::Draft;
 
 /// What a trace has to tell has its place in what is kept of it. It is made by telling alone, and whoever hands datagrams out uses one up:
 /// so none goes out of which the trace wasn't told before.

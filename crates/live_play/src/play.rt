@@ -20,12 +20,12 @@ use crate::placed::{Placed, tell_trace};
 use crate::shown_line::put_shown;
 use crate::telling::{refuse, tell_act, tell_answered, tell_datagram, tell_tick};
 use gateway_core::{Event, Gateway, OutDatagram, Outputs, Refusal};
+use live_io::Teller;
 use mg_bytes::{Draft, OutOfMemory};
 use mg_line::Act;
 use rgw_scripts::put_refusal;
 use std::alloc::Global;
 use std::net::SocketAddrV4;
-use live_io::Teller;
 use traces::Script;
 
 /// A gateway that runs, and its trace.

@@ -3,9 +3,8 @@ ghost use Rattle.std.specs.Prelude.{◌≡◌, ◌≤◌, ◌++◌, ℕ, List, O
 ghost use Rattle.live_play.specs.Running.{IsAnswer};
 
 use gateway_core::Gateway;
-use rgw_scripts::status_of;
 use mg_bytes::OutOfMemory;
-use rgw_scripts::put_line;
+use rgw_scripts::{put_line, status_of};
 use std::alloc::Global;
 
 /// Puts what a line is.

@@ -9,11 +9,11 @@ ghost use Rattle.live_play.specs.Running.{TellsRefusal};
 
 use crate::placed::{Placed, tell_trace, untold};
 use gateway_core::{OutDatagram, Refusal};
+use live_io::Teller;
 use mg_bytes::{Draft, OutOfMemory};
 use rgw_scripts::put_refusal;
 use std::alloc::Global;
 use std::net::SocketAddrV4;
-use live_io::Teller;
 use traces::{Mark, Script, put_mark};
 
 /// A tick, and what was sent at it.

@@ -2,8 +2,8 @@
 ghost use Rattle.std.specs.Prelude.{◌≡◌, [], Some};
 ghost use Rattle.live_play.specs.Keeping.{kept_text};
 
-use std::alloc::Global;
 use live_io::Teller;
+use std::alloc::Global;
 
 /// A trace of which all is kept, until memory is refused.
 #[derive(Drop)]

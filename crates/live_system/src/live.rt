@@ -5,14 +5,14 @@ use crate::address_words::AddressWord;
 use crate::clock::LiveClock;
 use crate::ending::CommonEnding;
 use crate::readiness::Readiness;
-use output_queues::boxed;
+use live_io::{Fault, Surroundings, Told};
 use mio::net::UdpSocket;
+use output_queues::boxed;
 use std::alloc::Global;
 use std::io;
 use std::io::ErrorKind;
 use std::net::{Ipv4Addr, Net, SocketAddr, SocketAddrV4};
 use std::rt::Clock;
-use live_io::{Fault, Surroundings, Told};
 
 // Who types the line that a signal stands for: somebody of this machine, who can't be answered.
 fn nobody() -> SocketAddr {

@@ -3,8 +3,8 @@ ghost use Rattle.std.specs.Prelude.{◌≡◌};
 ghost use Rattle.output_queues.specs.Backlog.{sum_within};
 ghost use Rattle.live_system.specs.Parting.{number_behind, is_old, is_full};
 
-use output_queues::{Outlet, make_for_owner};
 use mg_bytes::decimal;
+use output_queues::{Outlet, make_for_owner};
 use std::alloc::{AllocError, Global};
 use std::fs::{read_dir, remove_file};
 use std::io::ErrorKind;

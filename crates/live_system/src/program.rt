@@ -4,8 +4,8 @@ ghost use Rattle.live_system.specs.Ending.{status_of};
 
 use crate::ending::CommonEnding;
 use crate::standing::hold_standard;
-use output_queues::{Outlet, Outlets, Stream, make_for_owner};
 use mg_bytes::OutOfMemory;
+use output_queues::{Outlet, Outlets, Stream, make_for_owner};
 use std::alloc::Global;
 use std::env;
 use std::io::{ErrorKind, Write};

@@ -3,9 +3,9 @@ ghost use Rattle.std.specs.Prelude.{◌≡◌, replicate};
 ghost use Rattle.live_system.specs.Looking.{no_visit, has_visits, may_have_more};
 
 use crate::system_signals::SystemSignals;
-use output_queues::boxed;
 use mio::net::{TcpListener, TcpStream, UdpSocket};
 use mio::{Events, Interest, Poll, Token};
+use output_queues::boxed;
 use std::alloc::Global;
 use std::io;
 use std::io::ErrorKind;

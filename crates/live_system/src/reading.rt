@@ -3,10 +3,10 @@ ghost use Rattle.std.specs.Prelude.{◌≡◌, ◌≢◌};
 ghost use Rattle.clap.specs.Values.{kind_of};
 ghost use Rattle.clap.specs.declared.error.kind.ErrorKind.TheVariants as kinds;
 
+use crate::ending::CommonEnding;
 use crate::table::{Kind, with_words};
 use clap::error::ErrorKind;
 use clap::{ArgMatches, Command, Error};
-use crate::ending::CommonEnding;
 use output_queues::Outlet;
 use std::alloc::{AllocError, Global};
 use std::io::Write;

@@ -4,10 +4,10 @@ ghost use Rattle.clap.specs.Matches.{found_of, first_value, one_text};
 ghost use Rattle.live_system.specs.Addresses.{IsAddress};
 ghost use Rattle.live_system.specs.Values.{IsBehind, IsMoment};
 
-use clap::ArgMatches;
 use crate::address_words::AddressWord;
 use crate::addresses::address_in;
 use crate::ending::CommonEnding;
+use clap::ArgMatches;
 use std::net::SocketAddrV4;
 
 /// The address behind a word, if one stands there.

@@ -8,12 +8,11 @@ ghost use Rattle.mg_line.specs.Detecting.{with_held};
 use crate::notice::MOST_ACCUMULATED;
 use arrayvec::ArrayVec;
 use digit_map_bits::Dialling;
-use events_and_signals::EventRequest;
 use event_syntax::{Handling, Notifying, Observed, Quarantined};
+use events_and_signals::{Buffer, EventRequest, SignalSet};
 use machine_rules::{State, quarantine_room};
 use mg_bytes::{Identifier, OutOfMemory};
 use packages::Hook;
-use events_and_signals::{Buffer, SignalSet};
 use std::alloc::Global;
 use std::mem;
 

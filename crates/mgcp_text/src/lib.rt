@@ -31,4 +31,6 @@ pub use crate::message::{Message, Param, Params, TextFault, Verb};
 pub use crate::parameter::param_at;
 pub use crate::part::Parts;
 pub use crate::reading::{one_reading, read_message};
-pub use crate::writing::{is_writable, what_is_written_is_read_again, words_can_be_written, write_message};
+pub use crate::writing::{
+    is_writable, what_is_written_is_read_again, words_can_be_written, write_message,
+};

@@ -38,5 +38,7 @@ pub use crate::observed::{Observed, read_observed, write_observed};
 pub use crate::package::{Package, in_package};
 pub use crate::signal::{Kind, SIGNALS, Signal, kind_of, refused_in, signal_name, time_of};
 pub use crate::signal_spelling::are_signals;
-pub use crate::signals::{Setting, SignalRequest, SignalRequests, read_signals, signals_in, write_signals};
+pub use crate::signals::{
+    Setting, SignalRequest, SignalRequests, read_signals, signals_in, write_signals,
+};
 pub use crate::spelling::{are_parameters, has_at_most, is_name, is_word, with_parameters};

@@ -12,13 +12,13 @@ ghost use Rattle.packages.specs.Observed.{takes_memory};
 ghost use Rattle.packages.specs.Observed.{observed_entry_text, observed_text, are_writable_observed};
 
 use crate::cut::entries;
-use crate::form::{Inside, form_of};
-use crate::signals::signal_called;
-use mg_bytes::{CodeFault, OutOfMemory, ReturnCode, Sequence, Text};
 use crate::event::{LineEvent, completion_of, event_name};
+use crate::form::{Inside, form_of};
 use crate::naming::event_of;
 use crate::package::Package;
 use crate::signal::{Kind, Signal, kind_of, signal_name};
+use crate::signals::signal_called;
+use mg_bytes::{CodeFault, OutOfMemory, ReturnCode, Sequence, Text};
 use std::alloc::Global;
 
 /// An event that a line observed.

@@ -9,14 +9,14 @@ ghost use Rattle.packages.specs.Signals.{setting_text, signal_entry_text, signal
 
 use crate::cut::{entries, items};
 use crate::form::{Inside, form_of};
+use crate::naming::signal_in;
+use crate::package::in_package;
+use crate::signal::{Kind, Signal, kind_of, signal_name};
 use crate::signal_spelling::are_signals;
 use crate::spelling::has_at_most;
 use mg_bytes::{
     CodeFault, Few, OutOfMemory, ReturnCode, Text, decimal, put_decimal, same_no_case, split_once,
 };
-use crate::naming::signal_in;
-use crate::package::in_package;
-use crate::signal::{Kind, Signal, kind_of, signal_name};
 use std::alloc::Global;
 
 /// The most entries that S may have.

@@ -8,12 +8,12 @@ ghost use Rattle.packages.specs.Observed.{observed_of, takes_memory, observed_te
 ghost use Rattle.packages.specs.Cuts.{entries};
 ghost use Rattle.packages.specs.Example.{asks, starts, stops, lasts, with, handles, tells_of, tells_end};
 
+use crate::event::LineEvent;
 use crate::handling::{Notifying, Quarantined};
 use crate::observed::Observed;
+use crate::signal::{SIGNALS, Signal};
 use crate::signals::Setting;
 use mg_bytes::Letter;
-use crate::event::LineEvent;
-use crate::signal::{SIGNALS, Signal};
 
 /// Each sentence at an example.
 pub fn each_sentence_has_an_example()

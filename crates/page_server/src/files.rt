@@ -5,9 +5,7 @@ ghost use Rattle.page_server.specs.declared.script.TheConstants.{SCRIPT};
 ghost use Rattle.page_server.specs.declared.style.TheConstants.{STYLE};
 
 use crate::page::PAGE;
-
 use crate::script::SCRIPT;
-
 use crate::style::STYLE;
 
 /// The page itself.

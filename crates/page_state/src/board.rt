@@ -9,9 +9,9 @@ ghost use Rattle.page_state.specs.BoardShowing.{queued_behind};
 
 use crate::act::QueuedAct;
 use crate::label::MessageLabel;
-use crate::ring::{Kind, Ring};
 use crate::metrics::metrics_text;
 use crate::picture::{Picture, version_behind};
+use crate::ring::{Kind, Ring};
 use std::alloc::{AllocError, Global};
 use std::collections::VecDeque;
 use std::marker::Model;

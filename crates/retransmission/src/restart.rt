@@ -3,9 +3,9 @@ ghost use Rattle.std.specs.Prelude.{◌≡◌, ◌<◌, ◌^◌};
 ghost use Rattle.retransmission.specs.Restarting.{begun, announced_at, is_serving, heard_of, answer_of, answer_by};
 
 use crate::heard::Heard;
+use crate::reply::Reply;
 use endpoint_names::Entity;
 use mg_bytes::{OutOfMemory, ReturnCode};
-use crate::reply::Reply;
 
 /// Where the announcement of the gateway or of a line is (RFC 3435, 2.3.12): a RestartInProgress says that it is here
 /// again.

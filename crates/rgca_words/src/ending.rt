@@ -9,8 +9,8 @@ ghost use Rattle.rgca_words.specs.Names.{Says};
 
 use crate::help::of_program;
 use live_system::{About, CommonEnding, FileNames, end, put_pieces};
-use output_queues::Outlets;
 use mg_bytes::OutOfMemory;
+use output_queues::Outlets;
 use std::alloc::Global;
 use std::io::Write;
 use std::rt::Clock;

@@ -8,9 +8,12 @@ ghost use Rattle.rgca_words.specs.Statuses.{fails};
 ghost use Rattle.rgca_words.specs.Words.{spoiling_read};
 
 use crate::help::{CONTROL, USAGE};
-use impairment::Spoiling;
 use clap::{ArgMatches, Command};
-use live_system::{AddressWord, CommonEnding, FileNames, Kind, VERSION, address_behind, matches_in, moment_behind, network_in};
+use impairment::Spoiling;
+use live_system::{
+    AddressWord, CommonEnding, FileNames, Kind, VERSION, address_behind, matches_in, moment_behind,
+    network_in,
+};
 use output_queues::{Outlet, boxed};
 use std::alloc::Global;
 use std::io::Write;

@@ -14,12 +14,12 @@ use crate::handle::{Handle, put, take};
 use crate::numbers::{NO_CONNECTION, NO_SUCH_LINE, NO_SUCH_PLACE, NOT_OPEN, OK};
 use crate::structs::{ConnectionTold, SignalTold};
 use connections::{Codec, Codecs, Connection, Mode};
+use events_and_signals::ActiveSignal;
 use gateway_core::Gateway;
 use mg_line::Hook;
 use packages::Signal;
 use plain_machine::Setup;
 use sdp_subset::Session;
-use events_and_signals::ActiveSignal;
 use std::alloc::Global;
 
 /// How many lines a gateway has.

@@ -17,8 +17,8 @@ use crate::numbers::{
     BAD_FIRST, HAS_FLAW, IS_OPEN, NOT_OPEN, OK, OUT_OF_MEMORY, SMALL_BUFFER, TOO_LONG, VERSION,
     config_number,
 };
-use gateway_core::{ConfigFault, FIRSTS, Gateway, Outputs};
 use gateway_config::{BAD_TOML, Flaw, flaw_of, read_config, told};
+use gateway_core::{ConfigFault, FIRSTS, Gateway, Outputs};
 use rgw_scripts::{PlayFault, is_too_long};
 use small_rules::lacks_room;
 use std::alloc::Global;

@@ -4,9 +4,8 @@ ghost use Rattle.plain_machine.specs.Event.{datagram, event_of};
 ghost use Rattle.rgw_scripts.specs.Moves.{give, pass, ask, sends, refuses, moves_of_wait, moves_of, all_moves};
 
 use gateway_core::{Event, Gateway, Outputs, Refusal};
-use rgw_scripts::status_of;
 use mg_bytes::OutOfMemory;
-use rgw_scripts::{Link, ScriptStep, StepFault, put_datagrams, put_line, put_refusal};
+use rgw_scripts::{Link, ScriptStep, StepFault, put_datagrams, put_line, put_refusal, status_of};
 use std::alloc::Global;
 use std::net::SocketAddrV4;
 

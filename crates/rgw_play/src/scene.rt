@@ -5,8 +5,8 @@ ghost use Rattle.rgw_scripts.specs.declared.step.ScriptStep.{ScriptStep};
 ghost use Rattle.rgw_scripts.specs.Configuration.{config_in};
 ghost use Rattle.rgw_scripts.specs.Play.{scene_of, configured, judged, Explains};
 
-use gateway_core::{ConfigFault, Gateway};
 use gateway_config::{BAD_TOML, read_config};
+use gateway_core::{ConfigFault, Gateway};
 use rgw_scripts::{PlayFault, ScriptFault, ScriptStep, is_too_long, parts_of, read_script};
 use std::alloc::Global;
 

@@ -6,8 +6,8 @@ ghost use Rattle.plain_machine.specs.Lists.{plain};
 ghost use Rattle.gateway_core.specs.Stands.{Stands};
 ghost use Rattle.rgw_scripts.specs.Status.{status_of};
 
-use gateway_core::Gateway;
 use crate::status::LineStatus;
+use gateway_core::Gateway;
 
 /// What a line, from 1 to the number of lines, is.
 pub fn status_of(gateway: &Gateway, line: u16) -> LineStatus<'_>

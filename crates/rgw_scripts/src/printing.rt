@@ -10,12 +10,12 @@ use crate::link::Link;
 use crate::played::StepFault;
 use crate::status::LineStatus;
 use connections::{Connection, mode_text, write_number};
+use events_and_signals::ActiveSignal;
 use log_format::put_peer;
 use mg_bytes::{Draft, OutOfMemory, lines};
 use mg_line::Hook;
 use packages::signal_name;
 use plain_machine::{OutDatagram, Refusal};
-use events_and_signals::ActiveSignal;
 use std::alloc::Global;
 
 // The room, in bytes, that the text of datagrams begins with: most are shorter.

@@ -1,8 +1,8 @@
 //! What a line is when it is shown.
 use arrayvec::ArrayVec;
 use connections::Connection;
-use mg_line::Hook;
 use events_and_signals::ActiveSignal;
+use mg_line::Hook;
 use std::marker::Model;
 
 /// What a line is, as the gateway's readers tell it. A contract sees its lists.

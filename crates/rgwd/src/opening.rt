@@ -6,8 +6,8 @@ ghost use Rattle.rgwd_words.specs.Opening.{names_asked, RefusesSpeakers, TellsSo
 ghost use Rattle.rgwd_words.specs.Statuses.{fails};
 
 use crate::reception::PageReception;
-use live_system::{AddressWord, CommonEnding, Readiness};
 use live_gateway::{Admission, DeskSettings, boxed, speakers_of};
+use live_system::{AddressWord, CommonEnding, Readiness};
 use page_server::Reception;
 use plain_machine::Setup;
 use rgwd_words::{Ending, ListFault, Settings, captured_at, page_names, speakers_in};

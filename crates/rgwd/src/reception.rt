@@ -1,6 +1,6 @@
 //! The page's visitors, as the gateway's loop serves them.
-use live_system::Live;
 use live_gateway::Visitors;
+use live_system::Live;
 use page_server::Reception;
 use page_state::Board;
 use std::cell::Cell;

@@ -1,6 +1,6 @@
 //! What a gateway's records go to: its outlets, and the files of its capture, of which the next is made where one is full.
-use live_system::{CaptureFiles, DayWatch};
 use live_journal::{Capture, Journal, Recorder, Trace};
+use live_system::{CaptureFiles, DayWatch};
 use output_queues::{Finisher, Outlet, Outlets, Written};
 use std::cell::Cell;
 use std::io::Write;

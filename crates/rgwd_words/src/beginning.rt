@@ -3,17 +3,17 @@
 use crate::ending::Ending;
 use crate::starting::Begun;
 use crate::words::Settings;
-use log_format::put_peer;
-use live_system::{CaptureFiles, CommonEnding, Live, open_capture};
-use output_queues::{Outlet, Outlets, boxed};
-use mg_bytes::Draft;
-use plain_machine::Setup;
 use gateway_config::told_setup;
+use live_io::Surroundings;
+use live_system::{CaptureFiles, CommonEnding, Live, open_capture};
+use log_format::put_peer;
+use mg_bytes::Draft;
+use output_queues::{Outlet, Outlets, boxed};
+use plain_machine::Setup;
 use std::alloc::{AllocError, Global};
 use std::io::{ErrorKind, Write};
 use std::net::{Net, SocketAddrV4};
 use std::rt::{Clock, Files};
-use live_io::Surroundings;
 
 // Puts an address behind its word; nothing where there is none.
 fn put_behind(out: &mut Draft, word: &[u8], address: Option<SocketAddrV4>) {

@@ -8,16 +8,16 @@ ghost use Rattle.rgwd_words.specs.Names.{Says};
 
 use crate::help::of_program;
 use crate::parted::{MOST_FILES, MOST_MEGABYTES};
-use log_format::put_peer;
 use gateway_core::FIRSTS;
 use live_system::{About, AddressWord, CommonEnding, FileNames, end, put_around, put_pieces};
-use output_queues::Outlets;
+use log_format::put_peer;
 use mg_bytes::{Draft, OutOfMemory};
-use traces::LONGEST_SPREAD;
+use output_queues::Outlets;
 use std::alloc::Global;
 use std::io::{ErrorKind, Write};
 use std::net::SocketAddrV4;
 use std::rt::Clock;
+use traces::LONGEST_SPREAD;
 
 // Why there is no page at any address.
 const ANY_ADDRESS: &str =

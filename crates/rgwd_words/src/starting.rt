@@ -7,8 +7,8 @@ ghost use Rattle.rgwd_words.specs.Starting.{first_of, ms_of, rest_of, until_next
 use crate::words::Settings;
 use live_system::time_of_day;
 use mg_bytes::Draft;
-use traces::{FirstNumber, waited};
 use std::rt::Clock;
+use traces::{FirstNumber, waited};
 
 // So many microseconds are a ms.
 const MICROSECONDS: u64 = 1000;

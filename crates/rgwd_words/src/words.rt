@@ -14,16 +14,19 @@ ghost use Rattle.rgwd_words.specs.Statuses.{fails};
 use crate::ending::Ending;
 use crate::help::{LISTEN, PHONES, USAGE};
 use crate::parted::parting_of;
-use impairment::Spoiling;
 use clap::{ArgMatches, Command};
-use live_system::{AddressWord, CommonEnding, FileNames, Kind, Parting, VERSION, address_behind, address_in, matches_in, moment_behind, network_in};
+use impairment::Spoiling;
+use live_io::Speakers;
+use live_system::{
+    AddressWord, CommonEnding, FileNames, Kind, Parting, VERSION, address_behind, address_in,
+    matches_in, moment_behind, network_in,
+};
 use output_queues::{Outlet, boxed};
-use traces::{FirstNumber, spread_in};
 use page_http::HostNames;
 use std::alloc::{AllocError, Global};
 use std::io::Write;
 use std::net::SocketAddrV4;
-use live_io::Speakers;
+use traces::{FirstNumber, spread_in};
 
 /// The sockets that the program is asked to open, and whom it is to hear there.
 #[derive(Clone, Copy)]

@@ -10,10 +10,10 @@
 //!   so far.
 use crate::keeping::Held;
 use crate::texts::{are_same, is_word};
-use transmission::{History, IdSpan, Look};
 use mg_bytes::{OutOfMemory, Sequence, Text};
 use scenario_files::{Outcome, Row, Scenario, again, range_in};
 use std::alloc::Global;
+use transmission::{History, IdSpan, Look};
 
 // `7` or `1-4096`.
 fn ids_of(given: &mut Outcome, text: &str) -> IdSpan {

@@ -26,13 +26,12 @@ use crate::messages::MessageScenario;
 use crate::requests::RequestScenario;
 use crate::restarts::RestartScenario;
 use crate::values::Values;
-use transmission::History;
+use events_and_signals::{Buffer, SignalSet};
 use mg_line::Line;
-use events_and_signals::Buffer;
 use scenario_files::{Kinds, Report, told};
-use events_and_signals::SignalSet;
 use std::net::Net;
 use timers::Due;
+use transmission::History;
 
 /// The kinds of rows.
 pub struct Rows;

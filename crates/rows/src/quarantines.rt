@@ -8,10 +8,10 @@
 use crate::events::observed_of;
 use crate::keeping::{Held, Kept};
 use event_syntax::write_observed;
-use packages::Observed;
+use events_and_signals::Buffer;
 use mg_bytes::OutOfMemory;
 use mg_line::MOST_QUARANTINED;
-use events_and_signals::Buffer;
+use packages::Observed;
 use scenario_files::{Outcome, Row, Scenario};
 use std::alloc::Global;
 

@@ -9,8 +9,8 @@
 use crate::events::observed_of;
 use crate::line::parameters::events_of;
 use crate::texts::{are_same, is_word};
-use events_and_signals::{Decision, Doing, EventRequest, decide};
 use event_syntax::{Action, Embedding, Observed, write_signals};
+use events_and_signals::{Decision, Doing, EventRequest, decide};
 use mg_bytes::OutOfMemory;
 use packages::event_of;
 use scenario_files::{Outcome, Row, Scenario, parted};

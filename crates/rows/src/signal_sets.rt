@@ -7,10 +7,10 @@
 //! - `refused on  L/dl  402` the return code with which an S is refused on hook; `-` where it isn't.
 use crate::keeping::Held;
 use event_syntax::read_signals;
+use events_and_signals::{SignalSet, refused};
 use mg_bytes::OutOfMemory;
 use packages::{Hook, signal_name, signal_of};
 use scenario_files::{Outcome, Row, Scenario};
-use events_and_signals::{SignalSet, refused};
 use std::alloc::Global;
 
 // `on` or `off`, up to the next field.

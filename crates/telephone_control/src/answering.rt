@@ -14,13 +14,13 @@ use crate::picture::picture_of;
 use crate::telephones::TelephoneRequest;
 use gateway_core::{Gateway, Refusal};
 use line_changes::MOST_WATCHERS;
+use live_io::{Lines, Surroundings};
 use live_journal::Journal;
-use output_queues::{DONE, NO_MEMORY, STOP_FROM_AFAR};
 use live_play::put_shown;
 use message_counts::Faults;
 use mg_bytes::{Draft, OutOfMemory};
+use output_queues::{DONE, NO_MEMORY, STOP_FROM_AFAR};
 use std::alloc::Global;
-use live_io::{Lines, Surroundings};
 
 /// The answer to a line that says nothing that can be done.
 pub const UNKNOWN: &[u8] =

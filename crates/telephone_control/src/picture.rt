@@ -12,18 +12,18 @@ ghost use Rattle.telephone_control.specs.Viewing.{is_off, signal_viewed, signals
 
 use crate::seeing::seen_line;
 use connections::{Connection, mode_text};
-use log_format::put_peer;
+use events_and_signals::ActiveSignal;
 use gateway_core::Gateway;
+use line_changes::{SeenConnection, SeenLine, codec_text};
+use live_journal::Journal;
+use log_format::put_peer;
+use message_counts::{Faults, MessageTally, place_of};
+use mg_bytes::{Draft, OutOfMemory};
+use mgcp_text::Verb;
+use packages::{Hook, signal_name};
 use page_state::{
     CodeCount, ConnectionView, Counts, FileCount, LineView, Picture, SignalView, VerbCount,
 };
-use line_changes::{SeenConnection, SeenLine, codec_text};
-use live_journal::Journal;
-use message_counts::{Faults, MessageTally, place_of};
-use mg_bytes::{Draft, OutOfMemory};
-use packages::{Hook, signal_name};
-use mgcp_text::Verb;
-use events_and_signals::ActiveSignal;
 use std::alloc::{AllocError, Global};
 use std::net::SocketAddrV4;
 

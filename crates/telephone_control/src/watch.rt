@@ -16,11 +16,11 @@ use gateway_core::Gateway;
 use line_changes::{
     Change, ChangeText, SeenLine, Watcher, Watchers, put_changes, put_watching, told_at,
 };
-use output_queues::NO_MEMORY;
+use live_io::Surroundings;
 use mg_bytes::OutOfMemory;
+use output_queues::NO_MEMORY;
 use std::alloc::Global;
 use std::net::{SocketAddr, SocketAddrV4};
-use live_io::Surroundings;
 
 /// Who watches, and what was seen of the lines when that was told last. While nobody watches nothing is looked at, and else only the lines
 /// at which an event may have changed something.

@@ -5,12 +5,12 @@ ghost use Rattle.told_messages.specs.Coming.{waited_for, came_text, datagram_cam
 ghost use Rattle.told_messages.specs.Logging.{turned_text, Receives, Turns};
 
 use crate::log::{Arrival, LastCommands, Log, ms_between};
-use log_format::{Note, Stamp, Way, put_given_up, put_message, put_note};
 use gateway_core::{GivenUpCommand, TextOutcome};
-use output_queues::Now;
+use log_format::{Note, Stamp, Way, put_given_up, put_message, put_note};
 use message_counts::Taken;
 use mg_bytes::{OutOfMemory, Text};
 use mgcp_text::TransactionId;
+use output_queues::Now;
 use plain_machine::line_of_id;
 use std::alloc::Global;
 use std::net::SocketAddrV4;

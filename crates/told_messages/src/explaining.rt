@@ -7,12 +7,12 @@ ghost use Rattle.told_messages.specs.Recording.{Records};
 
 use crate::log::Log;
 use command_forms::{FaultyPart, Refused, explain};
-use log_format::{Note, Stamp, put_note, put_refused};
 use gateway_core::{Reply, TextOutcome};
-use transmission::MOST_FIRSTS;
+use log_format::{Note, Stamp, put_note, put_refused};
 use mg_bytes::OutOfMemory;
 use mgcp_text::TransactionId;
 use std::alloc::Global;
+use transmission::MOST_FIRSTS;
 
 // The least return code that refuses a command (RFC 3435, 2.4).
 const LEAST_REFUSAL: u16 = 400;

@@ -7,9 +7,9 @@ ghost use Rattle.told_messages.specs.Sending.{ms_between};
 
 use crate::strangers::Quiet;
 use log_format::{Note, Stamp, put_note};
-use output_queues::Record;
 use mg_bytes::{OutOfMemory, Text};
 use mgcp_text::TransactionId;
+use output_queues::Record;
 use std::alloc::Global;
 use std::collections::BTreeMap;
 use std::net::{Ipv4Addr, SocketAddrV4};

@@ -5,10 +5,10 @@ ghost use Rattle.told_messages.specs.Logging.{Sends};
 ghost use Rattle.told_messages.specs.Sending.{own_line, begun_by, sent_text, datagram_text, last_with, last_behind};
 
 use crate::log::{LastCommands, Log, OwnCommand, ms_between};
-use log_format::{Note, Stamp, Way, put_message, put_note};
 use gateway_core::{Label, SentMessage, What, Whose, split_text};
-use output_queues::Now;
+use log_format::{Note, Stamp, Way, put_message, put_note};
 use mg_bytes::{OutOfMemory, Text};
+use output_queues::Now;
 use std::alloc::Global;
 use std::net::SocketAddrV4;
 

@@ -11,9 +11,9 @@ ghost use Rattle.told_messages.specs.Recording.{Records};
 
 use crate::log::Log;
 use log_format::{Note, Stamp, Way, put_message, put_note, put_pause};
-use output_queues::Now;
 use mg_bytes::OutOfMemory;
 use mgcp_text::parts;
+use output_queues::Now;
 use std::alloc::Global;
 use std::net::SocketAddrV4;
 

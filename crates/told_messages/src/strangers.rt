@@ -6,15 +6,15 @@ ghost use Rattle.told_messages.specs.Recording.{Records};
 ghost use Rattle.told_messages.specs.Strangers.{lasts, told_at, quiet_after, unheard_text, text_of_stranger, stranger_text};
 
 use crate::log::Log;
-use log_format::{Note, Stamp, put_note};
 use gateway_core::SentMessage;
-use output_queues::Now;
+use live_io::Speakers;
+use log_format::{Note, Stamp, put_note};
 use message_counts::is_own;
 use mg_bytes::OutOfMemory;
+use output_queues::Now;
 use small_rules::count;
 use std::alloc::Global;
 use std::net::SocketAddrV4;
-use live_io::Speakers;
 
 // So long no other stranger is told of, in microseconds.
 const BETWEEN: u64 = 1_000_000;

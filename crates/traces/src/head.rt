@@ -2,9 +2,9 @@
 ghost use Rattle.std.specs.Prelude.{◌≡◌};
 ghost use Rattle.traces.specs.Head.{first_told_in};
 
+use crate::first_number::FirstNumber;
 use crate::telling::FIRST;
 use mg_bytes::lines;
-use crate::first_number::FirstNumber;
 
 /// Whether a line, with its end, is that behind the configuration.
 pub fn is_head_end(piece: &[u8]) -> bool {

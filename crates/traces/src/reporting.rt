@@ -1,11 +1,11 @@
 //! Replays a trace from a reader.
+use crate::first_number::FirstNumber;
 use crate::head::{first_in, is_head_end};
 use crate::replaying::{Progress, Replay};
 use crate::verdict::{ReplayFault, Verdict};
+use gateway_config::read_config;
 use gateway_core::{ConfigFault, Gateway};
 use mg_bytes::split_once;
-use crate::first_number::FirstNumber;
-use gateway_config::read_config;
 use rgw_scripts::LIMIT;
 use std::alloc::Global;
 use std::io::{BufRead, ErrorKind, Read, Take};

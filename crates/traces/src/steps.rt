@@ -9,9 +9,8 @@ ghost use Rattle.traces.specs.Replaying.{move_in, Showed, Plays};
 
 use crate::telling::{put_outputs, put_shown};
 use gateway_core::{Event, Gateway, OutDatagram, Outputs, Refusal};
-use rgw_scripts::status_of;
 use mg_bytes::{Draft, OutOfMemory};
-use rgw_scripts::{LineStatus, ScriptStep, put_line, put_refusal};
+use rgw_scripts::{LineStatus, ScriptStep, put_line, put_refusal, status_of};
 use std::alloc::{AllocError, Global};
 
 // What a trace has of datagrams that go out.

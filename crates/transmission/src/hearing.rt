@@ -8,9 +8,9 @@ ghost use Rattle.transmission.specs.Hearing.{outcome_in, refused, heard_at};
 
 use crate::LARGEST_DATAGRAM;
 use crate::acknowledging::acknowledge;
+use crate::history::History;
 use crate::output::OutDatagram;
 use crate::transacting::{Origin, admit, answer};
-use crate::history::History;
 use mg_bytes::{OutOfMemory, ReturnCode, Sequence};
 use mgcp_text::{AnswerContent, Message, Parts, TextFault, parts};
 use small_rules::is_too_long;

@@ -9,16 +9,16 @@ ghost use Rattle.transmission.specs.Looking.{looked_in, recalled, look_of};
 ghost use Rattle.transmission.specs.Spots.{recalled_in};
 ghost use Rattle.transmission.specs.Recalling.{TellsArrival, TellsAlike};
 
-use indexmap::IndexMap;
-use mg_bytes::{OutOfMemory, Sequence, Text};
-use std::alloc::Global;
-use std::marker::Model;
-use std::mem;
 use crate::entry::{Entry, KeptFirst, count_firsts, is_young_first};
 use crate::look::Look;
 use crate::recall::{Recollection, count_young_of, has_room, recall_kept};
 use crate::span::IdSpan;
 use crate::spots::{Spots, cut, settle};
+use indexmap::IndexMap;
+use mg_bytes::{OutOfMemory, Sequence, Text};
+use std::alloc::Global;
+use std::marker::Model;
+use std::mem;
 
 /// The transactions that an end remembers (RFC 3435, 3.5.1). A contract sees the firsts and confirmations that are kept,
 /// in the order in which they came, and those of them that `undo` leaves.

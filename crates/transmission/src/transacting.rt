@@ -7,10 +7,10 @@ ghost use Rattle.mgcp_text.specs.Writing.{written};
 ghost use Rattle.small_rules.specs.Rules.{is_executed};
 ghost use Rattle.transmission.specs.Transacting.{message_to, is_new, answered_again, with_first};
 
-use crate::output::OutDatagram;
-use crate::sending::send;
 use crate::history::History;
 use crate::look::Look;
+use crate::output::OutDatagram;
+use crate::sending::send;
 use crate::span::IdSpan;
 use mg_bytes::{OutOfMemory, Sequence, Text};
 use mgcp_text::{AnswerContent, TransactionId};

@@ -1,9 +1,9 @@
 //! What rows of several kinds have in common: refusals, commands that are issued, acts, addresses, and what an agent tells.
 use crate::gateways::agent_address;
 use agent_core::Agent;
-use packages::write_observed;
 use mg_bytes::{Draft, OutOfMemory, Text};
 use mg_line::Act;
+use packages::write_observed;
 use rgw_scripts::{ScriptLine, ScriptStep, line_in};
 use scenario_files::{Outcome, Row, bytes_of, parted};
 use std::alloc::Global;

@@ -4,9 +4,9 @@
 //! next, be that the same event or another.
 use crate::boxing::in_box;
 use connections::Connection;
+use gateway_config::read_config;
 use gateway_core::{ConfigFault, Event, Gateway, OutDatagram, Outputs, Refusal};
 use mg_bytes::OutOfMemory;
-use gateway_config::read_config;
 use rgw_scripts::{ScriptFault, ScriptStep, is_too_long, parts_of, read_script};
 use scenario_files::{again, item_at};
 use std::alloc::{AllocError, Global};

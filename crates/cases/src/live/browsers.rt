@@ -6,8 +6,8 @@ ghost use Rattle.cases.specs.Browsing.{next_of};
 
 use crate::stories::{Clocks, Machine, Transcript, Visit};
 use live_gateway::Visitors;
-use page_server::answer_to;
 use page_http::HostNames;
+use page_server::answer_to;
 use page_state::Board;
 use scenario_files::parted;
 use std::alloc::Global;

@@ -3,6 +3,7 @@
 //! Who asks has a socket of the machine's, and so have the telephones here; the clock is the story's. Each time that it is looked at what
 //! comes next comes, at its moment.
 use crate::stories::{Clocks, Plan, Story, Transcript, put_sent};
+use live_io::{Coming, Happening};
 use live_system::{AskFault, ask, put_printed};
 use mg_bytes::OutOfMemory;
 use rgwd_words::answered_by;
@@ -14,7 +15,6 @@ use std::rc::Rc;
 use std::rt::Clock;
 use std::time::Duration;
 use std::{io, mem};
-use live_io::{Coming, Happening};
 
 // No datagram has more bytes (RFC 768).
 const ROOM: usize = 65_535;

@@ -8,13 +8,13 @@ ghost use Rattle.live_io.specs.Keeping.{told_by};
 use crate::stories::clocks::Clocks;
 use crate::stories::given::{put_answer, put_sent};
 use crate::stories::transcript::Transcript;
+use live_io::{Coming, Fault, Happening, Scripted, Surroundings, Told};
 use live_system::LiveClock;
 use mg_bytes::OutOfMemory;
 use std::alloc::{AllocError, Global};
 use std::collections::VecDeque;
 use std::net::{SocketAddr, SocketAddrV4};
 use std::rc::Rc;
-use live_io::{Coming, Fault, Happening, Scripted, Surroundings, Told};
 
 /// What changes on a machine.
 #[derive(Clone, Copy)]

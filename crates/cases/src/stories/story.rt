@@ -4,17 +4,17 @@ use crate::stories::given::typist;
 use crate::stories::late_log::{Late, Reading};
 use crate::stories::machine::{Change, Changing, Machine, Plan};
 use crate::stories::transcript::Transcript;
-use log_format::put_peer;
 use live_gateway::boxed;
-use output_queues::{TEXT_ROOM, Written};
+use live_io::{Coming, Happening};
+use log_format::put_peer;
 use mg_bytes::{Draft, OutOfMemory};
+use output_queues::{TEXT_ROOM, Written};
 use scenario_files::{bytes_of, in_full, number_in, parted, put_line};
 use std::alloc::Global;
 use std::collections::VecDeque;
 use std::mem;
 use std::net::{SocketAddr, SocketAddrV4};
 use std::rc::Rc;
-use live_io::{Coming, Happening};
 
 /// Where a program is, where a story says nothing else.
 #[derive(Clone, Copy)]

@@ -1,6 +1,6 @@
 //! The words that a program is called with in a story, as its own reader is given them.
-use output_queues::{Outlet, Stream};
 use mg_bytes::OutOfMemory;
+use output_queues::{Outlet, Stream};
 use scenario_files::parted;
 use std::alloc::Global;
 use std::io::{self, Write};

@@ -16,10 +16,10 @@ ghost use Rattle.endpoints.specs.Undoing.{IsUndoneByItsOwner};
 use crate::rules::context::Context;
 use crate::rules::posting::{Occasion, begin};
 use endpoint_names::{Pattern, write_name};
-use packages::write_observed;
 use mg_bytes::OutOfMemory;
 use mg_line::Notice;
 use mgcp_text::{Bytes, Message, Param, Params, TransactionId, Verb};
+use packages::write_observed;
 use plain_machine::{Endpoint, OutMessage, Post};
 
 // A parameter whose value is one word.

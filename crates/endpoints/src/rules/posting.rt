@@ -13,9 +13,8 @@ use crate::rules::sending::{again_label, begun_label, send};
 use endpoint_names::Entity;
 use mg_bytes::{OutOfMemory, Text};
 use mgcp_text::{Message, write_message};
-use retransmission::{Pending, Repeat};
 use plain_machine::{OutMessage, Post, PostOwner, Setup, owner_of};
-use retransmission::Restart;
+use retransmission::{Pending, Repeat, Restart};
 
 /// Which line it is, and what time (in ms). The gateway itself is line 0.
 #[derive(Clone, Copy)]

@@ -6,8 +6,8 @@ ghost use Rattle.plain_machine.specs.Labelling.{verb_of, id_of, own_verb};
 
 use mg_bytes::{OutOfMemory, Text};
 use mgcp_text::{Message, Verb};
-use retransmission::Pending;
 use plain_machine::{Label, OutDatagram, OutMessage, What, Whose, own_verb};
+use retransmission::Pending;
 use std::net::SocketAddrV4;
 
 /// A text goes to this address at this moment (in ms) with its label, behind the messages that there are. After an error these

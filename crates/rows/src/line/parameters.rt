@@ -1,7 +1,7 @@
 //! What a line is asked for, as rows say it: `X: A1  R: L/hd(A)  D: (xx)`.
 use digit_map::{MapChange, MapFault, read_change};
-use events_and_signals::{EventRequest, Request};
 use event_syntax::{read_detect, read_events, read_handling, read_signals};
+use events_and_signals::{EventRequest, Request};
 use mg_bytes::{CodeFault, Identifier};
 use std::alloc::Global;
 

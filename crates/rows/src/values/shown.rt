@@ -6,12 +6,12 @@
 //! agent that owes an answer since then.
 use crate::texts::{is_word, words_of};
 use crate::values::capturing::number_of;
+use mg_bytes::{decimal, split_once};
+use page_http::state_text;
 use page_state::{
     CodeCount, ConnectionView, Counts, FileCount, LineView, Picture, SignalView, VerbCount,
     metrics_text,
 };
-use mg_bytes::{decimal, split_once};
-use page_http::state_text;
 use scenario_files::Outcome;
 use std::alloc::Global;
 
