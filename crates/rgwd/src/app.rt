@@ -7,9 +7,10 @@ use crate::opening::{admission_of, desk_settings, open_site};
 use crate::reception::PageReception;
 use crate::recording::Recording;
 use gateway_core::Gateway;
-use live_system::{CommonEnding, DayWatch, Live, begin};
 use live_gateway::{Desk, agents_line, end_desk, open_desk};
+use live_io::Surroundings;
 use live_journal::Trace;
+use live_system::{CommonEnding, DayWatch, Live, begin};
 use page_server::{PageProgram, Reception, run_with_site};
 use rgwd_words::{
     Begun, Configured, Ending, Said, Settings, asked_by, begin_serving, configure, open_sockets,
@@ -22,7 +23,6 @@ use std::os::fd::AsRawFd;
 use std::random::RandomSource;
 use std::rc::Rc;
 use std::rt::{Clock, Env, Files};
-use live_io::Surroundings;
 
 // Where the page is, if there is one that tells it.
 fn page_address<P: Reception>(visitors: &Option<Box<PageReception<P>>>) -> Option<SocketAddrV4>
